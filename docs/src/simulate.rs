@@ -1,0 +1,114 @@
+//! The simulator's command line program.
+//!
+//! - `simulate`: a run file on standard input; writes what 01's rehearsal program writes.
+//! - `simulate table`: lines `N,LIST`; writes the refusal number and the 384 targets of each.
+//! - `simulate lines`: log lines; writes the log reader's answer to each.
+//! - `simulate time FILE..`: does the events of each file without a log and prints the time.
+
+use simulator::fields;
+use simulator::limits::*;
+use simulator::log::Line;
+use simulator::plan::{self, Refusal};
+use simulator::platform::{Platform, Step};
+use simulator::ring;
+use std::io::{self, BufWriter, Read, Write};
+use std::process::ExitCode;
+use std::time::Instant;
+
+fn main() -> ExitCode {
+    let arguments: Vec<_> = std::env::args_os().skip(1).collect();
+    let mut out = BufWriter::with_capacity(1 << 16, io::stdout().lock());
+    let answer = match (arguments.first().and_then(|word| word.to_str()), arguments.len()) {
+        (None, 0) => rehearse(&mut out),
+        (Some("table"), 1) => answer_lines(&mut out, answer_table),
+        (Some("lines"), 1) => answer_lines(&mut out, answer_log_line),
+        (Some("time"), _) => arguments[1..].iter().try_for_each(|path| time(&mut out, path)),
+        _ => Err(io::Error::other("usage: simulate [table | lines | time FILE..]")),
+    };
+    match answer.and_then(|()| out.flush()) {
+        Ok(()) => ExitCode::SUCCESS,
+        Err(error) => {
+            eprintln!("simulate: {error}");
+            ExitCode::from(2)
+        }
+    }
+}
+
+/// At most one byte more than the longest accepted run file.
+fn read_run_file(from: impl Read) -> io::Result<Vec<u8>> {
+    let mut file = Vec::new();
+    from.take(FILE_BYTES as u64 + 1).read_to_end(&mut file)?;
+    Ok(file)
+}
+
+/// "For a refused file the rehearsal program writes only the number and the line, parted by a comma;
+/// a refused event ends its log with the line `8,0`."
+fn rehearse(out: &mut impl Write) -> io::Result<()> {
+    let plan = match plan::read(&read_run_file(io::stdin().lock())?) {
+        Ok(plan) => plan,
+        Err(Refusal { number, line }) => return writeln!(out, "{number},{line}"),
+    };
+    let mut platform = Platform::open(plan);
+    loop {
+        match platform.step() {
+            Step::Event(line) => line.put(out)?,
+            Step::Done(line) => return line.put(out),
+            Step::Refused => return writeln!(out, "{REFUSED_EVENT},0"),
+        }
+    }
+}
+
+/// Answers each line of standard input, its line feed included, by a line.
+fn answer_lines<W: Write>(out: &mut W, answer: fn(&mut W, &[u8]) -> io::Result<()>) -> io::Result<()> {
+    let mut input = Vec::new();
+    io::stdin().lock().read_to_end(&mut input)?;
+    input.split_inclusive(|byte| *byte == b'\n').try_for_each(|line| answer(out, line))
+}
+
+/// The number 0, 2 (the line is not `N,LIST`) or 3, then the table's rows one after another.
+fn answer_table(out: &mut impl Write, line: &[u8]) -> io::Result<()> {
+    let table = table_question(line)
+        .ok_or(REFUSED_FORM)
+        .and_then(|(nodes, list)| ring::forwarding_table(nodes, list));
+    let (number, table) = match table {
+        Ok(table) => (0, table),
+        Err(number) => (number, ring::EMPTY_TABLE),
+    };
+    write!(out, "{number}")?;
+    for target in table.iter().flatten() {
+        write!(out, ",{target}")?;
+    }
+    writeln!(out)
+}
+
+fn table_question(line: &[u8]) -> Option<(u64, u64)> {
+    let mut parts = fields::body(line)?.split(|byte| *byte == b',');
+    let question = (fields::number(parts.next()?)?, fields::list(parts.next()?)?);
+    parts.next().is_none().then_some(question)
+}
+
+/// `0,` and the five fields as a log line, or the refusal number.
+fn answer_log_line(out: &mut impl Write, line: &[u8]) -> io::Result<()> {
+    match Line::read(line) {
+        Ok(line) => {
+            write!(out, "0,")?;
+            line.put(out)
+        }
+        Err(number) => writeln!(out, "{number}"),
+    }
+}
+
+/// Prints the file's name, its events, the seconds that they took and the events a second.
+fn time(out: &mut impl Write, path: &std::ffi::OsString) -> io::Result<()> {
+    let name = path.to_string_lossy();
+    let plan = match plan::read(&read_run_file(std::fs::File::open(path)?)?) {
+        Ok(plan) => plan,
+        Err(Refusal { number, line }) => return writeln!(out, "{name}: refused {number},{line}"),
+    };
+    let mut platform = Platform::open(plan);
+    let start = Instant::now();
+    let run = platform.run(u64::MAX);
+    let seconds = start.elapsed().as_secs_f64();
+    let rate = run.events as f64 / seconds.max(1e-9);
+    writeln!(out, "{name}: {:?}, {} events, {seconds:.3} s, {rate:.0} events/s", run.ending, run.events)
+}

@@ -1,0 +1,24 @@
+//! A simulator of document 01: the ring failure detector and its rehearsal platform.
+//!
+//! It is a second opinion on the proved platform, written from the paper alone.
+//!
+//! - `limits`: the paper's figures and refusal numbers.
+//! - `fields`: numbers and lists as digits, common to run files and logs.
+//! - `plan`: the run file, read and written.
+//! - `ring`: the dead list, going back, forward targets, the forwarding table.
+//! - `node`: the rules of one node.
+//! - `queue`: what is pending, in the order of the events.
+//! - `platform`: events, step and run.
+//! - `settle`: demand 3's words about safety and settling.
+//! - `log`: log lines, written, read and cut into columns.
+
+pub mod fields;
+pub mod limits;
+pub mod log;
+pub mod node;
+pub mod plan;
+pub mod platform;
+pub mod queue;
+pub mod ring;
+pub mod settle;
+
