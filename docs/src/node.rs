@@ -181,3 +181,141 @@ impl Node {
         sends
     }
 }
+
+#[cfg(test)]
+mod tests {
+    use super::*;
+
+    const EIGHT: Settings = Settings { nodes: 8, period: 2, timeout: 10 };
+
+    fn reports(subject: u8, targets: &[u8]) -> Vec<Send> {
+        targets.iter().map(|receiver| Send { receiver: *receiver, content: Content::Report { subject } }).collect()
+    }
+
+    #[test]
+    fn opening() {
+        let node = Node::open(&EIGHT, 0);
+        assert_eq!((node.emitter, node.observer, node.watch, node.heartbeat), (7, 1, Some(10), Some(2)));
+        assert_eq!((node.alive, node.dead_list), (true, 0));
+        let last = Node::open(&EIGHT, 7);
+        assert_eq!((last.emitter, last.observer), (6, 0));
+        let alone = Node::open(&Settings { nodes: 1, ..EIGHT }, 0);
+        assert_eq!((alone.emitter, alone.observer, alone.watch, alone.heartbeat), (0, 0, None, None));
+    }
+
+    #[test]
+    fn only_the_emitter_renews_the_watch() {
+        let before = Node::open(&EIGHT, 1);
+        let mut node = before;
+        for sender in [2, 3, 7] {
+            assert!(node.deliver(&EIGHT, 5, sender, Content::Heartbeat).as_slice().is_empty());
+            assert_eq!(node, before);
+        }
+        assert!(node.deliver(&EIGHT, 5, 0, Content::Heartbeat).as_slice().is_empty());
+        assert_eq!(node, Node { watch: Some(15), ..before });
+    }
+
+    #[test]
+    fn a_heartbeat_after_a_move_brings_the_watch_forward() {
+        let mut node = Node::open(&EIGHT, 1);
+        node.expire_watch(&EIGHT, 10);
+        assert_eq!(node.watch, Some(30));
+        node.deliver(&EIGHT, 12, 7, Content::Heartbeat);
+        assert_eq!(node.watch, Some(22));
+    }
+
+    #[test]
+    fn a_new_observer_gets_a_heartbeat_at_this_tick() {
+        let before = Node::open(&EIGHT, 1);
+        let mut node = before;
+        assert!(node.deliver(&EIGHT, 1, 5, Content::NewObserver).as_slice().is_empty());
+        assert_eq!(node, Node { observer: 5, heartbeat: Some(1), ..before });
+    }
+
+    #[test]
+    fn a_node_alone_takes_a_new_observer() {
+        let mut node = Node::open(&Settings { nodes: 2, ..EIGHT }, 0);
+        node.expire_watch(&EIGHT, 10);
+        node.become_alone();
+        node.deliver(&EIGHT, 11, 1, Content::NewObserver);
+        assert_eq!((node.emitter, node.observer, node.watch, node.heartbeat), (0, 1, None, Some(11)));
+    }
+
+    #[test]
+    fn a_first_report_is_listed_and_passed_on() {
+        let before = Node::open(&EIGHT, 1);
+        let mut node = Node { dead_list: 1 << 2, ..before };
+        let sends = node.deliver(&EIGHT, 4, 6, Content::Report { subject: 3 });
+        assert_eq!(node, Node { dead_list: 1 << 2 | 1 << 3, ..before });
+        assert_eq!(sends.as_slice(), reports(3, &[4, 5, 7]));
+    }
+
+    #[test]
+    fn a_known_report_or_one_of_itself_is_nothing() {
+        let before = Node { dead_list: 1 << 3, ..Node::open(&EIGHT, 1) };
+        for subject in [1, 3] {
+            let mut node = before;
+            assert!(node.deliver(&EIGHT, 4, 6, Content::Report { subject }).as_slice().is_empty());
+            assert_eq!(node, before);
+        }
+    }
+
+    #[test]
+    fn a_report_of_the_emitter_leaves_emitter_and_watch() {
+        let before = Node::open(&EIGHT, 1);
+        let mut node = before;
+        node.deliver(&EIGHT, 4, 6, Content::Report { subject: 0 });
+        assert_eq!(node, Node { dead_list: 1, ..before });
+    }
+
+    #[test]
+    fn a_heartbeat_goes_to_the_observer() {
+        let before = Node::open(&EIGHT, 1);
+        let mut node = before;
+        let sends = node.send_heartbeat(&EIGHT, 7);
+        assert_eq!(sends.as_slice(), [Send { receiver: 2, content: Content::Heartbeat }]);
+        assert_eq!(node, Node { heartbeat: Some(9), ..before });
+    }
+
+    #[test]
+    fn an_expired_watch_moves_to_the_next_emitter_for_twice_the_timeout() {
+        let before = Node { dead_list: 1 << 7, ..Node::open(&EIGHT, 1) };
+        let mut node = before;
+        let sends = node.expire_watch(&EIGHT, 10);
+        assert_eq!(node, Node { emitter: 6, watch: Some(30), dead_list: 1 << 7 | 1, ..before });
+        let mut expected = vec![Send { receiver: 6, content: Content::NewObserver }];
+        expected.extend(reports(0, &[2, 3, 5]));
+        assert_eq!(sends.as_slice(), expected);
+    }
+
+    #[test]
+    fn an_emitter_listed_before_is_reported_again() {
+        let mut node = Node { dead_list: 1, ..Node::open(&EIGHT, 1) };
+        let sends = node.expire_watch(&EIGHT, 10);
+        assert_eq!((node.emitter, node.dead_list), (7, 1));
+        assert_eq!(sends.as_slice()[1..], reports(0, &[2, 3, 5]));
+    }
+
+    #[test]
+    fn the_last_unlisted_node_is_alone() {
+        let mut node = Node { dead_list: 0b1111_1100, ..Node::open(&EIGHT, 1) };
+        let sends = node.expire_watch(&EIGHT, 10);
+        assert!(sends.as_slice().is_empty());
+        assert_eq!((node.emitter, node.observer, node.watch, node.heartbeat), (1, 1, None, None));
+        assert_eq!(node.dead_list, 0b1111_1101);
+    }
+
+    #[test]
+    fn a_full_ring_sends_seven_messages() {
+        let mut node = Node::open(&Settings { nodes: 64, ..EIGHT }, 0);
+        let sends = node.expire_watch(&Settings { nodes: 64, ..EIGHT }, 10);
+        assert_eq!(sends.as_slice().len(), 1 + 5 + 1);
+    }
+
+    #[test]
+    fn the_timers_of_a_crashed_node_are_off() {
+        let node = Node { alive: false, ..Node::open(&EIGHT, 1) };
+        assert_eq!((node.due(Timer::Watch), node.due(Timer::Heartbeat)), (None, None));
+        assert_eq!((node.watch, node.heartbeat), (Some(10), Some(2)));
+    }
+}

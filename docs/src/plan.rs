@@ -166,3 +166,209 @@ impl Plan {
         Ok(file.len())
     }
 }
+
+#[cfg(test)]
+mod tests {
+    use super::*;
+
+    const WORKED: &str = "P,2,2,3,1,6\nC,3,1\n";
+
+    /// The number and line by which the file is refused; `(0, 0)` where it is accepted.
+    fn answer(file: &[u8]) -> (u8, usize) {
+        read(file).map_or_else(|refusal| (refusal.number, refusal.line), |_| (0, 0))
+    }
+
+    fn answers(cases: &[(&str, (u8, usize))]) {
+        for (file, expected) in cases {
+            assert_eq!(answer(file.as_bytes()), *expected, "{file:?}");
+        }
+    }
+
+    /// A P line with the letter-D bound 5, then `count` L lines from number 0, then `last`.
+    fn with_delays(count: usize, last: &str) -> Vec<u8> {
+        let mut file = String::from("P,2,2,7,5,6\n");
+        (0..count).for_each(|number| file += &format!("L,{number},5\n"));
+        (file + last).into_bytes()
+    }
+
+    #[test]
+    fn the_fields_are_read_in_order() {
+        let plan = read(b"P,3,2,9,5,60\nC,3,1\nC,3,2\nL,0,1\nL,999999,5\n").unwrap();
+        assert_eq!((plan.nodes, plan.period, plan.timeout, plan.delay, plan.end), (3, 2, 9, 5, 60));
+        assert_eq!(plan.crashes, [Crash { tick: 3, node: 1 }, Crash { tick: 3, node: 2 }]);
+        assert_eq!(plan.delays, [Delay { number: 0, delay: 1 }, Delay { number: 999_999, delay: 5 }]);
+    }
+
+    #[test]
+    fn length_is_tried_first() {
+        assert_eq!(answer(b""), (1, 0));
+        assert_eq!(answer(&[b'x'; FILE_BYTES]), (2, 1));
+        assert_eq!(answer(&[b'x'; FILE_BYTES + 1]), (1, 0));
+        let mut file = WORKED.as_bytes().to_vec();
+        file.resize(FILE_BYTES, b'\n');
+        assert_eq!(answer(&file), (2, 3));
+        file.push(b'\n');
+        assert_eq!(answer(&file), (1, 0));
+    }
+
+    #[test]
+    fn form_of_the_p_line() {
+        let bad = [
+            "\n", "P\n", "P,\n", "P,2,2,3,1\n", "P,2,2,3,1,6,\n", "P,2,2,3,1,6,7\n", "P,2,2,3,1,\n", "P,02,2,3,1,6\n",
+            "P,02,\n", "P,2,2,3,1,06\n", "P,2,2,3,1,00\n", "p,2,2,3,1,6\n", "PP,2,2,3,1,6\n", ",2,2,3,1,6\n",
+            "P,2,2,3,1,6\r\n", "P,2,2,3,1,6", " P,2,2,3,1,6\n", "P, 2,2,3,1,6\n", "P,+2,2,3,1,6\n", "P,-2,2,3,1,6\n",
+            "P,2,2,3,1,6 \n", "P;2;2;3;1;6\n", "\nP,2,2,3,1,6\n", "C,3,1\n", "L,0,1\n", "P,2,2,3,1,6\0\n",
+        ];
+        for file in bad {
+            assert_eq!(answer(file.as_bytes()), (2, 1), "{file:?}");
+        }
+        assert_eq!(answer(b"P,2,2,3,1,\xff\n"), (2, 1));
+    }
+
+    #[test]
+    fn form_is_judged_before_any_range_of_the_line() {
+        answers(&[
+            ("P,0,2,3,1,06\n", (2, 1)),
+            ("P,0,2,3,1,6", (2, 1)),
+            ("P,65,1001,65536,256,\n", (2, 1)),
+            ("P,2,2,3,1,6\nC,7,9,\n", (2, 2)),
+            ("P,2,2,3,1,6\nC,7,9", (2, 2)),
+            ("P,2,2,3,1,6\nL,1000000,07\n", (2, 2)),
+        ]);
+    }
+
+    #[test]
+    fn ranges_of_the_p_line() {
+        answers(&[
+            ("P,0,2,3,1,6\n", (3, 1)), ("P,1,2,3,1,6\n", (0, 0)), ("P,64,2,3,1,6\n", (0, 0)), ("P,65,2,3,1,6\n", (3, 1)),
+            ("P,2,0,3,1,6\n", (3, 1)), ("P,2,1000,1001,1,6\n", (0, 0)), ("P,2,1001,1002,1,6\n", (3, 1)),
+            ("P,2,2,0,1,6\n", (3, 1)), ("P,2,2,65535,1,6\n", (0, 0)), ("P,2,2,65536,1,6\n", (3, 1)),
+            ("P,2,2,3,0,6\n", (3, 1)), ("P,2,2,257,255,6\n", (0, 0)), ("P,2,2,300,256,6\n", (3, 1)),
+            ("P,2,2,3,1,0\n", (0, 0)), ("P,2,2,3,1,1000000\n", (0, 0)), ("P,2,2,3,1,1000001\n", (3, 1)),
+        ]);
+    }
+
+    #[test]
+    fn long_digit_strings_are_out_of_range() {
+        for long in ["99999999999999999999", "4294967298", "18446744073709551618", "340282366920938463463374607431768211458"] {
+            for field in 1..=5 {
+                let mut fields = ["P", "2", "2", "3", "1", "6"];
+                fields[field] = long;
+                assert_eq!(answer((fields.join(",") + "\n").as_bytes()), (3, 1), "{long} in field {field}");
+            }
+            for row in [format!("C,{long},0"), format!("C,0,{long}"), format!("L,{long},1"), format!("L,0,{long}")] {
+                assert_eq!(answer(format!("P,2,2,3,1,6\n{row}\n").as_bytes()), (3, 2), "{row}");
+            }
+        }
+        let digits = "7".repeat(FILE_BYTES - 8);
+        assert_eq!(answer(format!("P,{digits},1,1\n").as_bytes()), (2, 1));
+        assert_eq!(answer(format!("P,2,2,3,1,{}\n", "7".repeat(FILE_BYTES - 11)).as_bytes()), (3, 1));
+    }
+
+    #[test]
+    fn the_timeout_is_at_least_period_plus_delay() {
+        answers(&[("P,2,2,3,1,6\n", (0, 0)), ("P,2,2,2,1,6\n", (4, 1)), ("P,2,2,2,1,1000001\n", (3, 1))]);
+        answers(&[("P,2,1000,1254,255,6\n", (4, 1)), ("P,2,1000,1255,255,6\n", (0, 0))]);
+        answers(&[("P,2,2,2,1,6\nZ\n", (4, 1))]);
+    }
+
+    #[test]
+    fn order_of_letters() {
+        answers(&[
+            ("P,2,2,3,1,6\nP,2,2,3,1,6\n", (2, 2)),
+            ("P,2,2,3,1,6\nC,3,1\nP,2,2,3,1,6\n", (2, 3)),
+            ("P,2,2,3,1,6\nL,0,1\nC,3,1\n", (2, 3)),
+            ("P,2,2,3,1,6\nL,0,1\nC,9,9\n", (2, 3)),
+            ("P,2,2,3,1,6\nC,3,1\nL,0,1\n", (0, 0)),
+            ("P,2,2,3,1,6\nX,3,1\n", (2, 2)),
+            ("C,3,1\nP,2,2,3,1,6\n", (2, 1)),
+            ("P,2,2,3,1,6\n\n", (2, 2)),
+            ("P,2,2,3,1,6\n\nC,3,1\n", (2, 2)),
+        ]);
+    }
+
+    #[test]
+    fn form_of_crash_and_delay_lines() {
+        for row in ["C", "C,3", "C,3,1,", "C,3,1,1", "C,,1", "C,3,", "C,03,1", "C,3,01", "c,3,1", "C,3,1\r", "C,3,x"] {
+            assert_eq!(answer(format!("P,2,2,3,1,6\n{row}\n").as_bytes()), (2, 2), "{row:?}");
+        }
+        for row in ["L", "L,3", "L,3,1,", "L,3,1,1", "L,,1", "L,3,", "L,03,1", "L,3,01", "l,3,1", "L,3,1\r", "L,3,x"] {
+            assert_eq!(answer(format!("P,2,2,3,1,6\n{row}\n").as_bytes()), (2, 2), "{row:?}");
+        }
+        answers(&[("P,2,2,3,1,6\nC,3,1", (2, 2)), ("P,2,2,3,1,6\nL,3,1", (2, 2)), ("P,2,2,3,1,6\n ", (2, 2))]);
+    }
+
+    #[test]
+    fn ranges_of_crash_lines_come_before_their_order() {
+        answers(&[
+            ("P,2,2,3,1,6\nC,6,1\n", (0, 0)),
+            ("P,2,2,3,1,6\nC,0,0\n", (0, 0)),
+            ("P,2,2,3,1,6\nC,7,1\n", (3, 2)),
+            ("P,2,2,3,1,6\nC,6,2\n", (3, 2)),
+            ("P,2,2,3,1,6\nC,3,1\nC,2,9\n", (3, 3)),
+            ("P,2,2,3,1,6\nC,3,1\nC,7,1\n", (3, 3)),
+        ]);
+    }
+
+    #[test]
+    fn crashes_rise_and_no_node_crashes_twice() {
+        answers(&[
+            ("P,2,2,3,1,6\nC,3,1\nC,3,1\n", (5, 3)),
+            ("P,2,2,3,1,6\nC,3,1\nC,3,0\n", (5, 3)),
+            ("P,2,2,3,1,6\nC,3,1\nC,2,0\n", (5, 3)),
+            ("P,2,2,3,1,6\nC,3,1\nC,4,1\n", (5, 3)),
+            ("P,2,2,3,1,6\nC,3,1\nC,4,0\n", (0, 0)),
+            ("P,2,2,3,1,6\nC,3,0\nC,3,1\n", (0, 0)),
+        ]);
+    }
+
+    #[test]
+    fn ranges_and_order_of_delay_lines() {
+        answers(&[
+            ("P,2,2,7,5,6\nL,0,5\n", (0, 0)),
+            ("P,2,2,7,5,6\nL,0,0\n", (3, 2)),
+            ("P,2,2,7,5,6\nL,0,6\n", (3, 2)),
+            ("P,2,2,7,5,6\nL,999999,1\n", (0, 0)),
+            ("P,2,2,7,5,6\nL,1000000,1\n", (3, 2)),
+            ("P,2,2,7,5,6\nL,3,1\nL,3,1\n", (5, 3)),
+            ("P,2,2,7,5,6\nL,3,1\nL,2,1\n", (5, 3)),
+            ("P,2,2,7,5,6\nL,3,1\nL,2,6\n", (3, 3)),
+            ("P,2,2,7,5,6\nL,3,1\nL,4,1\n", (0, 0)),
+        ]);
+    }
+
+    #[test]
+    fn the_delay_line_beyond_the_last() {
+        assert_eq!(answer(&with_delays(2_048, "")), (0, 0));
+        assert_eq!(answer(&with_delays(2_048, "L,2048,5\n")), (6, 2_050));
+        assert_eq!(answer(&with_delays(2_048, "L,2048,5")), (2, 2_050));
+        assert_eq!(answer(&with_delays(2_048, "L,2048,6\n")), (3, 2_050));
+        assert_eq!(answer(&with_delays(2_048, "L,2047,5\n")), (5, 2_050));
+        assert_eq!(answer(&with_delays(2_048, "C,1,1\n")), (2, 2_050));
+        assert_eq!(answer(&with_delays(2_048, "L,2048,5\nZ\n")), (6, 2_050));
+    }
+
+    #[test]
+    fn the_first_bad_line_decides() {
+        answers(&[("P,2,2,3,1,6\nC,3,9\nZ\n", (3, 2)), ("P,2,2,3,1,6\nC,3,1\nC,3,0\nC,9,9\n", (5, 3))]);
+    }
+
+    #[test]
+    fn a_plan_written_again_has_the_same_bytes() {
+        for file in [WORKED.as_bytes(), b"P,64,1000,65535,255,1000000\nC,0,63\nC,1000000,0\nL,0,1\nL,999999,255\n"] {
+            let plan = read(file).unwrap();
+            assert_eq!(plan.bytes(), file);
+            let mut part = vec![7; FILE_BYTES + 1];
+            assert_eq!(plan.write(&mut part), Ok(file.len()));
+            assert_eq!(&part[..file.len()], file);
+            assert!(part[file.len()..].iter().all(|byte| *byte == 7));
+        }
+    }
+
+    #[test]
+    fn a_short_part_for_the_file_is_refused_and_left() {
+        let mut part = vec![7; FILE_BYTES - 1];
+        assert_eq!(read(WORKED.as_bytes()).unwrap().write(&mut part), Err(9));
+        assert!(part.iter().all(|byte| *byte == 7));
+    }
+}

@@ -98,3 +98,74 @@ pub fn forwarding_table(nodes: u64, list: u64) -> Result<Table, u8> {
     }
     Ok(table)
 }
+
+#[cfg(test)]
+mod tests {
+    use super::*;
+
+    /// The forward targets once more, by the paper's words over the nodes ahead in a row.
+    fn targets_in_words(nodes: u8, list: u64, node: u8) -> Vec<u8> {
+        let unlisted: Vec<u8> = (0..nodes).map(|step| (node + step) % nodes).filter(|other| !listed(list, *other)).collect();
+        (0..).map(|power| 1 << power).take_while(|jump| *jump < unlisted.len()).map(|jump: usize| unlisted[jump]).collect()
+    }
+
+    #[test]
+    fn jumps_go_over_unlisted_nodes() {
+        let list = 1 << 2 | 1 << 3;
+        assert_eq!(forward_targets(8, list, 1).as_slice(), [4, 5, 7]);
+        assert_eq!(forward_targets(8, list, 7).as_slice(), [0, 1, 5]);
+    }
+
+    #[test]
+    fn powers_of_two_below_the_count() {
+        assert_eq!(forward_targets(1, 0, 0).as_slice(), [0u8; 0]);
+        assert_eq!(forward_targets(2, 0, 0).as_slice(), [1]);
+        assert_eq!(forward_targets(4, 0, 0).as_slice(), [1, 2]);
+        assert_eq!(forward_targets(5, 0, 0).as_slice(), [1, 2, 4]);
+        assert_eq!(forward_targets(64, 0, 0).as_slice(), [1, 2, 4, 8, 16, 32]);
+        assert_eq!(forward_targets(33, 0, 32).as_slice(), [0, 1, 3, 7, 15, 31]);
+        assert_eq!(forward_targets(64, !(1 << 9), 9).as_slice(), [0u8; 0]);
+    }
+
+    #[test]
+    fn going_back_passes_listed_nodes() {
+        assert_eq!(first_unlisted_back(5, 1 << 3 | 1 << 4, 4), 2);
+        assert_eq!(first_unlisted_back(5, 0b11110, 4), 0);
+        assert_eq!(first_unlisted_back(5, 0b11110, 1), 0);
+        assert_eq!(first_unlisted_back(64, 1 | 1 << 63, 0), 62);
+        assert_eq!(first_unlisted_ahead(64, 1 | 1 << 63, 63), 1);
+    }
+
+    #[test]
+    fn targets_agree_with_the_words() {
+        let mut list = 0x9e37_79b9_7f4a_7c15u64;
+        for round in 0..2_000u64 {
+            list = list.wrapping_mul(0xd129_8a2f_4c5b_6e63).rotate_left(23) ^ round;
+            let nodes = (round % 64 + 1) as u8;
+            let node = (list >> 32) as u8 % nodes;
+            let kept = list & (u64::MAX >> (64 - nodes)) & !(1 << node);
+            assert_eq!(forward_targets(nodes, kept, node).as_slice(), targets_in_words(nodes, kept, node));
+        }
+    }
+
+    #[test]
+    fn table_rows() {
+        let table = forwarding_table(8, 1 << 2 | 1 << 3).unwrap();
+        assert_eq!(table[1], [4, 5, 7, 255, 255, 255]);
+        assert_eq!(table[7], [0, 1, 5, 255, 255, 255]);
+        for row in [2, 3, 8, 63] {
+            assert_eq!(table[row], [255; 6]);
+        }
+        assert_eq!(forwarding_table(64, 0).unwrap()[63], [0, 1, 3, 7, 15, 31]);
+        assert_eq!(forwarding_table(1, 0), Ok(EMPTY_TABLE));
+        assert_eq!(forwarding_table(64, u64::MAX), Ok(EMPTY_TABLE));
+    }
+
+    #[test]
+    fn table_refusals() {
+        for (nodes, list) in [(0, 0), (65, 0), (u64::MAX, 0), (1, 2), (8, 1 << 8), (63, 1 << 63), (0, u64::MAX)] {
+            assert_eq!(forwarding_table(nodes, list), Err(3), "{nodes} {list:x}");
+        }
+        assert!(forwarding_table(63, 1 << 62).is_ok());
+    }
+}

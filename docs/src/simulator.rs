@@ -22,3 +22,5 @@ pub mod queue;
 pub mod ring;
 pub mod settle;
 
+#[cfg(test)]
+mod tests;

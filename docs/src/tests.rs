@@ -1,0 +1,309 @@
+//! Whole runs: the worked logs, the edges of 01 that concern the platform, and demand 3's words on
+//! generated plans.
+
+use super::log::Line;
+use super::plan;
+use super::platform::{Ending, Platform, Run, Step};
+use super::settle;
+
+#[path = "../../tests/generate.rs"]
+mod generate;
+
+/// The seed of the generated plans; a failing case names its index.
+const SEED: u64 = 20_261_115;
+
+fn open(file: &str) -> Platform {
+    Platform::open(plan::read(file.as_bytes()).expect("the file is accepted"))
+}
+
+/// The whole log by steps, as the rehearsal program writes it.
+fn log(file: &str) -> String {
+    let mut platform = open(file);
+    let mut log = Vec::new();
+    loop {
+        match platform.step() {
+            Step::Event(line) => line.put(&mut log).unwrap(),
+            Step::Done(line) => {
+                line.put(&mut log).unwrap();
+                return String::from_utf8(log).unwrap();
+            }
+            Step::Refused => return String::from_utf8(log).unwrap() + "8,0\n",
+        }
+    }
+}
+
+fn last_line(file: &str) -> String {
+    log(file).lines().last().unwrap().to_string()
+}
+
+/// What a caller can see of a platform.
+fn state(platform: &Platform) -> impl PartialEq + std::fmt::Debug {
+    (
+        platform.nodes().to_vec(),
+        platform.messages(),
+        (platform.in_flight(), platform.next_number(), platform.events_done(), platform.last_tick()),
+        (platform.crashes_done(), platform.crashed()),
+    )
+}
+
+/// Takes the platform through single steps to the end, `check` after opening and after each.
+fn for_each_event(platform: &mut Platform, mut check: impl FnMut(&mut Platform)) {
+    check(platform);
+    while let Step::Event(_) = platform.step() {
+        check(platform);
+    }
+}
+
+#[test]
+fn the_worked_log() {
+    let expected = "S,2,0,1,0000000000000000\nS,2,1,0,0000000000000000\nC,3,1,1,0000000000000000\n\
+        X,3,1,0,0000000000000000\nH,3,0,1,0000000000000000\nS,4,0,1,0000000000000000\n\
+        X,5,1,0,0000000000000000\nW,6,0,1,0000000000000002\nE,6,1,0,0000000000000002\n";
+    assert_eq!(log("P,2,2,3,1,6\nC,3,1\n"), expected);
+}
+
+#[test]
+fn a_node_alone_from_the_start() {
+    assert_eq!(log("P,1,1,2,1,5\n"), "E,5,1,0,0000000000000000\n");
+    assert_eq!(log("P,1,1,2,1,5\nC,0,0\n"), "C,0,0,0,0000000000000000\nE,5,0,0,0000000000000001\n");
+}
+
+#[test]
+fn end_at_tick_zero() {
+    assert_eq!(log("P,2,1,2,1,0\n"), "E,0,2,0,0000000000000000\n");
+    assert_eq!(log("P,2,1,2,1,0\nC,0,1\n"), "C,0,1,1,0000000000000000\nE,0,1,0,0000000000000002\n");
+}
+
+#[test]
+fn deliveries_come_before_timers_and_crashes_before_both() {
+    let log = log("P,2,1,2,1,2\nC,2,1\n");
+    let order: Vec<&str> = log.lines().map(|line| &line[..5]).collect();
+    assert_eq!(order, ["S,1,0", "S,1,1", "C,2,1", "X,2,1", "H,2,0", "S,2,0", "E,2,1"]);
+}
+
+#[test]
+fn timers_go_by_node_and_watch_before_heartbeat() {
+    let log = log("P,3,2,4,2,4\nC,0,1\n");
+    let order: Vec<&str> = log.lines().filter(|line| line.split(',').nth(1) == Some("4")).map(|line| &line[..5]).collect();
+    assert_eq!(order, ["X,4,1", "H,4,0", "S,4,0", "W,4,2", "S,4,2", "E,4,2"]);
+}
+
+#[test]
+fn twice_the_timeout_after_a_move() {
+    let log = log("P,3,2,3,1,12\nC,1,0\nC,1,2\n");
+    let watches: Vec<&str> = log.lines().filter(|line| line.starts_with('W')).collect();
+    assert_eq!(watches, ["W,3,1,0,0000000000000001", "W,9,1,2,0000000000000005"]);
+}
+
+#[test]
+fn a_node_that_becomes_alone_sends_no_heartbeat_at_that_tick() {
+    let log = log("P,2,2,4,2,20\nC,0,1\n");
+    assert!(log.contains("W,4,0,1,0000000000000002\n"));
+    assert!(!log.contains("S,4,0"));
+    assert!(log.ends_with("X,4,1,0,0000000000000000\nW,4,0,1,0000000000000002\nE,20,1,0,0000000000000002\n"));
+}
+
+#[test]
+fn delays_go_by_message_number() {
+    let log = log("P,2,2,7,5,4\nL,0,2\nL,1,1\n");
+    let lines: Vec<&str> = log.lines().map(|line| &line[..7]).collect();
+    assert_eq!(lines, ["S,2,0,1", "S,2,1,0", "H,3,0,1", "H,4,1,0", "S,4,0,1", "S,4,1,0", "E,4,2,2"]);
+}
+
+#[test]
+fn messages_to_crashed_nodes_count_as_in_flight() {
+    assert_eq!(last_line("P,2,2,7,5,3\nC,3,1\n"), "E,3,1,2,0000000000000002");
+}
+
+#[test]
+fn jumps_over_listed_nodes_in_a_run() {
+    let mut platform = open("P,8,2,3,1,12\nC,0,2\nC,0,3\n");
+    platform.run(u64::MAX);
+    assert_eq!(platform.nodes()[4].dead_list, 0b1100);
+    assert!(settle::settled(&platform));
+    let reports = log("P,8,2,3,1,12\nC,0,2\nC,0,3\n");
+    let of_2: Vec<&str> = reports.lines().filter(|line| line.starts_with("R,10,") && line.contains(",2,0")).collect();
+    assert_eq!(of_2.iter().map(|line| &line[5..6]).collect::<Vec<_>>(), ["5", "6", "0"]);
+}
+
+#[test]
+fn two_thousand_and_forty_eight_in_flight_pass() {
+    let mut platform = open("P,64,1,33,32,200\n");
+    let mut most = 0;
+    for_each_event(&mut platform, |platform| most = most.max(platform.in_flight()));
+    assert_eq!(most, 2_048);
+    assert_eq!(last_line("P,64,1,33,32,200\n"), "E,200,64,2048,0000000000000000");
+}
+
+#[test]
+fn one_more_in_flight_is_refused() {
+    assert_eq!(last_line("P,64,1,34,33,200\n"), "8,0");
+    let mut platform = open("P,64,1,34,33,200\n");
+    assert_eq!(platform.run(u64::MAX), Run { ending: Ending::Refused, events: 2_048 });
+    assert_eq!(platform.in_flight(), 2_048);
+    let before = state(&platform);
+    assert_eq!(platform.run(5), Run { ending: Ending::Refused, events: 0 });
+    assert_eq!(platform.run(0), Run { ending: Ending::Spent, events: 0 });
+    assert_eq!(platform.step(), Step::Refused);
+    assert_eq!(state(&platform), before);
+}
+
+#[test]
+fn a_run_spends_its_budget_before_a_refused_event_is_tried() {
+    let mut platform = open("P,64,1,34,33,200\n");
+    assert_eq!(platform.run(2_048), Run { ending: Ending::Spent, events: 2_048 });
+    assert_eq!(platform.run(1), Run { ending: Ending::Refused, events: 0 });
+}
+
+#[test]
+fn budgets() {
+    let mut platform = open("P,2,2,3,1,6\nC,3,1\n");
+    assert_eq!(platform.run(0), Run { ending: Ending::Spent, events: 0 });
+    assert_eq!(platform.run(7), Run { ending: Ending::Spent, events: 7 });
+    assert_eq!(platform.run(1), Run { ending: Ending::Done, events: 1 });
+    assert_eq!(platform.run(0), Run { ending: Ending::Done, events: 0 });
+    assert_eq!(platform.run(u64::MAX), Run { ending: Ending::Done, events: 0 });
+    assert_eq!(open("P,2,2,3,1,6\nC,3,1\n").run(8), Run { ending: Ending::Done, events: 8 });
+    assert_eq!(open("P,1,1,2,1,5\n").run(0), Run { ending: Ending::Done, events: 0 });
+}
+
+#[test]
+fn a_step_when_done_leaves_the_platform() {
+    let mut platform = open("P,2,2,3,1,6\nC,3,1\n");
+    platform.run(u64::MAX);
+    let before = state(&platform);
+    let last = Line { letter: b'E', tick: 6, node: 1, other: 0, list: 2 };
+    assert_eq!(platform.step(), Step::Done(last));
+    assert_eq!(platform.step(), Step::Done(last));
+    assert_eq!(state(&platform), before);
+}
+
+#[test]
+fn a_list_can_stay_short_where_crashes_are_close() {
+    let mut platform = open("P,5,3,5,2,92\nC,4,1\nC,5,3\nC,5,4\n");
+    for_each_event(&mut platform, |platform| {
+        assert_eq!(platform.nodes()[0].dead_list & 1 << 1, 0);
+        assert!(settle::demand_3(platform));
+    });
+    assert_eq!(platform.nodes()[0].dead_list, 0b11000);
+}
+
+#[test]
+fn settling_time() {
+    assert_eq!(settle::settling_time(100, 5, 63), 140);
+    assert_eq!(settle::settling_time(100, 5, 64), 140);
+    assert_eq!(settle::settling_time(100, 5, 32), 135);
+    assert_eq!(settle::settling_time(100, 5, 33), 140);
+    assert_eq!(settle::settling_time(100, 5, 2), 115);
+    assert_eq!(settle::settling_time(100, 5, 1), 110);
+    assert_eq!(settle::settling_time(100, 5, 0), 110);
+}
+
+/// W = 4, D = 1, N = 3: S is 7 after the first crash, with two survivors.
+#[test]
+fn crashes_are_spaced_from_s_ticks_on() {
+    for (second, spaced) in [(8, false), (9, true), (10, true)] {
+        let mut platform = open(&format!("P,3,3,4,1,30\nC,2,0\nC,{second},1\n"));
+        platform.run(u64::MAX);
+        assert_eq!(settle::crashes_spaced(&platform), spaced, "second crash at {second}");
+    }
+}
+
+#[test]
+fn settling_counts_what_lies_beyond_the_end_tick() {
+    let mut early = open("P,3,3,4,1,4\nC,2,0\n");
+    early.run(u64::MAX);
+    assert!(!settle::settling_time_passed(&mut early));
+    assert!(!settle::settled(&early));
+    let mut late = open("P,3,3,4,1,8\nC,2,0\n");
+    late.run(u64::MAX);
+    assert!(settle::settling_time_passed(&mut late));
+    assert!(settle::settled(&late));
+}
+
+#[test]
+fn no_claim_of_settling_before_a_crash() {
+    assert!(!settle::settling_time_passed(&mut open("P,3,3,4,1,8\n")));
+}
+
+/// Every generated plan is accepted, comes back from the writer, and keeps demand 3 after each event.
+#[test]
+fn demand_3_on_generated_plans() {
+    let mut owed = 0u64;
+    for index in 0..400 {
+        let file = if index % 2 == 0 { generate::plan(SEED, index) } else { generate::spaced_plan(SEED, index) };
+        let plan = plan::read(&file).unwrap_or_else(|refusal| panic!("index {index}: {refusal:?}"));
+        assert_eq!(plan.bytes(), file, "index {index}");
+        let mut platform = Platform::open(plan);
+        for_each_event(&mut platform, |platform| {
+            assert!(settle::demand_3(platform), "index {index}, after {} events", platform.events_done());
+            owed += u64::from(settle::crashes_spaced(platform) && settle::settling_time_passed(platform));
+        });
+        assert!(platform.next_number_in_range());
+    }
+    assert!(owed > 10_000, "settling was owed after {owed} events only");
+}
+
+/// The settled test does not hold of every state: after a crash it fails until the reports are through.
+#[test]
+fn unsettled_rings_are_told_from_settled_ones() {
+    let mut platform = open("P,4,2,3,1,40\nC,5,1\n");
+    let mut unsettled = 0;
+    for_each_event(&mut platform, |platform| {
+        unsettled += usize::from(platform.crashes_done() == 1 && !settle::settled(platform));
+    });
+    assert!(unsettled > 0);
+    assert!(settle::settled(&platform) && settle::no_live_node_listed(&platform));
+}
+
+/// Steps and runs in any mixture lead to the same states.
+#[test]
+fn steps_and_runs_agree() {
+    for index in 0..60 {
+        let plan = plan::read(&generate::plan(SEED + 1, index)).unwrap();
+        let (mut by_step, mut by_run) = (Platform::open(plan.clone()), Platform::open(plan));
+        let mut random = generate::Random::new(SEED + 1, index);
+        loop {
+            let budget = random.range(0, 300);
+            let run = by_run.run(budget);
+            let stepped = (0..budget).take_while(|_| matches!(by_step.step(), Step::Event(_))).count();
+            assert_eq!(stepped as u64, run.events, "index {index}");
+            assert_eq!(state(&by_step), state(&by_run), "index {index}");
+            if run.ending != Ending::Spent {
+                break;
+            }
+        }
+    }
+}
+
+/// What is in flight is counted, numbered and due as the paper says.
+#[test]
+fn messages_in_flight_are_in_range() {
+    for index in 0..60 {
+        let mut platform = Platform::open(plan::read(&generate::plan(SEED + 2, index)).unwrap());
+        while platform.run(97).ending == Ending::Spent {
+            let messages = platform.messages();
+            let plan = platform.plan();
+            assert_eq!(messages.len(), platform.in_flight(), "index {index}");
+            assert!(messages.windows(2).all(|pair| pair[0].1.number < pair[1].1.number), "index {index}");
+            for (due, message) in messages {
+                assert!(message.number < platform.next_number() && message.sender != message.receiver);
+                assert!((platform.last_tick()..=platform.last_tick() + plan.delay).contains(&due), "index {index}");
+            }
+        }
+    }
+}
+
+/// Any bytes get a refusal or a run, and an accepted file comes back from the writer.
+#[test]
+fn damaged_files_are_answered() {
+    let mut refused = [0; 7];
+    for index in 0..3_000 {
+        let file = generate::file(SEED + 3, index);
+        match plan::read(&file) {
+            Ok(plan) => assert_eq!(plan.bytes(), file, "index {index}"),
+            Err(refusal) => refused[usize::from(refusal.number)] += 1,
+        }
+    }
+    assert!(refused[1..].iter().all(|count| *count > 0), "refusals by number: {refused:?}");
+}

@@ -1,0 +1,412 @@
+//! A seeded generator of run files, good and damaged.
+//!
+//! As a module: `file(seed, index)` gives the bytes of one file, `plan(seed, index)` an undamaged one.
+//! As a program: `generate SEED COUNT DIR` writes DIR/SEED-INDEX.run for each index below COUNT,
+//! `generate one SEED INDEX` writes that file to standard output. A file depends on its seed and
+//! index alone.
+#![allow(dead_code)]
+
+use std::fmt::Write as _;
+use std::io::{self, Write as _};
+use std::process::ExitCode;
+
+/// Longest accepted run file, in bytes.
+const FILE_BYTES: usize = 65_536;
+/// Most L lines.
+const MAX_DELAY_ROWS: u64 = 2_048;
+/// About how many heartbeat events a plan may lead to.
+const HEARTBEAT_EVENTS: u64 = 6_000;
+
+/// Splitmix64.
+pub struct Random(u64);
+
+impl Random {
+    pub fn new(seed: u64, index: u64) -> Random {
+        let mut random = Random(seed);
+        let mixed = random.next() ^ index.wrapping_mul(0x9e37_79b9_7f4a_7c15);
+        Random(mixed)
+    }
+
+    pub fn next(&mut self) -> u64 {
+        self.0 = self.0.wrapping_add(0x9e37_79b9_7f4a_7c15);
+        let mut mixed = self.0;
+        mixed = (mixed ^ mixed >> 30).wrapping_mul(0xbf58_476d_1ce4_e5b9);
+        mixed = (mixed ^ mixed >> 27).wrapping_mul(0x94d0_49bb_1331_11eb);
+        mixed ^ mixed >> 31
+    }
+
+    /// A number from `low` to `high`, both included.
+    pub fn range(&mut self, low: u64, high: u64) -> u64 {
+        low + self.next() % (high - low + 1)
+    }
+
+    pub fn chance(&mut self, of: u64) -> bool {
+        self.range(1, of) == 1
+    }
+
+    pub fn pick<T: Copy>(&mut self, choices: &[T]) -> T {
+        choices[self.range(0, choices.len() as u64 - 1) as usize]
+    }
+}
+
+/// The fields of a run file, in the paper's order.
+pub struct Draft {
+    pub nodes: u64,
+    pub period: u64,
+    pub timeout: u64,
+    pub delay: u64,
+    pub end: u64,
+    pub crashes: Vec<(u64, u64)>,
+    pub delays: Vec<(u64, u64)>,
+}
+
+impl Draft {
+    pub fn bytes(&self) -> Vec<u8> {
+        let Draft { nodes, period, timeout, delay, end, .. } = self;
+        let mut text = format!("P,{nodes},{period},{timeout},{delay},{end}\n");
+        for (tick, node) in &self.crashes {
+            writeln!(text, "C,{tick},{node}").expect("a string takes every byte");
+        }
+        for (number, delay) in &self.delays {
+            writeln!(text, "L,{number},{delay}").expect("a string takes every byte");
+        }
+        text.into_bytes()
+    }
+
+    /// S = W + (K + 2) × D, where this many survive.
+    fn settling_time(&self, survivors: u64) -> u64 {
+        let rounded_up = u64::from(survivors.max(1).next_power_of_two().trailing_zeros());
+        self.timeout + (rounded_up + 2) * self.delay
+    }
+}
+
+/// One file: about one in three is damaged.
+pub fn file(seed: u64, index: u64) -> Vec<u8> {
+    let mut random = Random::new(seed, index);
+    let bytes = draft(&mut random).bytes();
+    if random.chance(3) { damage(&mut random, bytes) } else { bytes }
+}
+
+/// One file that 01 accepts.
+pub fn plan(seed: u64, index: u64) -> Vec<u8> {
+    draft(&mut Random::new(seed, index)).bytes()
+}
+
+/// One file whose crashes are each S ticks or a little more after the one before.
+pub fn spaced_plan(seed: u64, index: u64) -> Vec<u8> {
+    let mut random = Random::new(seed, index);
+    let mut draft = open_draft(&mut random);
+    crash_spaced(&mut random, &mut draft, 0);
+    put_delays(&mut random, &mut draft);
+    draft.bytes()
+}
+
+fn draft(random: &mut Random) -> Draft {
+    if random.chance(10) {
+        return crowded_draft(random);
+    }
+    let mut draft = open_draft(random);
+    match random.range(0, 6) {
+        0 => {}
+        1 | 2 => crash_anywhere(random, &mut draft),
+        3 => crash_block(random, &mut draft),
+        4 => crash_neighbours(random, &mut draft),
+        _ => {
+            let short = random.range(0, 2);
+            crash_spaced(random, &mut draft, short);
+        }
+    }
+    put_delays(random, &mut draft);
+    draft
+}
+
+/// The P line. The end tick keeps the events few.
+fn open_draft(random: &mut Random) -> Draft {
+    let sizes = [1, 2, 3, 4, 5, 8, 9, 16, 17, 33, 63, 64];
+    let nodes = if random.chance(2) { random.pick(&sizes) } else { random.range(1, 64) };
+    let (most_period, most_delay) = random.pick(&[(3, 3), (10, 8), (1, 6), (6, 1), (40, 60), (1_000, 255)]);
+    let period = random.range(1, most_period);
+    let delay = random.range(1, most_delay);
+    let above = random.pick(&[0, 0, 1, 2, delay, period, 50]);
+    let most_end = (HEARTBEAT_EVENTS * period / (2 * nodes)).clamp(1, 1_000_000);
+    let end = match random.range(0, 15) {
+        0 => 0,
+        1 => random.range(0, most_end),
+        _ => most_end,
+    };
+    let timeout = period + delay + above;
+    Draft { nodes, period, timeout, delay, end, crashes: Vec::new(), delays: Vec::new() }
+}
+
+/// A plan whose heartbeats alone bring about 2,048 messages into flight.
+fn crowded_draft(random: &mut Random) -> Draft {
+    let uneven = random.range(32, 64);
+    let nodes = random.pick(&[32, 64, 64, uneven]);
+    let period = random.range(1, 3);
+    let delay = 2_048 * period / nodes + random.pick(&[0, 0, 0, 1]);
+    let timeout = period + delay + random.pick(&[0, 0, 1, 20]);
+    let end = 2 * timeout + random.range(0, 60);
+    let mut draft = Draft { nodes, period, timeout, delay, end, crashes: Vec::new(), delays: Vec::new() };
+    if random.chance(2) {
+        crash_anywhere(random, &mut draft);
+    }
+    if random.chance(2) {
+        put_delays(random, &mut draft);
+    }
+    draft
+}
+
+/// Keeps the rows that a file may hold: up to the end tick, rising, no node twice.
+fn put_crashes(draft: &mut Draft, mut rows: Vec<(u64, u64)>) {
+    let mut seen = vec![false; draft.nodes as usize];
+    let end = draft.end;
+    rows.retain(|(tick, node)| *tick <= end && !std::mem::replace(&mut seen[*node as usize], true));
+    rows.sort_unstable();
+    draft.crashes = rows;
+}
+
+fn crash_anywhere(random: &mut Random, draft: &mut Draft) {
+    let count = random.range(1, draft.nodes);
+    let last = random.pick(&[draft.end, draft.end, draft.end.min(3 * draft.timeout)]);
+    let rows = (0..count).map(|_| (random.range(0, last), random.range(0, draft.nodes - 1))).collect();
+    put_crashes(draft, rows);
+}
+
+/// Neighbours in a row, all at one tick.
+fn crash_block(random: &mut Random, draft: &mut Draft) {
+    let count = random.range(1, draft.nodes);
+    let first = random.range(0, draft.nodes - 1);
+    let tick = random.range(0, draft.end.min(2 * draft.timeout));
+    let rows = (0..count).map(|place| (tick, (first + place) % draft.nodes)).collect();
+    put_crashes(draft, rows);
+}
+
+/// Neighbours one after another, going ahead or back, a few ticks apart.
+fn crash_neighbours(random: &mut Random, draft: &mut Draft) {
+    let count = random.range(1, draft.nodes);
+    let first = random.range(0, draft.nodes - 1);
+    let pace = random.pick(&[1, draft.delay, draft.timeout, draft.timeout + draft.delay]);
+    let stride = random.pick(&[1, draft.nodes - 1]).max(1);
+    let mut tick = random.range(0, draft.end.min(draft.timeout));
+    let mut rows = Vec::new();
+    for place in 0..count {
+        rows.push((tick, (first + place * stride) % draft.nodes));
+        tick += random.range(0, pace);
+    }
+    put_crashes(draft, rows);
+}
+
+/// Crashes S + 0 or 1 ticks apart; with `short` not 0 also S − 1 now and then.
+fn crash_spaced(random: &mut Random, draft: &mut Draft, short: u64) {
+    let mut rows = Vec::new();
+    let mut nodes: Vec<u64> = (0..draft.nodes).collect();
+    let mut tick = random.range(0, draft.end.min(2 * draft.timeout));
+    while !nodes.is_empty() && tick <= draft.end {
+        let place = random.range(0, nodes.len() as u64 - 1) as usize;
+        rows.push((tick, nodes.swap_remove(place)));
+        tick += draft.settling_time(nodes.len() as u64) + random.range(0, 1);
+        if short > 0 && random.chance(3) {
+            tick -= 1;
+        }
+    }
+    put_crashes(draft, rows);
+}
+
+/// L lines: none (all D), all 1, or mixed; from the first message on, or with gaps.
+fn put_delays(random: &mut Random, draft: &mut Draft) {
+    let count = match random.range(0, 4) {
+        0 => return,
+        1 => MAX_DELAY_ROWS,
+        _ => random.range(0, MAX_DELAY_ROWS),
+    };
+    let style = random.range(0, 3);
+    let gap = random.pick(&[1, 1, 2, 4]);
+    let mut number = random.pick(&[0, 0, 3, 999_000]);
+    for _ in 0..count {
+        if number > 999_999 {
+            break;
+        }
+        let delay = match style {
+            0 => 1,
+            1 => random.pick(&[1, draft.delay]),
+            _ => random.range(1, draft.delay),
+        };
+        draft.delays.push((number, delay));
+        number += random.range(1, gap);
+    }
+}
+
+/// Damages a file in one to three places.
+fn damage(random: &mut Random, mut bytes: Vec<u8>) -> Vec<u8> {
+    for _ in 0..random.range(1, 3) {
+        damage_once(random, &mut bytes);
+    }
+    bytes
+}
+
+fn damage_once(random: &mut Random, bytes: &mut Vec<u8>) {
+    match random.range(0, 11) {
+        0 => change_byte(random, bytes),
+        1 => drop_byte(random, bytes),
+        2 => add_byte(random, bytes),
+        3 => swap_lines(random, bytes),
+        4 => drop(bytes.pop()),
+        5 => lengthen_number(random, bytes),
+        6 => lengthen_file(random, bytes),
+        7 => double_line(random, bytes),
+        8 => change_number(random, bytes),
+        9 => add_row(random, bytes),
+        10 => bytes.truncate(random.range(0, bytes.len() as u64) as usize),
+        _ => drop_line(random, bytes),
+    }
+}
+
+/// A place in the file; half of the time near its start, where the P and C lines are.
+fn place(random: &mut Random, bytes: &[u8]) -> usize {
+    let length = bytes.len() as u64;
+    let last = if random.chance(2) { length.min(40) } else { length };
+    random.range(0, last.max(1) - 1) as usize
+}
+
+/// Half of the time a byte that a run file may hold.
+fn some_byte(random: &mut Random) -> u8 {
+    let usual = b"0123456789PCL,\n\r +-.\0\xff";
+    if random.chance(2) { random.pick(usual) } else { random.next() as u8 }
+}
+
+fn change_byte(random: &mut Random, bytes: &mut [u8]) {
+    let place = place(random, bytes);
+    let byte = some_byte(random);
+    if let Some(old) = bytes.get_mut(place) {
+        *old = byte;
+    }
+}
+
+fn drop_byte(random: &mut Random, bytes: &mut Vec<u8>) {
+    let place = place(random, bytes);
+    if place < bytes.len() {
+        bytes.remove(place);
+    }
+}
+
+fn add_byte(random: &mut Random, bytes: &mut Vec<u8>) {
+    let place = place(random, bytes);
+    let byte = some_byte(random);
+    bytes.insert(place, byte);
+}
+
+/// Does `change` on the list of lines.
+fn with_lines(bytes: &mut Vec<u8>, change: impl FnOnce(&mut Vec<Vec<u8>>)) {
+    let mut lines: Vec<Vec<u8>> = bytes.split_inclusive(|byte| *byte == b'\n').map(<[u8]>::to_vec).collect();
+    if !lines.is_empty() {
+        change(&mut lines);
+        *bytes = lines.concat();
+    }
+}
+
+fn some_line(random: &mut Random, lines: &[Vec<u8>]) -> usize {
+    random.range(0, lines.len() as u64 - 1) as usize
+}
+
+fn swap_lines(random: &mut Random, bytes: &mut Vec<u8>) {
+    with_lines(bytes, |lines| {
+        let first = some_line(random, lines);
+        let second = if random.chance(2) { (first + 1) % lines.len() } else { some_line(random, lines) };
+        lines.swap(first, second);
+    });
+}
+
+fn double_line(random: &mut Random, bytes: &mut Vec<u8>) {
+    with_lines(bytes, |lines| {
+        let place = some_line(random, lines);
+        let line = lines[place].clone();
+        lines.insert(place, line);
+    });
+}
+
+fn drop_line(random: &mut Random, bytes: &mut Vec<u8>) {
+    with_lines(bytes, |lines| {
+        let place = some_line(random, lines);
+        lines.remove(place);
+    });
+}
+
+/// Puts a number at or near the edge of a range in place of a field.
+fn change_number(random: &mut Random, bytes: &mut Vec<u8>) {
+    let edges: [&[u8]; 20] = [
+        b"0", b"1", b"63", b"64", b"65", b"255", b"256", b"1000", b"1001", b"65535", b"65536", b"999999",
+        b"1000000", b"1000001", b"4294967296", b"4294967297", b"18446744073709551615",
+        b"18446744073709551616", b"18446744073709551618", b"",
+    ];
+    let edge = random.pick(&edges);
+    with_lines(bytes, |lines| {
+        let place = if random.chance(2) { 0 } else { some_line(random, lines) };
+        let body = lines[place].strip_suffix(b"\n").unwrap_or(&lines[place]);
+        let mut fields: Vec<&[u8]> = body.split(|byte| *byte == b',').collect();
+        let last = fields.len() - 1;
+        fields[random.range(1.min(last as u64), last as u64) as usize] = edge;
+        lines[place] = [fields.join(&b','), b"\n".to_vec()].concat();
+    });
+}
+
+/// Puts many digits into the file.
+fn lengthen_number(random: &mut Random, bytes: &mut Vec<u8>) {
+    let place = place(random, bytes);
+    let count = random.pick(&[1, 10, 19, 20, 21, 39, 100, 5_000]);
+    let digit = random.pick(b"0123456789");
+    bytes.splice(place..place, std::iter::repeat(digit).take(count));
+}
+
+/// Brings the file to one of the lengths about the greatest: with lines, or with one byte.
+fn lengthen_file(random: &mut Random, bytes: &mut Vec<u8>) {
+    let length = FILE_BYTES + random.pick(&[0, 1, 1, 2, 4_000]) - random.range(0, 1) as usize;
+    let unit = random.pick(&[&b"L,1,1\n"[..], b"\n", b"0", b",", b"\0"]);
+    while bytes.len() < length {
+        bytes.extend_from_slice(unit);
+    }
+    bytes.truncate(length);
+}
+
+/// Adds C or L rows at the end, possibly one more than a file may hold.
+fn add_row(random: &mut Random, bytes: &mut Vec<u8>) {
+    let rows = random.pick(&[1, 2, MAX_DELAY_ROWS, MAX_DELAY_ROWS + 1, MAX_DELAY_ROWS + 1]);
+    let letter = random.pick(&['C', 'L', 'L', 'L']);
+    let base = random.pick(&[0, 10_000, 900_000, 900_000]);
+    for row in 0..rows {
+        bytes.extend_from_slice(format!("{letter},{},1\n", base + row).as_bytes());
+    }
+}
+
+pub fn main() -> ExitCode {
+    let arguments: Vec<String> = std::env::args().skip(1).collect();
+    let words: Vec<&str> = arguments.iter().map(String::as_str).collect();
+    let done = match words[..] {
+        ["one", seed, index] => write_one(seed, index),
+        [seed, count, directory] => write_many(seed, count, directory),
+        _ => None,
+    };
+    match done {
+        Some(Ok(())) => ExitCode::SUCCESS,
+        Some(Err(error)) => {
+            eprintln!("generate: {error}");
+            ExitCode::from(1)
+        }
+        None => {
+            eprintln!("usage: generate SEED COUNT DIR | generate one SEED INDEX");
+            ExitCode::from(2)
+        }
+    }
+}
+
+fn write_one(seed: &str, index: &str) -> Option<io::Result<()>> {
+    let bytes = file(seed.parse().ok()?, index.parse().ok()?);
+    Some(io::stdout().write_all(&bytes))
+}
+
+fn write_many(seed: &str, count: &str, directory: &str) -> Option<io::Result<()>> {
+    let (seed, count): (u64, u64) = (seed.parse().ok()?, count.parse().ok()?);
+    Some((0..count).try_for_each(|index| {
+        let path = std::path::Path::new(directory).join(format!("{seed}-{index}.run"));
+        std::fs::write(path, file(seed, index))
+    }))
+}
