@@ -23,11 +23,11 @@ pub struct Random(u64);
 impl Random {
     pub fn new(seed: u64, index: u64) -> Random {
         let mut random = Random(seed);
-        let mixed = random.next() ^ index.wrapping_mul(0x9e37_79b9_7f4a_7c15);
+        let mixed = random.draw() ^ index.wrapping_mul(0x9e37_79b9_7f4a_7c15);
         Random(mixed)
     }
 
-    pub fn next(&mut self) -> u64 {
+    pub fn draw(&mut self) -> u64 {
         self.0 = self.0.wrapping_add(0x9e37_79b9_7f4a_7c15);
         let mut mixed = self.0;
         mixed = (mixed ^ mixed >> 30).wrapping_mul(0xbf58_476d_1ce4_e5b9);
@@ -37,7 +37,7 @@ impl Random {
 
     /// A number from `low` to `high`, both included.
     pub fn range(&mut self, low: u64, high: u64) -> u64 {
-        low + self.next() % (high - low + 1)
+        low + self.draw() % (high - low + 1)
     }
 
     pub fn chance(&mut self, of: u64) -> bool {
@@ -84,7 +84,11 @@ impl Draft {
 pub fn file(seed: u64, index: u64) -> Vec<u8> {
     let mut random = Random::new(seed, index);
     let bytes = draft(&mut random).bytes();
-    if random.chance(3) { damage(&mut random, bytes) } else { bytes }
+    if random.chance(3) {
+        damage(&mut random, bytes)
+    } else {
+        bytes
+    }
 }
 
 /// One file that 01 accepts.
@@ -102,7 +106,7 @@ pub fn spaced_plan(seed: u64, index: u64) -> Vec<u8> {
 }
 
 fn draft(random: &mut Random) -> Draft {
-    if random.chance(10) {
+    if random.chance(8) {
         return crowded_draft(random);
     }
     let mut draft = open_draft(random);
@@ -143,7 +147,7 @@ fn crowded_draft(random: &mut Random) -> Draft {
     let uneven = random.range(32, 64);
     let nodes = random.pick(&[32, 64, 64, uneven]);
     let period = random.range(1, 3);
-    let delay = 2_048 * period / nodes + random.pick(&[0, 0, 0, 1]);
+    let delay = 2_048 * period / nodes + random.pick(&[0, 0, 1]);
     let timeout = period + delay + random.pick(&[0, 0, 1, 20]);
     let end = 2 * timeout + random.range(0, 60);
     let mut draft = Draft { nodes, period, timeout, delay, end, crashes: Vec::new(), delays: Vec::new() };
@@ -212,14 +216,14 @@ fn crash_spaced(random: &mut Random, draft: &mut Draft, short: u64) {
     put_crashes(draft, rows);
 }
 
-/// L lines: none (all D), all 1, or mixed; from the first message on, or with gaps.
+/// L lines: none, all 1, all D, or mixed; from the first message on, or with gaps.
 fn put_delays(random: &mut Random, draft: &mut Draft) {
     let count = match random.range(0, 4) {
         0 => return,
         1 => MAX_DELAY_ROWS,
         _ => random.range(0, MAX_DELAY_ROWS),
     };
-    let style = random.range(0, 3);
+    let style = random.range(0, 4);
     let gap = random.pick(&[1, 1, 2, 4]);
     let mut number = random.pick(&[0, 0, 3, 999_000]);
     for _ in 0..count {
@@ -228,7 +232,8 @@ fn put_delays(random: &mut Random, draft: &mut Draft) {
         }
         let delay = match style {
             0 => 1,
-            1 => random.pick(&[1, draft.delay]),
+            1 => draft.delay,
+            2 => random.pick(&[1, draft.delay]),
             _ => random.range(1, draft.delay),
         };
         draft.delays.push((number, delay));
@@ -245,7 +250,7 @@ fn damage(random: &mut Random, mut bytes: Vec<u8>) -> Vec<u8> {
 }
 
 fn damage_once(random: &mut Random, bytes: &mut Vec<u8>) {
-    match random.range(0, 11) {
+    match random.range(0, 12) {
         0 => change_byte(random, bytes),
         1 => drop_byte(random, bytes),
         2 => add_byte(random, bytes),
@@ -255,7 +260,7 @@ fn damage_once(random: &mut Random, bytes: &mut Vec<u8>) {
         6 => lengthen_file(random, bytes),
         7 => double_line(random, bytes),
         8 => change_number(random, bytes),
-        9 => add_row(random, bytes),
+        9 | 11 => add_rows(random, bytes),
         10 => bytes.truncate(random.range(0, bytes.len() as u64) as usize),
         _ => drop_line(random, bytes),
     }
@@ -271,7 +276,11 @@ fn place(random: &mut Random, bytes: &[u8]) -> usize {
 /// Half of the time a byte that a run file may hold.
 fn some_byte(random: &mut Random) -> u8 {
     let usual = b"0123456789PCL,\n\r +-.\0\xff";
-    if random.chance(2) { random.pick(usual) } else { random.next() as u8 }
+    if random.chance(2) {
+        random.pick(usual)
+    } else {
+        random.draw() as u8
+    }
 }
 
 fn change_byte(random: &mut Random, bytes: &mut [u8]) {
@@ -354,7 +363,7 @@ fn lengthen_number(random: &mut Random, bytes: &mut Vec<u8>) {
     let place = place(random, bytes);
     let count = random.pick(&[1, 10, 19, 20, 21, 39, 100, 5_000]);
     let digit = random.pick(b"0123456789");
-    bytes.splice(place..place, std::iter::repeat(digit).take(count));
+    bytes.splice(place..place, std::iter::repeat_n(digit, count));
 }
 
 /// Brings the file to one of the lengths about the greatest: with lines, or with one byte.
@@ -368,7 +377,7 @@ fn lengthen_file(random: &mut Random, bytes: &mut Vec<u8>) {
 }
 
 /// Adds C or L rows at the end, possibly one more than a file may hold.
-fn add_row(random: &mut Random, bytes: &mut Vec<u8>) {
+fn add_rows(random: &mut Random, bytes: &mut Vec<u8>) {
     let rows = random.pick(&[1, 2, MAX_DELAY_ROWS, MAX_DELAY_ROWS + 1, MAX_DELAY_ROWS + 1]);
     let letter = random.pick(&['C', 'L', 'L', 'L']);
     let base = random.pick(&[0, 10_000, 900_000, 900_000]);

@@ -18,24 +18,28 @@ fail() {
     exit 1
 }
 
-build() {
-    mkdir -p "$out"
-    rustc --edition 2021 -D warnings -O -C codegen-units=1 --crate-type rlib docs/src/simulator.rs --out-dir "$out"
-    rustc --edition 2021 -D warnings -O docs/src/simulate.rs --extern simulator="$out/libsimulator.rlib" -o "$out/simulate"
-    rustc --edition 2021 -D warnings -O tests/generate.rs -o "$out/generate"
-    rustc --edition 2021 -D warnings -C opt-level=1 -C debug-assertions --test docs/src/simulator.rs -o "$out/simulator-tests"
+compile() {
+    rustc --edition 2021 -D warnings "$@"
 }
 
-# worked NAME RUNFILE LOG: the program's log of the run file is LOG.
-worked() {
-    printf "$2" > "$out/$1.run"
+build() {
+    mkdir -p "$out"
+    compile -O -C codegen-units=1 --crate-type rlib docs/src/simulator.rs --out-dir "$out"
+    compile -O docs/src/simulate.rs --extern simulator="$out/libsimulator.rlib" -o "$out/simulate"
+    compile -O tests/generate.rs -o "$out/generate"
+    compile -C opt-level=1 -C debug-assertions --test docs/src/simulator.rs -o "$out/simulator-tests"
+}
+
+# answers NAME INPUT ANSWER COMMAND: the program, given COMMAND, answers INPUT by ANSWER, byte for byte.
+answers() {
+    printf "$2" > "$out/$1.in"
     printf "$3" > "$out/$1.expected"
-    "$out/simulate" < "$out/$1.run" > "$out/$1.log"
-    cmp "$out/$1.expected" "$out/$1.log" || fail "the log of $out/$1.run differs"
+    "$out/simulate" $4 < "$out/$1.in" > "$out/$1.out"
+    cmp "$out/$1.expected" "$out/$1.out" || fail "the answer to $out/$1.in differs"
 }
 
 worked_logs() {
-    worked two 'P,2,2,3,1,6\nC,3,1\n' 'S,2,0,1,0000000000000000
+    answers two 'P,2,2,3,1,6\nC,3,1\n' 'S,2,0,1,0000000000000000
 S,2,1,0,0000000000000000
 C,3,1,1,0000000000000000
 X,3,1,0,0000000000000000
@@ -44,10 +48,10 @@ S,4,0,1,0000000000000000
 X,5,1,0,0000000000000000
 W,6,0,1,0000000000000002
 E,6,1,0,0000000000000002
-'
-    worked alone 'P,1,1,2,1,5\n' 'E,5,1,0,0000000000000000\n'
-    worked empty '' '1,0\n'
-    worked short 'P,2,2,2,1,6\n' '4,1\n'
+' ''
+    answers alone 'P,1,1,2,1,5\n' 'E,5,1,0,0000000000000000\n' ''
+    answers empty '' '1,0\n' ''
+    answers short 'P,2,2,2,1,6\n' '4,1\n' ''
 }
 
 # Each answer is a refusal, or a log that ends in E or in 8,0.
@@ -66,11 +70,13 @@ generated() {
     rm -r "$files"
 }
 
+# The tables of N 1 and of refused questions hold 255 in all 384 places.
 commands() {
-    printf '8,000000000000000c\n8,0000000000000100\n65,0000000000000000\n' | "$out/simulate" table | cut -d , -f 1,8-13 > "$out/commands.log"
-    printf 'S,2,0,1,0000000000000000\nE,0,64,2049,0000000000000000\nS,02,0,1,0000000000000000\n' | "$out/simulate" lines >> "$out/commands.log"
-    printf '0,4,5,7,255,255,255\n3,255,255,255,255,255,255\n3,255,255,255,255,255,255\n0,S,2,0,1,0000000000000000\n3\n2\n' > "$out/commands.expected"
-    cmp "$out/commands.expected" "$out/commands.log" || fail "the answers of table or lines differ"
+    none=$(printf ',255%.0s' $(seq 384))
+    answers table '1,0000000000000000\n8,0000000000000100\n65,0000000000000000\n8,0\n' \
+        "0$none\n3$none\n3$none\n2$none\n" table
+    answers lines 'S,2,0,1,0000000000000000\nE,0,64,2049,0000000000000000\nS,02,0,1,0000000000000000\n' \
+        '0,S,2,0,1,0000000000000000\n3\n2\n' lines
 }
 
 echo "simulator: seed $seed, $count generated files"

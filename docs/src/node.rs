@@ -31,7 +31,7 @@ pub enum Timer {
 
 /// A message that a rule sends.
 #[derive(Clone, Copy, PartialEq, Eq, Debug)]
-pub struct Send {
+pub struct Sent {
     pub receiver: u8,
     pub content: Content,
 }
@@ -39,21 +39,21 @@ pub struct Send {
 /// The messages that one rule sends, in the order of sending.
 #[derive(Clone, Copy, Debug)]
 pub struct Sends {
-    places: [Send; MAX_SENDS],
+    places: [Sent; MAX_SENDS],
     count: usize,
 }
 
 impl Sends {
     fn none() -> Sends {
-        Sends { places: [Send { receiver: 0, content: Content::Heartbeat }; MAX_SENDS], count: 0 }
+        Sends { places: [Sent { receiver: 0, content: Content::Heartbeat }; MAX_SENDS], count: 0 }
     }
 
     fn add(&mut self, receiver: u8, content: Content) {
-        self.places[self.count] = Send { receiver, content };
+        self.places[self.count] = Sent { receiver, content };
         self.count += 1;
     }
 
-    pub fn as_slice(&self) -> &[Send] {
+    pub fn as_slice(&self) -> &[Sent] {
         &self.places[..self.count]
     }
 }
@@ -188,8 +188,11 @@ mod tests {
 
     const EIGHT: Settings = Settings { nodes: 8, period: 2, timeout: 10 };
 
-    fn reports(subject: u8, targets: &[u8]) -> Vec<Send> {
-        targets.iter().map(|receiver| Send { receiver: *receiver, content: Content::Report { subject } }).collect()
+    fn reports(subject: u8, targets: &[u8]) -> Vec<Sent> {
+        targets
+            .iter()
+            .map(|receiver| Sent { receiver: *receiver, content: Content::Report { subject } })
+            .collect()
     }
 
     #[test]
@@ -273,7 +276,7 @@ mod tests {
         let before = Node::open(&EIGHT, 1);
         let mut node = before;
         let sends = node.send_heartbeat(&EIGHT, 7);
-        assert_eq!(sends.as_slice(), [Send { receiver: 2, content: Content::Heartbeat }]);
+        assert_eq!(sends.as_slice(), [Sent { receiver: 2, content: Content::Heartbeat }]);
         assert_eq!(node, Node { heartbeat: Some(9), ..before });
     }
 
@@ -283,7 +286,7 @@ mod tests {
         let mut node = before;
         let sends = node.expire_watch(&EIGHT, 10);
         assert_eq!(node, Node { emitter: 6, watch: Some(30), dead_list: 1 << 7 | 1, ..before });
-        let mut expected = vec![Send { receiver: 6, content: Content::NewObserver }];
+        let mut expected = vec![Sent { receiver: 6, content: Content::NewObserver }];
         expected.extend(reports(0, &[2, 3, 5]));
         assert_eq!(sends.as_slice(), expected);
     }

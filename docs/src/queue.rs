@@ -72,7 +72,7 @@ impl Queue {
     fn arm_timer(&mut self, node: &Node, timer: Timer) {
         let Some(due) = node.due(timer) else { return };
         let entry = &mut self.entries[usize::from(node.number)][timer as usize];
-        if entry.map_or(true, |tick| due < tick) {
+        if entry.is_none_or(|tick| due < tick) {
             *entry = Some(due);
             self.add(due, Cause::Timer { node: node.number, timer });
         }

@@ -15,12 +15,20 @@ pub fn with(list: u64, node: u8) -> u64 {
 
 /// The node after `node` in a ring of `nodes`.
 pub fn after(nodes: u8, node: u8) -> u8 {
-    if node + 1 == nodes { 0 } else { node + 1 }
+    if node + 1 == nodes {
+        0
+    } else {
+        node + 1
+    }
 }
 
 /// The node before `node` in a ring of `nodes`.
 pub fn before(nodes: u8, node: u8) -> u8 {
-    if node == 0 { nodes - 1 } else { node - 1 }
+    if node == 0 {
+        nodes - 1
+    } else {
+        node - 1
+    }
 }
 
 /// "the first unlisted node going back from it". The walk ends at `from` itself where every
@@ -105,8 +113,13 @@ mod tests {
 
     /// The forward targets once more, by the paper's words over the nodes ahead in a row.
     fn targets_in_words(nodes: u8, list: u64, node: u8) -> Vec<u8> {
-        let unlisted: Vec<u8> = (0..nodes).map(|step| (node + step) % nodes).filter(|other| !listed(list, *other)).collect();
-        (0..).map(|power| 1 << power).take_while(|jump| *jump < unlisted.len()).map(|jump: usize| unlisted[jump]).collect()
+        let unlisted: Vec<u8> =
+            (0..nodes).map(|step| (node + step) % nodes).filter(|other| !listed(list, *other)).collect();
+        (0..)
+            .map(|power| 1 << power)
+            .take_while(|jump| *jump < unlisted.len())
+            .map(|jump: usize| unlisted[jump])
+            .collect()
     }
 
     #[test]
@@ -163,7 +176,9 @@ mod tests {
 
     #[test]
     fn table_refusals() {
-        for (nodes, list) in [(0, 0), (65, 0), (u64::MAX, 0), (1, 2), (8, 1 << 8), (63, 1 << 63), (0, u64::MAX)] {
+        for (nodes, list) in
+            [(0, 0), (65, 0), (u64::MAX, 0), (1, 2), (8, 1 << 8), (63, 1 << 63), (0, u64::MAX)]
+        {
             assert_eq!(forwarding_table(nodes, list), Err(3), "{nodes} {list:x}");
         }
         assert!(forwarding_table(63, 1 << 62).is_ok());

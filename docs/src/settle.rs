@@ -1,7 +1,7 @@
 //! Demand 3's words: no live node is listed; S; crashes that are spaced; the settled ring.
 
-use super::platform::Platform;
 use super::plan::Plan;
+use super::platform::Platform;
 use super::ring;
 
 /// K: "the base-two logarithm, rounded up, of how many survive (0 for none)".
@@ -29,9 +29,9 @@ pub fn no_live_node_listed(platform: &Platform) -> bool {
 pub fn crashes_spaced(platform: &Platform) -> bool {
     let plan = platform.plan();
     let done = &plan.crashes[..platform.crashes_done()];
-    done.windows(2).enumerate().all(|(row, pair)| {
-        u64::from(pair[1].tick) >= u64::from(pair[0].tick) + settling_time_of(plan, row)
-    })
+    done.windows(2)
+        .enumerate()
+        .all(|(row, pair)| u64::from(pair[1].tick) >= u64::from(pair[0].tick) + settling_time_of(plan, row))
 }
 
 /// "After a crash at tick c, S ticks have passed once no event due before c + S is left, those
@@ -40,7 +40,7 @@ pub fn settling_time_passed(platform: &mut Platform) -> bool {
     let Some(row) = platform.crashes_done().checked_sub(1) else { return false };
     let plan = platform.plan();
     let settled = u64::from(plan.crashes[row].tick) + settling_time_of(plan, row);
-    platform.earliest_due().map_or(true, |due| u64::from(due) >= settled)
+    platform.earliest_due().is_none_or(|due| u64::from(due) >= settled)
 }
 
 /// "every survivor lists exactly the crashed nodes, emits to the next survivor and observes the one
