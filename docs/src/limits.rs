@@ -22,6 +22,8 @@ pub const MAX_DELAY_NUMBER: u64 = 999_999;
 pub const MAX_NEXT_NUMBER: u64 = 4_000_000_000_000;
 /// Shortest part that takes a log line, in bytes.
 pub const LINE_BYTES: usize = 40;
+/// Shortest part that takes a node call's messages, in bytes.
+pub const MESSAGE_BYTES: usize = 56;
 /// Columns of a log line.
 pub const COLUMNS: usize = 5;
 /// Hexadecimal digits of a list.
@@ -49,3 +51,7 @@ pub const REFUSED_ROWS: u8 = 6;
 pub const REFUSED_EVENT: u8 = 8;
 /// A lent part that is too short.
 pub const REFUSED_PART: u8 = 9;
+/// A node call's message: unknown kind, or a sender or subject that it may not have.
+pub const REFUSED_MESSAGE: u8 = 11;
+/// A node call's tick before the record's last tick, or above `MAX_TICK`.
+pub const REFUSED_TICK: u8 = 12;

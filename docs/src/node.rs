@@ -44,7 +44,7 @@ pub struct Sends {
 }
 
 impl Sends {
-    fn none() -> Sends {
+    pub fn none() -> Sends {
         Sends { places: [Sent { receiver: 0, content: Content::Heartbeat }; MAX_SENDS], count: 0 }
     }
 
@@ -237,10 +237,10 @@ mod tests {
 
     #[test]
     fn a_node_alone_takes_a_new_observer() {
-        let mut node = Node::open(&Settings { nodes: 2, ..EIGHT }, 0);
-        node.expire_watch(&EIGHT, 10);
-        node.become_alone();
-        node.deliver(&EIGHT, 11, 1, Content::NewObserver);
+        let two = Settings { nodes: 2, ..EIGHT };
+        let mut node = Node::open(&two, 0);
+        node.expire_watch(&two, 10);
+        node.deliver(&two, 11, 1, Content::NewObserver);
         assert_eq!((node.emitter, node.observer, node.watch, node.heartbeat), (0, 1, None, Some(11)));
     }
 

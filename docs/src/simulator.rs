@@ -7,6 +7,7 @@
 //! - `plan`: the run file, read and written.
 //! - `ring`: the dead list, going back, forward targets, the forwarding table.
 //! - `node`: the rules of one node.
+//! - `record`: the node calls of a host.
 //! - `queue`: what is pending, in the order of the events.
 //! - `platform`: events, step and run.
 //! - `settle`: demand 3's words about safety and settling.
@@ -19,6 +20,7 @@ pub mod node;
 pub mod plan;
 pub mod platform;
 pub mod queue;
+pub mod record;
 pub mod ring;
 pub mod settle;
 

@@ -1,0 +1,164 @@
+//! The node calls of a host, on the fields of a node record; its bytes are the proved platform's
+//! concern. "A node call tries 10, 12, 11, then 9"; 10 is about bytes and does not arise here.
+
+use super::limits::*;
+use super::node::{Content, Node, Sends, Settings};
+
+/// What a node record holds: the node, N, H, W and the last tick.
+#[derive(Clone, Copy, PartialEq, Eq, Debug)]
+pub struct Record {
+    pub settings: Settings,
+    pub node: Node,
+    /// 0 at opening, then the tick of each accepted call.
+    pub last_tick: u32,
+}
+
+impl Record {
+    /// "One call opens a record", refused by 3 for "a number outside its range; W may be below H + D".
+    pub fn open(number: u64, nodes: u64, period: u64, timeout: u64) -> Result<Record, u8> {
+        let in_range = (1..=MAX_NODES).contains(&nodes)
+            && number < nodes
+            && (1..=MAX_PERIOD).contains(&period)
+            && (1..=MAX_TIMEOUT).contains(&timeout);
+        if !in_range {
+            return Err(REFUSED_RANGE);
+        }
+        let settings = Settings { nodes: nodes as u8, period: period as u32, timeout: timeout as u32 };
+        Ok(Record { settings, node: Node::open(&settings, number as u8), last_tick: 0 })
+    }
+
+    /// "One delivers a message." `kind` is the letter's byte; `part` the length of the message part.
+    pub fn deliver(
+        &mut self,
+        tick: u64,
+        kind: u64,
+        sender: u64,
+        subject: u64,
+        part: usize,
+    ) -> Result<Sends, u8> {
+        let tick = self.check_tick(tick)?;
+        let content = self.check_message(kind, sender, subject).ok_or(REFUSED_MESSAGE)?;
+        check_part(part)?;
+        self.last_tick = tick;
+        Ok(self.node.deliver(&self.settings, tick, sender as u8, content))
+    }
+
+    /// "One does the watch if due by this tick, else the heartbeat if due, else nothing."
+    pub fn do_timer(&mut self, tick: u64, part: usize) -> Result<Sends, u8> {
+        let tick = self.check_tick(tick)?;
+        check_part(part)?;
+        self.last_tick = tick;
+        let due = |timer: Option<u32>| timer.is_some_and(|due| due <= tick);
+        Ok(if due(self.node.watch) {
+            self.node.expire_watch(&self.settings, tick)
+        } else if due(self.node.heartbeat) {
+            self.node.send_heartbeat(&self.settings, tick)
+        } else {
+            Sends::none()
+        })
+    }
+
+    /// Refused "before the record's last tick, or above 1,000,000".
+    fn check_tick(&self, tick: u64) -> Result<u32, u8> {
+        let range = u64::from(self.last_tick)..=MAX_TICK;
+        range.contains(&tick).then_some(tick as u32).ok_or(REFUSED_TICK)
+    }
+
+    /// Nothing for an "unknown kind; sender not below N or the node itself; on R, subject not below
+    /// N or the node itself". On H and O the subject is not looked at.
+    fn check_message(&self, kind: u64, sender: u64, subject: u64) -> Option<Content> {
+        let is_other =
+            |node: u64| node < u64::from(self.settings.nodes) && node != u64::from(self.node.number);
+        let content = match u8::try_from(kind).ok()? {
+            b'H' => Content::Heartbeat,
+            b'O' => Content::NewObserver,
+            b'R' if is_other(subject) => Content::Report { subject: subject as u8 },
+            _ => return None,
+        };
+        is_other(sender).then_some(content)
+    }
+}
+
+fn check_part(length: usize) -> Result<(), u8> {
+    if length < MESSAGE_BYTES {
+        Err(REFUSED_PART)
+    } else {
+        Ok(())
+    }
+}
+
+#[cfg(test)]
+mod tests {
+    use super::*;
+
+    const H: u64 = b'H' as u64;
+    const O: u64 = b'O' as u64;
+    const R: u64 = b'R' as u64;
+
+    fn record() -> Record {
+        Record::open(1, 8, 2, 10).unwrap()
+    }
+
+    #[test]
+    fn opening() {
+        let record = record();
+        assert_eq!((record.node.number, record.node.emitter, record.last_tick), (1, 0, 0));
+        assert!(Record::open(0, 2, 1_000, 1).is_ok());
+        let bad =
+            [(8, 8, 2, 10), (0, 0, 2, 10), (0, 65, 2, 10), (0, 8, 0, 10), (0, 8, 1_001, 10), (0, 8, 2, 0)];
+        for (number, nodes, period, timeout) in bad {
+            assert_eq!(Record::open(number, nodes, period, timeout), Err(3));
+        }
+        assert_eq!(Record::open(0, 8, 2, 65_536), Err(3));
+        assert_eq!(Record::open(u64::MAX, u64::MAX, u64::MAX, u64::MAX), Err(3));
+    }
+
+    #[test]
+    fn refusals_in_order_leave_the_record() {
+        let mut record = Record { last_tick: 5, ..record() };
+        let before = record;
+        for (tick, kind, sender, subject, part, number) in [
+            (4, 0, 9, 9, 0, 12),
+            (1_000_001, H, 0, 0, 56, 12),
+            (u64::MAX, H, 0, 0, 56, 12),
+            (5, 0, 0, 0, 0, 11),
+            (5, H + 256, 0, 0, 56, 11),
+            (5, H, 1, 0, 0, 11),
+            (5, H, 8, 0, 56, 11),
+            (5, O, 256, 0, 56, 11),
+            (5, R, 0, 1, 56, 11),
+            (5, R, 0, 8, 56, 11),
+            (5, R, 1, 2, 56, 11),
+            (5, H, 0, 0, 55, 9),
+            (5, R, 0, 2, 0, 9),
+        ] {
+            let answer = record.deliver(tick, kind, sender, subject, part).map(|_| ());
+            assert_eq!(answer, Err(number), "{tick} {kind} {sender} {subject} {part}");
+        }
+        assert_eq!(record.do_timer(4, 0).map(|_| ()), Err(12));
+        assert_eq!(record.do_timer(5, 55).map(|_| ()), Err(9));
+        assert_eq!(record, before);
+    }
+
+    #[test]
+    fn an_accepted_call_keeps_its_tick() {
+        let mut record = record();
+        assert!(record.deliver(7, H, 3, u64::MAX, 56).unwrap().as_slice().is_empty());
+        assert_eq!((record.last_tick, record.node.watch), (7, Some(10)));
+        record.deliver(7, H, 0, 0, 56).unwrap();
+        assert_eq!((record.last_tick, record.node.watch), (7, Some(17)));
+        record.deliver(1_000_000, O, 3, 0, 56).unwrap();
+        assert_eq!((record.last_tick, record.node.heartbeat), (1_000_000, Some(1_000_000)));
+    }
+
+    #[test]
+    fn the_timer_call_does_one_thing() {
+        let mut record = record();
+        assert!(record.do_timer(1, 56).unwrap().as_slice().is_empty());
+        assert_eq!(record.do_timer(12, 56).unwrap().as_slice().len(), 1 + 3);
+        assert_eq!((record.node.watch, record.node.heartbeat), (Some(32), Some(2)));
+        assert_eq!(record.do_timer(12, 56).unwrap().as_slice()[0].content, Content::Heartbeat);
+        assert_eq!(record.node.heartbeat, Some(14));
+        assert!(record.do_timer(12, 56).unwrap().as_slice().is_empty());
+    }
+}
