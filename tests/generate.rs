@@ -1,6 +1,7 @@
 //! A seeded generator of run files, good and damaged.
 //!
-//! As a module: `file(seed, index)` gives the bytes of one file, `plan(seed, index)` an undamaged one.
+//! As a module: `file(seed, index)` gives the bytes of one file, `plan(seed, index)` an undamaged one,
+//! `spaced_plan(seed, index)` one whose crashes are all spaced by S.
 //! As a program: `generate SEED COUNT DIR` writes DIR/SEED-INDEX.run for each index below COUNT,
 //! `generate one SEED INDEX` writes that file to standard output. A file depends on its seed and
 //! index alone.
@@ -14,8 +15,10 @@ use std::process::ExitCode;
 const FILE_BYTES: usize = 65_536;
 /// Most L lines.
 const MAX_DELAY_ROWS: u64 = 2_048;
-/// About how many heartbeat events a plan may lead to.
+/// About how many events the heartbeats of a plan lead to.
 const HEARTBEAT_EVENTS: u64 = 6_000;
+/// Most events that the heartbeats of a damaged plan may lead to.
+const MOST_EVENTS: u64 = 20_000;
 
 /// Splitmix64.
 pub struct Random(u64);
@@ -241,12 +244,26 @@ fn put_delays(random: &mut Random, draft: &mut Draft) {
     }
 }
 
-/// Damages a file in one to three places.
-fn damage(random: &mut Random, mut bytes: Vec<u8>) -> Vec<u8> {
+/// Damages a file in one to three places. A file that would then run for long is left whole.
+fn damage(random: &mut Random, bytes: Vec<u8>) -> Vec<u8> {
+    let mut damaged = bytes.clone();
     for _ in 0..random.range(1, 3) {
-        damage_once(random, &mut bytes);
+        damage_once(random, &mut damaged);
     }
-    bytes
+    if runs_long(&damaged) {
+        bytes
+    } else {
+        damaged
+    }
+}
+
+/// Whether the first line is a P line whose heartbeats alone make more than `MOST_EVENTS` events.
+fn runs_long(bytes: &[u8]) -> bool {
+    let line = bytes.split(|byte| *byte == b'\n').next().unwrap_or(&[]);
+    let fields: Vec<u64> =
+        String::from_utf8_lossy(line).split(',').filter_map(|field| field.parse().ok()).collect();
+    let [nodes, period, _, _, end] = fields[..] else { return false };
+    2 * u128::from(nodes) * u128::from(end) > u128::from(MOST_EVENTS) * u128::from(period)
 }
 
 fn damage_once(random: &mut Random, bytes: &mut Vec<u8>) {
