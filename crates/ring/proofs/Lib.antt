@@ -1,0 +1,11 @@
+pub mod Laws
+pub mod Lists
+pub mod Rows
+pub mod Counts
+pub mod Searches
+pub mod TableLaws
+pub mod Orders
+pub mod Targets
+pub mod Unlisted
+pub mod Neighbours
+pub mod Hops

@@ -1,0 +1,94 @@
+-- One turn, and the end, of each search over a lent order: ahead, back, and for a place. Assumes nothing.
+use mathlib.Core.Path.{_≡_, refl, sym, _∙_}
+use mathlib.Core.Bool.{Bool, true, false, not}
+use mathlib.Core.List.{List, _∷_, reverse, reverse-append}
+use Prim.Native.Nat.{ℕ, zero, suc, _+_, _-_, _≤_, _<_}
+use native.Mathlib.Numerals.{add-one, sub-one}
+use native.Mathlib.Omega.{arith}
+use borrow.Author.Tests.{eq-eqb, ne-eqb, not-true, not-false}
+use lib.Arith.{le-zero}
+use lib.ListN.{length, getD, take, drop, drop-of-length-le}
+use lib.Seq.{take-suc, drop-cons, take-all}
+use Rattle.ring.specs.Ring.{keep, none, listed, unlisted, round, ahead, back, next, place}
+use Rattle.ring.proofs.Laws.{unlisted-yes, unlisted-no, length-round}
+
+-- one turn of a walk ahead, and of one back
+module _ (d s : ℕ) (l : List ℕ) (h : s < length l) where
+  pub ahead-yes : listed d (getD l s 0) ≡ false → unlisted d (drop s l) ≡ getD l s 0 ∷ unlisted d (drop (s + 1) l)
+  ahead-yes e = rw (add-one, drop-cons l s 0) (unlisted-yes d (getD l s 0) (drop (suc s) l) e)
+
+  pub ahead-no : listed d (getD l s 0) ≡ true → unlisted d (drop s l) ≡ unlisted d (drop (s + 1) l)
+  ahead-no e = rw (add-one, drop-cons l s 0) (unlisted-no d (getD l s 0) (drop (suc s) l) e)
+
+  back-take : reverse (take (suc s) l) ≡ getD l s 0 ∷ reverse (take s l)
+  back-take = rw (take-suc l s 0, reverse-append)
+
+  pub back-yes : listed d (getD l s 0) ≡ false → unlisted d (reverse (take (suc s) l)) ≡ getD l s 0 ∷ unlisted d (reverse (take s l))
+  back-yes e = rw back-take (unlisted-yes d (getD l s 0) (reverse (take s l)) e)
+
+  pub back-no : listed d (getD l s 0) ≡ true → unlisted d (reverse (take (suc s) l)) ≡ unlisted d (reverse (take s l))
+  back-no e = rw back-take (unlisted-no d (getD l s 0) (reverse (take s l)) e)
+
+-- The same for a turn of the code, which has read x at the place s of the round and asked b, whether it is listed.
+module _ (order : List ℕ) (d p s x : ℕ) (b : Bool) (h : s < length order) (e : x ≡ getD (round order p) s 0) (t : b ≡ listed d x) where
+  in-round : s < length (round order p)
+  in-round = rw length-round h
+
+  asked : (v : Bool) → b ≡ v → listed d (getD (round order p) s 0) ≡ v
+  asked v q = rw (← e) (sym t ∙ q)
+
+  pub turn-hit : (n : ℕ) → not b ≡ true → n ≡ 0 → x ≡ getD (unlisted d (drop s (round order p))) n none
+  turn-hit n q z = rw (z, ahead-yes d s (round order p) in-round (asked false (not-true b q))) e
+
+  pub turn-pass : (n : ℕ) → not b ≡ true → (n ≡ 0 → ⊥) → getD (unlisted d (drop s (round order p))) n none ≡ getD (unlisted d (drop (s + 1) (round order p))) (n - 1) none
+  turn-pass zero q z = absurd (z refl)
+  turn-pass (suc n) q z = rw (ahead-yes d s (round order p) in-round (asked false (not-true b q)), sub-one)
+
+  pub turn-skip : (n : ℕ) → not b ≡ false → getD (unlisted d (drop s (round order p))) n none ≡ getD (unlisted d (drop (s + 1) (round order p))) n none
+  turn-skip n q = rw (ahead-no d s (round order p) in-round (asked true (not-false b q)))
+
+  -- going back, the turn leaves s of the n places that were left
+  pub turn-back-hit : (n : ℕ) → n ≡ suc s → not b ≡ true → x ≡ getD (unlisted d (reverse (take n (round order p)))) 0 none
+  turn-back-hit n m q = rw (m, back-yes d s (round order p) in-round (asked false (not-true b q))) e
+
+  pub turn-back-skip : (n : ℕ) → n ≡ suc s → not b ≡ false → unlisted d (reverse (take n (round order p))) ≡ unlisted d (reverse (take s (round order p)))
+  turn-back-skip n m q = rw m (back-no d s (round order p) in-round (asked true (not-false b q)))
+
+-- after the last turn
+pub turn-done : (order : List ℕ) (d p s n : ℕ) → length order ≤ s → getD (unlisted d (drop s (round order p))) n none ≡ none
+unfolding unlisted keep
+turn-done order d p s n h = rw (drop-of-length-le (round order p) {i = s} (rw length-round h))
+
+pub turn-back-start : (order : List ℕ) (d p : ℕ) → back order d p ≡ getD (unlisted d (reverse (take (length order) (round order p)))) 0 none
+unfolding back
+turn-back-start order d p = rw (take-all (length order) (round order p) (rw length-round (omega arith)))
+
+pub turn-back-done : (order : List ℕ) (d p s : ℕ) → s ≤ 0 → getD (unlisted d (reverse (take s (round order p)))) 0 none ≡ none
+unfolding unlisted keep
+turn-back-done order d p s h = rw (le-zero h)
+
+-- the next node by the search ahead, from the place after p or, past the last place, from the first
+pub next-after : (order : List ℕ) (d p : ℕ) → ahead order d (p + 1) 0 ≡ next order d p
+unfolding ahead next
+next-after order d p = rw add-one
+
+pub next-past : (order : List ℕ) (d p : ℕ) → length order ≤ p → ahead order d p 0 ≡ next order d p
+unfolding ahead next round
+next-past order d p h =
+    let g : length order ≤ suc p = omega arith in
+    rw (drop-of-length-le order {i = p} h, take-all p order h, drop-of-length-le order {i = suc p} g, take-all (suc p) order g)
+
+-- ---- places
+
+-- one turn of the search for a place
+pub place-hit : (order : List ℕ) (i p : ℕ) → p < length order → getD order p 0 ≡ i → p + place (drop p order) i ≡ p
+unfolding place
+place-hit order i p h e = rw (drop-cons order p 0, eq-eqb (getD order p 0) i e) (omega arith)
+
+pub place-pass : (order : List ℕ) (i p : ℕ) → p < length order → (getD order p 0 ≡ i → ⊥) → p + place (drop p order) i ≡ p + 1 + place (drop (p + 1) order) i
+unfolding place
+place-pass order i p h e = rw (add-one, drop-cons order p 0, ne-eqb (getD order p 0) i e) (omega arith)
+
+pub place-done : (order : List ℕ) (i p : ℕ) → length order ≤ p → p + place (drop p order) i ≡ p
+unfolding place
+place-done order i p h = rw (drop-of-length-le order {i = p} h) (omega arith)

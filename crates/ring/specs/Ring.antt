@@ -1,0 +1,125 @@
+-- The ring of nodes as document 01 fixes it: dead lists, going ahead and back, forward targets, the forwarding table.
+-- A node is a number. The ring is given by its order, a list that has each node below n once, and a place is a position
+-- in that list: 01's ring is number order, `numbers 0 n`, one instance. Assumes nothing.
+use mathlib.Core.Path.{_≡_}
+use mathlib.Core.Bool.{Bool, cond, not, _&&_}
+use mathlib.Core.List.{List, [], _∷_, _++_, map, reverse}
+use Prim.Native.Nat.{ℕ, zero, suc, _-_, _/_, _%_, _^_, _<_}
+use lib.Bits.{bitOr}
+use lib.Dec.{eqb, ltb, leb}
+use lib.ListN.{length, getD, take, drop, replicate}
+
+-- ---- 01's numbers
+
+-- "N is the number of nodes, 1 to 64"
+abbrev pub mostNodes : ℕ
+mostNodes = 64
+
+-- "rows of six targets"
+abbrev pub rowSize : ℕ
+rowSize = 6
+
+-- "255 where there is none"
+abbrev pub none : ℕ
+none = 255
+
+-- the refusal of a number outside its range
+abbrev pub outOfRange : ℕ
+outOfRange = 3
+
+-- ---- lists
+
+-- the numbers of a list that pass a test, in the list's order
+unfoldable pub keep : (ℕ → Bool) → List ℕ → List ℕ
+keep test [] = []
+keep test (x ∷ xs) = cond (test x) (x ∷ keep test xs) (keep test xs)
+
+-- n numbers from i on
+unfoldable pub numbers : ℕ → ℕ → List ℕ
+numbers i zero = []
+numbers i (suc n) = i ∷ numbers (suc i) n
+
+-- ---- "a dead list, a 64-bit number whose bit i stands for node i"
+
+-- d lists node i
+unfoldable pub listed : ℕ → ℕ → Bool
+listed d i = eqb (d / 2 ^ i % 2) 1
+
+-- d with node i listed
+unfoldable pub listing : ℕ → ℕ → ℕ
+listing d i = bitOr d (2 ^ i)
+
+-- the nodes of a list that d does not list
+unfoldable pub unlisted : ℕ → List ℕ → List ℕ
+unlisted d xs = keep (λ i. not (listed d i)) xs
+
+-- the nodes below n that d does not list, as a set like d: all bits below n, without d's
+unfoldable pub unlistedSet : ℕ → ℕ → ℕ
+unlistedSet n d = 2 ^ n - 1 - d % 2 ^ n
+
+-- ---- "nodes are 0 to N−1 in a ring"
+
+-- the place of node i, or the list's length where it has none
+unfoldable pub place : List ℕ → ℕ → ℕ
+place [] i = zero
+place (x ∷ xs) i = cond (eqb x i) zero (suc (place xs i))
+
+-- the order has each node below n once: n places with nodes below n, a place for each node, and no second place
+pub record InOrder (n : ℕ) (order : List ℕ) : Type 0 where
+  pub size : length order ≡ n
+  pub below : (q : ℕ) → q < n → getD order q 0 < n
+  pub placed : (k : ℕ) → k < n → place order k < n
+  pub has : (k : ℕ) → k < n → getD order (place order k) 0 ≡ k
+  pub once : (q : ℕ) → q < n → place order (getD order q 0) ≡ q
+
+-- the ring from the place p on, once round
+unfoldable pub round : List ℕ → ℕ → List ℕ
+round order p = drop p order ++ take p order
+
+-- "that many unlisted nodes ahead": the node k unlisted nodes ahead of the unlisted node at the place p
+unfoldable pub ahead : List ℕ → ℕ → ℕ → ℕ → ℕ
+ahead order d p k = getD (unlisted d (round order p)) k none
+
+-- "the first unlisted node going back" from the place p; the node there comes last
+unfoldable pub back : List ℕ → ℕ → ℕ → ℕ
+back order d p = getD (unlisted d (reverse (round order p))) 0 none
+
+-- the first unlisted node ahead of the place p; the node there comes last
+unfoldable pub next : List ℕ → ℕ → ℕ → ℕ
+next order d p = getD (unlisted d (round order (suc p))) 0 none
+
+-- ---- "Forward targets"
+
+-- "the count of unlisted nodes, m, the node itself included"
+unfoldable pub count : ℕ → ℕ → ℕ
+count n d = length (unlisted d (numbers 0 n))
+
+-- "each power of two below m, smallest first"; an exponent below m is enough, as 2 ^ m is above m
+unfoldable pub powers : ℕ → List ℕ
+powers m = keep (λ x. ltb x m) (map (λ j. 2 ^ j) (numbers 0 m))
+
+-- how many there are: the base-two logarithm of m, rounded up
+unfoldable pub jumps : ℕ → ℕ
+jumps m = length (powers m)
+
+-- the forward targets of the unlisted node at the place p; d is "the list after the change"
+unfoldable pub targets : List ℕ → ℕ → ℕ → List ℕ
+targets order d p = map (ahead order d p) (powers (count (length order) d))
+
+-- ---- "The forwarding table of a dead list"
+
+-- "six targets, 255 where there is none"
+unfoldable pub row : List ℕ → List ℕ
+row ts = ts ++ replicate (rowSize - length ts) none
+
+-- "the rows of listed nodes and of numbers from N on are all 255"
+unfoldable pub tableRow : List ℕ → ℕ → ℕ → List ℕ
+tableRow order d i = row (cond (ltb i (length order) && not (listed d i)) (targets order d (place order i)) [])
+
+-- "N outside 1 to 64, or a list with a bit from N on, is refused by 3"
+unfoldable pub tableAnswer : ℕ → ℕ → ℕ
+tableAnswer n d = cond (leb 1 n && leb n mostNodes && ltb d (2 ^ n)) 0 outOfRange
+
+-- "64 rows" in number order; of a refused table, all are empty
+unfoldable pub tableRows : ℕ → ℕ → List (List ℕ)
+tableRows n d = cond (eqb (tableAnswer n d) 0) (map (tableRow (numbers 0 n) d) (numbers 0 mostNodes)) (replicate mostNodes (row []))
