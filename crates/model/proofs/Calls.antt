@@ -1,0 +1,119 @@
+-- Any list of calls leaves the state after the first e events, and e comes from the calls alone. Assumes nothing.
+use mathlib.Core.Path.{_≡_, refl, sym, ap, _∙_}
+use mathlib.Core.Bool.{Bool, true, false, cond}
+use mathlib.Core.List.{List, [], _∷_, _++_}
+use mathlib.Core.Option.{Option, none, some}
+use mathlib.Core.Logic.{_≢_}
+use Prim.Native.Nat.{ℕ, zero, suc, _+_, _≤_}
+use native.Mathlib.Nat.{zero-add}
+use native.Mathlib.Omega.{arith}
+use lib.Dec.{ltb}
+use Rattle.runfile.specs.Plan.{Plan}
+use Rattle.model.specs.Platform.{lineRoom, State, Entry, Outcome, did, ended, refused, nextEvent, spent, finished, overfull, runAnswer, try, left, steps, eventCount, after, start, Call, step, run, asks, asked, events, called, calls}
+
+module _ (p : Plan) where
+  -- where no event is done, none ever is
+  stuck : (k : ℕ) (s : State) → left s (try p s) ≡ s → steps p k s ≡ s
+  unfolding steps
+  stuck zero s e = refl
+  stuck (suc k) s e = rw e (stuck k s e)
+
+  pub steps-add : (a b : ℕ) (s : State) → steps p (a + b) s ≡ steps p b (steps p a s)
+  unfolding steps
+  steps-add zero b s = rw zero-add
+  steps-add (suc a) b s = let e : suc a + b ≡ suc (a + b) = omega arith in rw e (steps-add a b (left s (try p s)))
+
+  -- k tries do as many events as are counted
+  pub counted : (k : ℕ) (s : State) → steps p k s ≡ steps p (eventCount p k s) s
+  unfolding steps eventCount left
+  counted zero s = refl
+  counted (suc k) s = go (try p s) refl (λ s'. counted k s')
+    where
+      go : (o : Outcome) → try p s ≡ o → ((s' : State) → steps p k s' ≡ steps p (eventCount p k s') s') → steps p k (left s o) ≡ steps p (elim o [ did e s' ↦ suc (eventCount p k s') | ended ↦ zero | refused ↦ zero ]) s
+      go (did e s') q ih = ih s' ∙ ap (λ (o : Outcome). steps p (eventCount p k s') (left s o)) (sym q)
+      go ended q ih = stuck k s (ap (left s) q)
+      go refused q ih = stuck k s (ap (left s) q)
+
+  pub count-le : (k : ℕ) (s : State) → eventCount p k s ≤ k
+  unfolding eventCount
+  count-le zero s = omega arith
+  count-le (suc k) s = go (try p s) (λ s'. count-le k s')
+    where
+      go : (o : Outcome) → ((s' : State) → eventCount p k s' ≤ k) → elim o [ did e s' ↦ suc (eventCount p k s') | ended ↦ zero | refused ↦ zero ] ≤ suc k
+      go (did e s') ih = omega (arith, ih s')
+      go ended ih = omega arith
+      go refused ih = omega arith
+
+  -- where none is left, or the next is refused, none is counted
+  none-left : (k : ℕ) (s : State) → try p s ≡ ended → eventCount p k s ≡ zero
+  unfolding eventCount
+  none-left zero s q = refl
+  none-left (suc k) s q = go (try p s) q
+    where
+      go : (o : Outcome) → o ≡ ended → elim o [ did e s' ↦ suc (eventCount p k s') | ended ↦ zero | refused ↦ zero ] ≡ zero
+      go o e = rw e
+
+  none-fits : (k : ℕ) (s : State) → try p s ≡ refused → eventCount p k s ≡ zero
+  unfolding eventCount
+  none-fits zero s q = refl
+  none-fits (suc k) s q = go (try p s) q
+    where
+      go : (o : Outcome) → o ≡ refused → elim o [ did e s' ↦ suc (eventCount p k s') | ended ↦ zero | refused ↦ zero ] ≡ zero
+      go o e = rw e
+
+  -- events add up over calls
+  pub count-add : (a b : ℕ) (s : State) → eventCount p (a + b) s ≡ eventCount p a s + eventCount p b (steps p a s)
+  unfolding eventCount steps left
+  count-add zero b s = rw (zero-add b, zero-add)
+  count-add (suc a) b s = let e : suc a + b ≡ suc (a + b) = omega arith in rw e (go (try p s) refl (λ s'. count-add a b s'))
+    where
+      go : (o : Outcome) → try p s ≡ o → ((s' : State) → eventCount p (a + b) s' ≡ eventCount p a s' + eventCount p b (steps p a s'))
+          → elim o [ did e s' ↦ suc (eventCount p (a + b) s') | ended ↦ zero | refused ↦ zero ] ≡ elim o [ did e s' ↦ suc (eventCount p a s') | ended ↦ zero | refused ↦ zero ] + eventCount p b (steps p a (left s o))
+      go (did e s') q ih = omega (arith, ih s')
+      go ended q ih = rw (stuck a s (ap (left s) q)) (omega (arith, none-left b s q))
+      go refused q ih = rw (stuck a s (ap (left s) q)) (omega (arith, none-fits b s q))
+
+  called-steps : (c : Call) (s : State) → called p c s ≡ steps p (asks c) s
+  unfolding called asks steps
+  called-steps (run budget) s = refl
+  called-steps (step room) s = go (ltb room lineRoom)
+    where
+      go : (b : Bool) → cond b s (left s (try p s)) ≡ steps p (cond b 0 1) s
+      go true = refl
+      go false = refl
+
+  calls-steps : (cs : List Call) (s : State) → calls p cs s ≡ steps p (asked cs) s
+  unfolding calls asked steps
+  calls-steps [] s = refl
+  calls-steps (c ∷ cs) s = ap (calls p cs) (called-steps c s) ∙ calls-steps cs (steps p (asks c) s) ∙ sym (steps-add (asks c) (asked cs) s)
+
+  -- the events done are the first e
+  pub calls-after : (cs : List Call) → calls p cs (start p) ≡ after p (events p cs)
+  unfolding after events
+  calls-after cs = calls-steps cs (start p) ∙ counted (asked cs) (start p)
+
+  asked-then : (cs : List Call) (c : Call) → asked (cs ++ (c ∷ [])) ≡ asked cs + asks c
+  unfolding asked
+  asked-then [] c = omega arith
+  asked-then (b ∷ cs) c = omega (arith, asked-then cs c)
+
+  -- e is the sum of what each call does: one more call adds the events that it does from where the others left off
+  pub events-then : (cs : List Call) (c : Call) → events p (cs ++ (c ∷ [])) ≡ events p cs + eventCount p (asks c) (calls p cs (start p))
+  unfolding events
+  events-then cs c = rw (asked-then cs c, calls-steps cs (start p)) (count-add (asked cs) (asks c) (start p))
+
+  -- spent: the budget's events are done and another remains
+  pub spent-full : (k : ℕ) (s : State) → runAnswer p k s ≡ spent → (eventCount p k s ≡ k) × (nextEvent p (steps p k s) ≢ none)
+  unfolding runAnswer eventCount steps left
+  spent-full zero s h = (refl, λ e. never (nextEvent p s) e h)
+    where
+      never : (o : Option Entry) → o ≡ none → elim o [ none ↦ finished | some e ↦ spent ] ≡ spent → ⊥
+      never none e h = let z : _≡_ {A = ℕ} 0 1 = cc in omega arith
+      never (some x) e h = let z : _≡_ {A = ℕ} 0 1 = cc in omega arith
+  spent-full (suc k) s h = go (try p s) refl h (λ s' q. spent-full k s' q)
+    where
+      go : (o : Outcome) → try p s ≡ o → elim o [ did e s' ↦ runAnswer p k s' | ended ↦ finished | refused ↦ overfull ] ≡ spent → ((s' : State) → runAnswer p k s' ≡ spent → (eventCount p k s' ≡ k) × (nextEvent p (steps p k s') ≢ none))
+          → (elim o [ did e s' ↦ suc (eventCount p k s') | ended ↦ zero | refused ↦ zero ] ≡ suc k) × (nextEvent p (steps p k (left s o)) ≢ none)
+      go (did e s') q h ih = (ap suc ((ih s' h) .0), (ih s' h) .1)
+      go ended q h ih = let z : _≡_ {A = ℕ} 0 1 = cc in absurd (omega arith)
+      go refused q h ih = let z : _≡_ {A = ℕ} 0 1 = cc in absurd (omega arith)

@@ -1,0 +1,259 @@
+-- Definitions for the proof of demand 3: a state as the proof sees it, and each kind of event as a relation between two such states.
+-- Assumes nothing.
+use mathlib.Core.Path.{_≡_}
+use mathlib.Core.Logic.{_⊎_, _≢_}
+use mathlib.Core.List.{List, [], _∷_, List·Memᴰ}
+use mathlib.Core.Bool.{Bool, true, false}
+use Prim.Native.Nat.{ℕ, suc, _+_, _*_, _^_, _≤_, _<_}
+use Rattle.node.specs.Node.{H, O, R}
+use Rattle.model.specs.Platform.{InFlight}
+use Rattle.model.proofs.RingOrder.{iter, First}
+
+-- ---- states
+
+-- a node, its timers as on or off and a tick, its dead list as a test
+pub record Seen : Type 0 where
+  pub alive : Bool
+  pub emitter : ℕ
+  pub observer : ℕ
+  pub watchOn : Bool
+  pub watch : ℕ
+  pub heartbeatOn : Bool
+  pub heartbeat : ℕ
+  pub list : ℕ → Bool
+
+-- the last event's tick, the nodes, the messages in flight
+pub record View : Type 0 where
+  pub last : ℕ
+  pub node : ℕ → Seen
+  pub flight : List InFlight
+
+abbrev pub Live : View → ℕ → Type 0
+Live s j = (s .node j) .alive ≡ true
+
+abbrev pub Dead : View → ℕ → Type 0
+Dead s j = (s .node j) .alive ≡ false
+
+-- j lists k
+abbrev pub Lists : View → ℕ → ℕ → Type 0
+Lists s j k = (s .node j) .list k ≡ true
+
+infix 40 _∈_
+abbrev pub _∈_ : InFlight → List InFlight → Type 0
+m ∈ l = List·Memᴰ m l
+
+-- ---- what a run file fixes, and the laws of its ring
+
+-- c k is the tick of node k's crash, where one is planned; gap j k is how many steps back from j the node k stands, a full round for j
+-- itself; cnt is the count of unlisted nodes, ahead l x k the node k unlisted nodes ahead of x
+pub record Params : Type 0 where
+  pub N : ℕ
+  pub H : ℕ
+  pub W : ℕ
+  pub D : ℕ
+  pub planned : ℕ → Bool
+  pub c : ℕ → ℕ
+  pub planned-N : (k : ℕ) → planned k ≡ true → k < N
+  pub gap : ℕ → ℕ → ℕ
+  pub gap-inj : (j k l : ℕ) → j < N → gap j k ≡ gap j l → k ≡ l
+  pub gap-cyc : (j l i : ℕ) → j < N → l < N → j ≢ l → (gap l j < gap l i) ⊎ (gap j l < gap j i)
+  pub gap-add : (j i k : ℕ) → j < N → i < N → k < N → gap j i < gap j k → gap j k ≡ gap j i + gap i k
+  pub cnt : (ℕ → Bool) → ℕ
+  pub ahead : (ℕ → Bool) → ℕ → ℕ → ℕ
+  pub hops : (l : ℕ → Bool) (f : ℕ → ℕ) → First gap N l f → (y q : ℕ) → y < N → l y ≡ false → q < N → l q ≡ false → (d : ℕ) × (d < cnt l) × (iter f d y ≡ q)
+  pub ahead-is : (l : ℕ → Bool) (f : ℕ → ℕ) → First gap N l f → (y k : ℕ) → y < N → l y ≡ false → ahead l (iter f k y) k ≡ y
+  pub log : ℕ → ℕ
+  pub log-is : (m : ℕ) → m ≤ 2 ^ log m
+  pub D≥1 : 1 ≤ D
+  pub W≥ : H + D ≤ W
+
+module _ (p : Params) where
+  -- ---- what holds when an event is done
+
+  -- messages in flight are due at msg or later, live nodes' timers at t or later, crashes to come at crash or later
+  pub record Least (s : View) (t msg crash : ℕ) : Type 0 where
+    pub message≥ : (m : InFlight) → m ∈ s .flight → msg ≤ m .due
+    pub watch≥ : (j : ℕ) → Live s j → (s .node j) .watchOn ≡ true → t ≤ (s .node j) .watch
+    pub heartbeat≥ : (j : ℕ) → Live s j → (s .node j) .heartbeatOn ≡ true → t ≤ (s .node j) .heartbeat
+    pub crash≥ : (k : ℕ) → Live s k → p .planned k ≡ true → crash ≤ p .c k
+
+  -- nothing is left before a crash, a message or a timer at t: crashes come first in their tick, then messages, then timers
+  abbrev pub AtCrash : View → ℕ → Type 0
+  AtCrash s t = Least s t t t
+
+  abbrev pub AtMessage : View → ℕ → Type 0
+  AtMessage s t = Least s t t (suc t)
+
+  abbrev pub AtTimer : View → ℕ → Type 0
+  AtTimer s t = Least s t (suc t) (suc t)
+
+  -- ---- what an event changes
+
+  -- node x becomes n', the messages `gone` leave, the messages `out` are added
+  pub record Frame (s s' : View) (t x : ℕ) (n' : Seen) (gone out : List InFlight) : Type 0 where
+    pub last' : s' .last ≡ t
+    pub here : s' .node x ≡ n'
+    pub other : (j : ℕ) → j ≢ x → s' .node j ≡ s .node j
+    pub keep : (m : InFlight) → m ∈ s .flight → (m ∈ gone) ⊎ (m ∈ s' .flight)
+    pub came : (m : InFlight) → m ∈ s' .flight → (m ∈ s .flight) ⊎ (m ∈ out)
+    pub add : (m : InFlight) → m ∈ out → m ∈ s' .flight
+
+  -- a message sent by x at t
+  pub record Sent (x t : ℕ) (m : InFlight) : Type 0 where
+    pub by : m .from ≡ x
+    pub after : t < m .due
+    pub within : m .due ≤ t + p .D
+    pub self : m .to ≢ x
+    pub inN : m .to < p .N
+
+  -- R of k, sent by x at t to all its forward targets
+  pub record Reports (x t k : ℕ) (list' : ℕ → Bool) (l : List InFlight) : Type 0 where
+    pub each : (m : InFlight) → m ∈ l → Sent x t m
+    pub kinds : (m : InFlight) → m ∈ l → m .kind ≡ R
+    pub subject : (m : InFlight) → m ∈ l → m .subject ≡ k
+    pub complete : (b : ℕ) → 2 ^ b < p .cnt list' → (m : InFlight) × (m ∈ l) × (m .to ≡ p .ahead list' x (2 ^ b))
+
+  -- e is the first unlisted node going back from i, seen from x
+  pub record Back (x i e : ℕ) (list : ℕ → Bool) : Type 0 where
+    pub inN : e < p .N
+    pub unlisted : list e ≡ false
+    pub past : p .gap x i < p .gap x e
+    pub passed : (k : ℕ) → p .gap x i < p .gap x k → p .gap x k < p .gap x e → list k ≡ true
+
+  -- list' is list with k added
+  pub record Adds (list list' : ℕ → Bool) (k : ℕ) : Type 0 where
+    pub kept : (a : ℕ) → list a ≡ true → list' a ≡ true
+    pub is : list' k ≡ true
+    pub only : (a : ℕ) → list' a ≡ true → (list a ≡ true) ⊎ (a ≡ k)
+
+  -- ---- the node after its event
+
+  abbrev pub crashed : Seen → Seen
+  crashed n = record { alive = false; emitter = n .emitter; observer = n .observer; watchOn = n .watchOn; watch = n .watch; heartbeatOn = n .heartbeatOn; heartbeat = n .heartbeat; list = n .list }
+
+  -- a heartbeat from the emitter came at t
+  abbrev pub beaten : Seen → ℕ → Seen
+  beaten n t = record { alive = true; emitter = n .emitter; observer = n .observer; watchOn = true; watch = t + p .W; heartbeatOn = n .heartbeatOn; heartbeat = n .heartbeat; list = n .list }
+
+  -- an O of a came at t
+  abbrev pub watching : Seen → ℕ → ℕ → Seen
+  watching n a t = record { alive = true; emitter = n .emitter; observer = a; watchOn = n .watchOn; watch = n .watch; heartbeatOn = true; heartbeat = t; list = n .list }
+
+  -- its list became l
+  abbrev pub listing : Seen → (ℕ → Bool) → Seen
+  listing n l = record { alive = true; emitter = n .emitter; observer = n .observer; watchOn = n .watchOn; watch = n .watch; heartbeatOn = n .heartbeatOn; heartbeat = n .heartbeat; list = l }
+
+  -- its watch expired at t: the list became l, the emitter e
+  abbrev pub moving : Seen → (ℕ → Bool) → ℕ → ℕ → Seen
+  moving n l e t = record { alive = true; emitter = e; observer = n .observer; watchOn = true; watch = t + 2 * p .W; heartbeatOn = n .heartbeatOn; heartbeat = n .heartbeat; list = l }
+
+  -- alone
+  abbrev pub left : ℕ → (ℕ → Bool) → Seen
+  left x l = record { alive = true; emitter = x; observer = x; watchOn = false; watch = 0; heartbeatOn = false; heartbeat = 0; list = l }
+
+  -- its heartbeat was sent at t
+  abbrev pub sending : Seen → ℕ → Seen
+  sending n t = record { alive = true; emitter = n .emitter; observer = n .observer; watchOn = n .watchOn; watch = n .watch; heartbeatOn = true; heartbeat = t + p .H; list = n .list }
+
+  -- ---- the events
+
+  -- node k crashes at t, as planned
+  pub record Crash (s s' : View) (t k : ℕ) : Type 0 where
+    pub live : Live s k
+    pub plan : p .planned k ≡ true
+    pub at : p .c k ≡ t
+    pub least : AtCrash s t
+    pub frame : Frame s s' t k (crashed (s .node k)) [] []
+
+  -- a message to a crashed node
+  pub record Drop (s s' : View) (m : InFlight) : Type 0 where
+    pub has : m ∈ s .flight
+    pub dead : Dead s (m .to)
+    pub least : AtMessage s (m .due)
+    pub frame : Frame s s' (m .due) (m .to) (s .node (m .to)) (m ∷ []) []
+
+  -- a message that changes nothing: H not from the emitter, R of a listed node or of the receiver
+  pub record Idle (s s' : View) (m : InFlight) : Type 0 where
+    pub has : m ∈ s .flight
+    pub live : Live s (m .to)
+    pub why : ((m .kind ≡ H) × ((s .node (m .to)) .emitter ≢ m .from)) ⊎ ((m .kind ≡ R) × (Lists s (m .to) (m .subject) ⊎ (m .subject ≡ m .to)))
+    pub least : AtMessage s (m .due)
+    pub frame : Frame s s' (m .due) (m .to) (s .node (m .to)) (m ∷ []) []
+
+  -- a heartbeat from the emitter
+  pub record Beat (s s' : View) (m : InFlight) : Type 0 where
+    pub has : m ∈ s .flight
+    pub live : Live s (m .to)
+    pub kind : m .kind ≡ H
+    pub of : (s .node (m .to)) .emitter ≡ m .from
+    pub least : AtMessage s (m .due)
+    pub frame : Frame s s' (m .due) (m .to) (beaten (s .node (m .to)) (m .due)) (m ∷ []) []
+
+  -- message O
+  pub record Watched (s s' : View) (m : InFlight) : Type 0 where
+    pub has : m ∈ s .flight
+    pub live : Live s (m .to)
+    pub kind : m .kind ≡ O
+    pub least : AtMessage s (m .due)
+    pub frame : Frame s s' (m .due) (m .to) (watching (s .node (m .to)) (m .from) (m .due)) (m ∷ []) []
+
+  -- a report of a node that is not listed yet
+  pub record Report (s s' : View) (m : InFlight) (list' : ℕ → Bool) (out : List InFlight) : Type 0 where
+    pub has : m ∈ s .flight
+    pub live : Live s (m .to)
+    pub kind : m .kind ≡ R
+    pub adds : Adds ((s .node (m .to)) .list) list' (m .subject)
+    pub fresh : (s .node (m .to)) .list (m .subject) ≡ false
+    pub rs : Reports (m .to) (m .due) (m .subject) list' out
+    pub least : AtMessage s (m .due)
+    pub frame : Frame s s' (m .due) (m .to) (listing (s .node (m .to)) list') (m ∷ []) out
+
+  -- the watch of x is due at t
+  pub record Expiry (s : View) (t x : ℕ) (list' : ℕ → Bool) (e : ℕ) : Type 0 where
+    pub live : Live s x
+    pub on : (s .node x) .watchOn ≡ true
+    pub due : (s .node x) .watch ≡ t
+    pub adds : Adds ((s .node x) .list) list' ((s .node x) .emitter)
+    pub back : Back x ((s .node x) .emitter) e list'
+    pub least : AtTimer s t
+
+  -- the watch expires, and x moves to e: o is the O, out are the reports
+  pub record Moves (s s' : View) (t x : ℕ) (list' : ℕ → Bool) (e : ℕ) (o : InFlight) (out : List InFlight) : Type 0 where
+    pub expiry : Expiry s t x list' e
+    pub other : e ≢ x
+    pub o-by : o .from ≡ x
+    pub o-after : t < o .due
+    pub o-within : o .due ≤ t + p .D
+    pub o-kind : o .kind ≡ O
+    pub o-to : o .to ≡ e
+    pub rs : Reports x t ((s .node x) .emitter) list' out
+    pub frame : Frame s s' t x (moving (s .node x) list' e t) [] (o ∷ out)
+
+  -- the watch expires, and x is alone
+  pub record Alone (s s' : View) (t x : ℕ) (list' : ℕ → Bool) : Type 0 where
+    pub expiry : Expiry s t x list' x
+    pub frame : Frame s s' t x (left x list') [] []
+
+  -- the heartbeat of x is due at t: it sends m
+  pub record Sends (s s' : View) (t x : ℕ) (m : InFlight) : Type 0 where
+    pub live : Live s x
+    pub on : (s .node x) .heartbeatOn ≡ true
+    pub due : (s .node x) .heartbeat ≡ t
+    pub by : m .from ≡ x
+    pub after : t < m .due
+    pub within : m .due ≤ t + p .D
+    pub kind : m .kind ≡ H
+    pub to : m .to ≡ (s .node x) .observer
+    pub least : AtTimer s t
+    pub frame : Frame s s' t x (sending (s .node x) t) [] (m ∷ [])
+
+  pub data Step (s s' : View) : Type 0 where
+    crash : (t k : ℕ) → Crash s s' t k → Step s s'
+    drop : (m : InFlight) → Drop s s' m → Step s s'
+    idle : (m : InFlight) → Idle s s' m → Step s s'
+    beat : (m : InFlight) → Beat s s' m → Step s s'
+    watched : (m : InFlight) → Watched s s' m → Step s s'
+    report : (m : InFlight) (list' : ℕ → Bool) (out : List InFlight) → Report s s' m list' out → Step s s'
+    moves : (t x : ℕ) (list' : ℕ → Bool) (e : ℕ) (o : InFlight) (out : List InFlight) → Moves s s' t x list' e o out → Step s s'
+    alone : (t x : ℕ) (list' : ℕ → Bool) → Alone s s' t x list' → Step s s'
+    sends : (t x : ℕ) (m : InFlight) → Sends s s' t x m → Step s s'

@@ -1,0 +1,94 @@
+-- In reading order.
+
+-- ---- the ring in any order
+
+-- steps back, counts
+pub mod RingOrder
+-- searches node by node
+pub mod RingSearch
+-- searches over lists
+pub mod RingLists
+-- ---- the invariant, and each kind of event that keeps it: safety
+
+-- states and events as the proof sees them
+pub mod Events
+-- the invariant, part by part
+pub mod Invariant
+-- what every event does alike
+pub mod EveryEvent
+-- what the invariant says of one state
+pub mod OneState
+-- an event changes one node
+pub mod OneNode
+-- a watch stays covered
+pub mod WatchKept
+-- crash
+pub mod CrashDone
+-- a message that changes nothing
+pub mod MessageIgnored
+-- H from the emitter
+pub mod HeartbeatDelivered
+-- O
+pub mod ObserverDelivered
+-- R of an unlisted node
+pub mod ReportDelivered
+-- watch expired: the node moves or is alone
+pub mod WatchDue
+-- heartbeat sent
+pub mod HeartbeatDue
+-- opening, and any event
+pub mod InvariantKept
+-- ---- the phases of a run whose crashes are spaced: settling
+
+-- calm, unnoticed, spreading
+pub mod Phases
+-- events that keep the phase
+pub mod QuietEvents
+-- a crash out of calm
+pub mod CrashFromCalm
+-- the crash is noticed
+pub mod WatchExpires
+-- the report spreads in rounds
+pub mod ReportRounds
+-- a whole run
+pub mod SpacedRuns
+-- ---- the platform's definitions: the next event and the ranges
+
+-- nothing is left before the next event
+pub mod NextEvent
+-- the rules of a node
+pub mod RulesInRange
+-- opening, and any event
+pub mod RangesKept
+-- the cap on the next number
+pub mod NextNumber
+-- e from the calls alone
+pub mod Calls
+-- ---- the platform's events are those of the proof, and the theorems
+
+-- a state as the proof sees it
+pub mod Viewed
+-- each event
+pub mod EventSteps
+-- opening
+pub mod Opened
+-- any number of events
+pub mod Reached
+-- a settled node in the words of Demand3
+pub mod SettledNode
+-- SAFETY, SETTLING, RANGES, ANY CALLS
+pub mod Theorems
+-- ---- for the layers above: tests for number 7, plans, the search of the next event
+
+-- tests joined by && and ||
+pub mod Bools
+-- plans of run files
+pub mod Plans
+-- the ranges as tests, for number 7
+pub mod Tests
+-- the search of the next event
+pub mod Search
+-- ---- worked instances
+
+-- the starred logs, and a state that settles
+pub mod Worked

@@ -1,0 +1,361 @@
+-- Opening gives a sound state, and every event keeps it sound, whatever W. Assumes nothing.
+use mathlib.Core.Path.{_≡_, refl, sym, ap, _∙_}
+use mathlib.Core.Logic.{_⊎_, inl, inr, _≢_}
+use mathlib.Core.Bool.{Bool, true, false, cond, true≢false}
+use mathlib.Core.List.{List, [], _∷_, _++_, map, List·Memᴰ, List·Memᴰ·not-nil, List·Memᴰ·cases-cons, List·Memᴰ·head, List·Memᴰ·tail, List·Memᴰ·append-cases}
+use mathlib.Core.Option.{Option, none, some}
+use Prim.Native.Nat.{ℕ, zero, suc, _+_, _≤_, _<_}
+use native.Mathlib.Nat.{add-zero, zero-add}
+use native.Mathlib.Omega.{arith}
+use native.Mathlib.Decide.{ℕ-discrete, decLt}
+use borrow.Author.Tests.{leb-true, leb-false, lt-ltb, le-ltb}
+use lib.Dec.{eqb, leb}
+use lib.ListN.{length, getD, take, drop, length-set, length-map, List·getD-eq-default}
+use lib.Pow.{pow-pos}
+use lib.Seq.{getD-set-same, getD-set-other}
+use Rattle.ring.specs.Ring.{numbers, place, back, next, InOrder}
+use Rattle.ring.proofs.Rows.{length-numbers}
+use Rattle.node.specs.declared.Node.{Node}
+use Rattle.node.specs.declared.Message.{Message}
+use Rattle.node.specs.Node.{Turn, silent, alone, opening, onMessage, onWatchDue, onHeartbeatDue}
+use Rattle.runfile.specs.Plan.{Delay, Plan}
+use Rattle.model.specs.Platform.{InFlight, State, Event, Entry, crash, message, watch, heartbeat, alive, delayIn, delayOf, start, nextEvent, numbered, nodeOf, taken, noMessage, messageAt, without, received, apply, fits, Outcome, did, ended, refused, tried, try, left, steps, after}
+use Rattle.model.specs.Range.{rowAt, Plain, NodeRange, LiveRange, FlightRange, Rises, NotBefore, Sound}
+use Rattle.model.proofs.RingSearch.{up-at, down-at}
+use Rattle.model.proofs.RingLists.{ordOf, listed-none, open-back, open-next, down-other, up-other}
+use Rattle.model.proofs.NextEvent.{alive-other, alive-hit, Chosen, Best, best}
+use Rattle.model.proofs.RulesInRange.{Sendable, Standing, Took, message-took, beat-took, watch-took}
+
+-- ---- messages
+
+delay-in : (d k : ℕ) (rs : List Delay) → 1 ≤ d → ((r : Delay) → List·Memᴰ r rs → (1 ≤ r .delay) × (r .delay ≤ d)) → (1 ≤ delayIn d rs k) × (delayIn d rs k ≤ d)
+unfolding delayIn
+delay-in d k [] h f = (h, omega arith)
+delay-in d k (r ∷ rs) h f = go (eqb (r .number) k) (delay-in d k rs h (λ q m. f q (List·Memᴰ·tail m)))
+  where
+    go : (b : Bool) → (1 ≤ delayIn d rs k) × (delayIn d rs k ≤ d) → (1 ≤ cond b (r .delay) (delayIn d rs k)) × (cond b (r .delay) (delayIn d rs k) ≤ d)
+    go true ih = f r (List·Memᴰ·head refl)
+    go false ih = ih
+
+pub delay-ok : (p : Plan) → Plain p → (k : ℕ) → (1 ≤ delayOf p k) × (delayOf p k ≤ p .d)
+unfolding delayOf
+delay-ok p pl k = delay-in (p .d) k (p .delays) (pl .d≥) (pl .delay)
+
+pub record Given (p : Plan) (t x k : ℕ) (us : List Message) (m : InFlight) : Type 0 where
+  pub u : Message
+  pub has : List·Memᴰ u us
+  pub kind : m .kind ≡ u .kind
+  pub to : m .to ≡ u .to
+  pub subject : m .subject ≡ u .subject
+  pub from : m .from ≡ x
+  pub due : m .due ≡ t + delayOf p (m .number)
+
+module _ (p : Plan) (t x : ℕ) where
+  pub numbered-in : (us : List Message) (k : ℕ) (m : InFlight) → List·Memᴰ m (numbered p t x k us) → Given p t x k us m
+  unfolding numbered
+  numbered-in [] k m h = absurd (List·Memᴰ·not-nil h)
+  numbered-in (u ∷ us) k m h = go (List·Memᴰ·cases-cons h) (numbered-in us (suc k) m)
+    where
+      go : (m ≡ record { number = k; kind = u .kind; from = x; to = u .to; subject = u .subject; due = t + delayOf p k }) ⊎ List·Memᴰ m (numbered p t x (suc k) us) → (List·Memᴰ m (numbered p t x (suc k) us) → Given p t x (suc k) us m) → Given p t x k (u ∷ us) m
+      go (inl e) ih = rw e (record { u = u; has = List·Memᴰ·head refl; kind = refl; to = refl; subject = refl; from = refl; due = refl })
+      go (inr q) ih = let g : Given p t x (suc k) us m = ih q in record { u = g .u; has = List·Memᴰ·tail (g .has); kind = g .kind; to = g .to; subject = g .subject; from = g .from; due = g .due }
+
+  -- each that is sent is in flight
+  pub numbered-has : (us : List Message) (k : ℕ) (v : Message) → List·Memᴰ v us → (m : InFlight) × List·Memᴰ m (numbered p t x k us) × (m .to ≡ v .to)
+  unfolding numbered
+  numbered-has [] k v h = absurd (List·Memᴰ·not-nil h)
+  numbered-has (u ∷ us) k v h = go (List·Memᴰ·cases-cons h) (numbered-has us (suc k) v)
+    where
+      go : (v ≡ u) ⊎ List·Memᴰ v us → (List·Memᴰ v us → (m : InFlight) × List·Memᴰ m (numbered p t x (suc k) us) × (m .to ≡ v .to)) → (m : InFlight) × List·Memᴰ m (record { number = k; kind = u .kind; from = x; to = u .to; subject = u .subject; due = t + delayOf p k } ∷ numbered p t x (suc k) us) × (m .to ≡ v .to)
+      go (inl e) ih = (record { number = k; kind = u .kind; from = x; to = u .to; subject = u .subject; due = t + delayOf p k }, List·Memᴰ·head refl, ap (λ (a : Message). a .to) (sym e))
+      go (inr q) ih = let r : (m : InFlight) × List·Memᴰ m (numbered p t x (suc k) us) × (m .to ≡ v .to) = ih q in (r .0, List·Memᴰ·tail (r .1), r .2)
+
+  numbered-rises : (us : List Message) (k : ℕ) → Rises k (k + length us) (numbered p t x k us)
+  unfolding numbered Rises
+  numbered-rises [] k = omega arith
+  numbered-rises (u ∷ us) k = let e : k + suc (length us) ≡ suc k + length us = omega arith in (omega arith, rw e (numbered-rises us (suc k)))
+
+rises-low : (ms : List InFlight) (a b hi : ℕ) → a ≤ b → Rises b hi ms → Rises a hi ms
+unfolding Rises
+rises-low [] a b hi h r = omega arith
+rises-low (m ∷ ms) a b hi h r = (omega (arith, r .0), r .1)
+
+rises-append : (xs ys : List InFlight) (a b c : ℕ) → Rises a b xs → Rises b c ys → Rises a c (xs ++ ys)
+unfolding Rises
+rises-append [] ys a b c h r = rises-low ys a b c h r
+rises-append (x ∷ xs) ys a b c h r = (h .0, rises-append xs ys (suc (x .number)) b c (h .1) r)
+
+rises-without : (ms : List InFlight) (i a b : ℕ) → Rises a b ms → Rises a b (without i ms)
+unfolding Rises without
+rises-without [] zero a b h = h
+rises-without [] (suc i) a b h = h
+rises-without (m ∷ ms) zero a b h = rises-low ms a (suc (m .number)) b (omega (arith, h .0)) (h .1)
+rises-without (m ∷ ms) (suc i) a b h = (h .0, rises-without ms i (suc (m .number)) b (h .1))
+
+pub without-in : (ms : List InFlight) (i : ℕ) (m : InFlight) → List·Memᴰ m (without i ms) → List·Memᴰ m ms
+unfolding without
+without-in [] zero m h = h
+without-in [] (suc i) m h = h
+without-in (a ∷ ms) zero m h = List·Memᴰ·tail h
+without-in (a ∷ ms) (suc i) m h = go (List·Memᴰ·cases-cons h) (without-in ms i m)
+  where
+    go : (m ≡ a) ⊎ List·Memᴰ m (take i ms ++ drop (suc i) ms) → (List·Memᴰ m (take i ms ++ drop (suc i) ms) → List·Memᴰ m ms) → List·Memᴰ m (a ∷ ms)
+    go (inl e) ih = List·Memᴰ·head e
+    go (inr q) ih = List·Memᴰ·tail (ih q)
+
+pub without-has : (ms : List InFlight) (i : ℕ) (m : InFlight) → List·Memᴰ m ms → (m ≡ getD ms i noMessage) ⊎ List·Memᴰ m (without i ms)
+unfolding without
+without-has [] i m h = absurd (List·Memᴰ·not-nil h)
+without-has (a ∷ ms) zero m h = List·Memᴰ·cases-cons h
+without-has (a ∷ ms) (suc i) m h = go (List·Memᴰ·cases-cons h) (without-has ms i m)
+  where
+    go : (m ≡ a) ⊎ List·Memᴰ m ms → (List·Memᴰ m ms → (m ≡ getD ms i noMessage) ⊎ List·Memᴰ m (take i ms ++ drop (suc i) ms)) → (m ≡ getD ms i noMessage) ⊎ List·Memᴰ m (a ∷ (take i ms ++ drop (suc i) ms))
+    go (inl e) ih = inr (List·Memᴰ·head e)
+    go (inr q) ih = up (ih q)
+      where
+        up : (m ≡ getD ms i noMessage) ⊎ List·Memᴰ m (take i ms ++ drop (suc i) ms) → (m ≡ getD ms i noMessage) ⊎ List·Memᴰ m (a ∷ (take i ms ++ drop (suc i) ms))
+        up (inl e) = inl e
+        up (inr q) = inr (List·Memᴰ·tail q)
+
+pub at-mem : (ms : List InFlight) (i : ℕ) → i < length ms → List·Memᴰ (getD ms i noMessage) ms
+at-mem [] i h = absurd (omega arith)
+at-mem (m ∷ ms) zero h = List·Memᴰ·head refl
+at-mem (m ∷ ms) (suc i) h = List·Memᴰ·tail (at-mem ms i (omega arith))
+
+later-fields : (n h w t u : ℕ) (a : Node) → t ≤ u → NodeRange n h w t a → NodeRange n h w u a
+later-fields n h w t u a l f = record { emitter = f .emitter; observer = f .observer; list = f .list; watch = omega (arith, f .watch); heartbeat = omega (arith, f .heartbeat) }
+
+-- ---- an event
+
+module _ (p : Plan) (pl : Plain p) (s : State) (r : Sound p s) where
+  abbrev io : InOrder (p .n) (p .order)
+  io = pl .order
+
+  pub in-n : (x : ℕ) → x < length (s .nodes) → x < p .n
+  in-n x h = rw (r .nodes) at h
+
+  module _ (t : ℕ) (now≤ : s .last ≤ t) (end≥ : t ≤ p .end) where
+    -- one node takes a turn
+    module _ (x : ℕ) (xN : x < p .n) (rest : List InFlight) (u : Turn) where
+      pub here : nodeOf (taken p s t x rest u) x ≡ u .node
+      unfolding taken
+      here = getD-set-same (s .nodes) x (u .node) (alone x 0) (rw (r .nodes) xN)
+
+      pub other : (j : ℕ) → j ≢ x → nodeOf (taken p s t x rest u) j ≡ nodeOf s j
+      unfolding taken
+      other j ne = getD-set-other (s .nodes) x j (u .node) (alone j 0) ne
+
+      each : (P : ℕ → Node → Type 0) → P x (u .node) → ((j : ℕ) → j ≢ x → P j (nodeOf s j)) → (j : ℕ) → P j (nodeOf (taken p s t x rest u) j)
+      each P a b j = go (ℕ-discrete j x)
+        where
+          go : Dec (j ≡ x) → P j (nodeOf (taken p s t x rest u) j)
+          go (yes e) = rw (e, here) a
+          go (no e) = rw (other j e) (b j e)
+
+      pub taken-range : (c m : ℕ) → t ≤ c → t ≤ m → NotBefore p s c m t → ((g : InFlight) → List·Memᴰ g rest → List·Memᴰ g (s .flight)) → Rises 0 (s .next) rest
+          → NodeRange (p .n) (p .h) (p .w) t (u .node) → (alive p (s .done) x ≡ true → Standing (p .n) (p .order) io (p .h) (p .w) t x (u .node))
+          → ((v : Message) → List·Memᴰ v (u .sends) → Sendable (p .n) (p .order) io x v) → length ((taken p s t x rest u) .flight) ≤ 2048 → Sound p (taken p s t x rest u)
+      unfolding taken
+      taken-range c m tc tm nb sub ri fl st sd few = record {
+        done = r .done;
+        last = end≥;
+        nodes = length-set (s .nodes) x (u .node) ∙ r .nodes;
+        fields = λ j jN. each (λ j a. j < p .n → NodeRange (p .n) (p .h) (p .w) t a) (λ h. fl) (λ j e h. later-fields _ _ _ (s .last) t _ now≤ (r .fields j h)) j jN;
+        live = λ j a. each (λ j n. alive p (s .done) j ≡ true → LiveRange j n) (λ a. (st a) .apart) (λ j e a. r .live j a) j a;
+        flying = λ g h. fly g (List·Memᴰ·append-cases rest h);
+        rises = rises-append rest (numbered p t x (s .next) (u .sends)) 0 (s .next) (s .next + length (u .sends)) ri (numbered-rises p t x (u .sends) (s .next));
+        few = few;
+        past = record {
+          crash = λ i a b. omega (arith, nb .crash i a b);
+          message = λ g h. due g (List·Memᴰ·append-cases rest h);
+          watch = λ j a. each (λ j n. alive p (s .done) j ≡ true → n .watch ≢ 0 → t < n .watch) (λ a. (st a) .watch) (λ j e a. nb .watch j a) j a;
+          heartbeat = λ j a. each (λ j n. alive p (s .done) j ≡ true → n .heartbeat ≢ 0 → t < n .heartbeat) (λ a. (st a) .heartbeat) (λ j e a. nb .heartbeat j a) j a;
+        };
+      }
+        where
+          fly : (g : InFlight) → List·Memᴰ g rest ⊎ List·Memᴰ g (numbered p t x (s .next) (u .sends)) → FlightRange p t g
+          fly g (inl h) = let f : FlightRange p (s .last) g = r .flying g (sub g h) in record { kind = f .kind; from = f .from; to = f .to; subject = f .subject; apart = f .apart; due = omega (arith, f .due) }
+          fly g (inr h) =
+              let q : Given p t x (s .next) (u .sends) g = numbered-in p t x (u .sends) (s .next) g h in
+              let v : Sendable (p .n) (p .order) io x (q .u) = sd (q .u) (q .has) in
+              record { kind = rw (q .kind) (v .kind); from = rw (q .from) xN; to = rw (q .to) (v .to); subject = rw (q .subject) (v .subject); apart = λ e. v .apart (sym (q .to) ∙ sym e ∙ q .from); due = omega (arith, q .due, (delay-ok p pl (g .number)) .1) }
+
+          due : (g : InFlight) → List·Memᴰ g rest ⊎ List·Memᴰ g (numbered p t x (s .next) (u .sends)) → t ≤ g .due
+          due g (inl h) = omega (arith, nb .message g (sub g h))
+          due g (inr h) = omega (arith, (numbered-in p t x (u .sends) (s .next) g h) .due)
+
+    pub standing : (x : ℕ) → x < p .n → alive p (s .done) x ≡ true → (c m : ℕ) → NotBefore p s c m t → Standing (p .n) (p .order) io (p .h) (p .w) t x (nodeOf s x)
+    standing x xN a c m nb = record { fields = later-fields _ _ _ (s .last) t _ now≤ (r .fields x xN); apart = r .live x a; watch = nb .watch x a; heartbeat = nb .heartbeat x a }
+
+    -- the turn that each event makes
+    pub received-took : (m : InFlight) → List·Memᴰ m (s .flight) → alive p (s .done) (m .to) ≡ true → (c g : ℕ) → NotBefore p s c g t → Took (p .n) (p .order) io (p .h) (p .w) t (m .to) (onMessage (p .order) (p .w) t (m .to) (m .kind) (m .from) (m .subject) (nodeOf s (m .to)))
+    received-took m h a c g nb =
+        let f : FlightRange p (s .last) m = r .flying m h in
+        message-took (p .n) (p .order) io (p .h) (p .w) t (m .to) (f .to) (nodeOf s (m .to)) (standing (m .to) (f .to) a c g nb) (pl .n≤) (m .kind) (m .from) (m .subject) (f .from) (f .apart) (f .subject)
+
+    pub event-range : (ev : Event) → Chosen p pl s t ev → length ((apply p s t ev) .flight) ≤ 2048 → Sound p (apply p s t ev)
+    unfolding Chosen apply received
+    event-range (crash k) ch few = record {
+      done = ch .0;
+      last = end≥;
+      nodes = r .nodes;
+      fields = λ j jN. later-fields _ _ _ (s .last) t _ now≤ (r .fields j jN);
+      live = λ j a. r .live j (still j a);
+      flying = λ g h. let f : FlightRange p (s .last) g = r .flying g h in record { kind = f .kind; from = f .from; to = f .to; subject = f .subject; apart = f .apart; due = omega (arith, f .due) };
+      rises = r .rises;
+      few = few;
+      past = record {
+        crash = λ i a b. ch .3 .crash i (omega arith) b;
+        message = ch .3 .message;
+        watch = λ j a. ch .3 .watch j (still j a);
+        heartbeat = λ j a. ch .3 .heartbeat j (still j a);
+      };
+    }
+      where
+        still : (j : ℕ) → alive p (suc (s .done)) j ≡ true → alive p (s .done) j ≡ true
+        still j a = go (ℕ-discrete j ((rowAt p (s .done)) .node))
+          where
+            go : Dec (j ≡ (rowAt p (s .done)) .node) → alive p (s .done) j ≡ true
+            go (yes e) = absurd (true≢false (sym a ∙ rw e (alive-hit p pl (s .done) (ch .0))))
+            go (no e) = sym (alive-other p pl (s .done) j (ch .0) e) ∙ a
+    event-range (message i) ch few = go (alive p (s .done) ((messageAt s i) .to)) refl few
+      where
+        m : InFlight
+        m = messageAt s i
+
+        has : List·Memᴰ (messageAt s i) (s .flight)
+        has = at-mem (s .flight) i (ch .0)
+
+        toN : (messageAt s i) .to < p .n
+        toN = (r .flying (messageAt s i) has) .to
+
+        ranged : (u : Turn) → NodeRange (p .n) (p .h) (p .w) t (u .node) → (alive p (s .done) ((messageAt s i) .to) ≡ true → Standing (p .n) (p .order) io (p .h) (p .w) t ((messageAt s i) .to) (u .node))
+            → ((v : Message) → List·Memᴰ v (u .sends) → Sendable (p .n) (p .order) io ((messageAt s i) .to) v) → length ((taken p s t ((messageAt s i) .to) (without i (s .flight)) u) .flight) ≤ 2048 → Sound p (taken p s t ((messageAt s i) .to) (without i (s .flight)) u)
+        ranged u = taken-range ((messageAt s i) .to) toN (without i (s .flight)) u (suc t) t (omega arith) (omega arith) (ch .2) (without-in (s .flight) i) (rises-without (s .flight) i 0 (s .next) (r .rises))
+
+        go : (b : Bool) → alive p (s .done) ((messageAt s i) .to) ≡ b
+            → length ((taken p s t ((messageAt s i) .to) (without i (s .flight)) (cond b (onMessage (p .order) (p .w) t ((messageAt s i) .to) ((messageAt s i) .kind) ((messageAt s i) .from) ((messageAt s i) .subject) (nodeOf s ((messageAt s i) .to))) (silent (nodeOf s ((messageAt s i) .to))))) .flight) ≤ 2048
+            → Sound p (taken p s t ((messageAt s i) .to) (without i (s .flight)) (cond b (onMessage (p .order) (p .w) t ((messageAt s i) .to) ((messageAt s i) .kind) ((messageAt s i) .from) ((messageAt s i) .subject) (nodeOf s ((messageAt s i) .to))) (silent (nodeOf s ((messageAt s i) .to)))))
+        go true e few =
+            let k : Took (p .n) (p .order) io (p .h) (p .w) t ((messageAt s i) .to) (onMessage (p .order) (p .w) t ((messageAt s i) .to) ((messageAt s i) .kind) ((messageAt s i) .from) ((messageAt s i) .subject) (nodeOf s ((messageAt s i) .to))) = received-took (messageAt s i) has e (suc t) t (ch .2) in
+            ranged _ (k .node .fields) (λ a. k .node) (k .sends) few
+        go false e few = ranged _ (later-fields _ _ _ (s .last) t _ now≤ (r .fields ((messageAt s i) .to) toN)) (λ a. absurd (true≢false (sym a ∙ e))) (λ v m. absurd (List·Memᴰ·not-nil m)) few
+    event-range (watch x) ch few =
+        let xN : x < p .n = in-n x (ch .0) in
+        let st : Standing (p .n) (p .order) io (p .h) (p .w) t x (nodeOf s x) = standing x xN (ch .1) (suc t) (suc t) (ch .3) in
+        let k : Took (p .n) (p .order) io (p .h) (p .w) t x (onWatchDue (p .order) (p .w) t x (nodeOf s x)) = watch-took (p .n) (p .order) io (p .h) (p .w) t x xN (nodeOf s x) st (pl .n≤) (st .apart .observes (λ z. on (nodeOf s x .watch) z (ch .2))) in
+        taken-range x xN (s .flight) (onWatchDue (p .order) (p .w) t x (nodeOf s x)) (suc t) (suc t) (omega arith) (omega arith) (ch .3) (λ g h. h) (r .rises) (k .node .fields) (λ a. k .node) (k .sends) few
+      where
+        on : (v : ℕ) → v ≡ 0 → v ≡ suc t → ⊥
+        on v a b = omega arith
+    event-range (heartbeat x) ch few =
+        let xN : x < p .n = in-n x (ch .0) in
+        let st : Standing (p .n) (p .order) io (p .h) (p .w) t x (nodeOf s x) = standing x xN (ch .1) (suc t) (suc t) (ch .3) in
+        let k : Took (p .n) (p .order) io (p .h) (p .w) t x (onHeartbeatDue (p .h) t (nodeOf s x)) = beat-took (p .n) (p .order) io (p .h) (p .w) t x xN (nodeOf s x) st (pl .n≤) (λ z. on (nodeOf s x .heartbeat) z (ch .2)) in
+        taken-range x xN (s .flight) (onHeartbeatDue (p .h) t (nodeOf s x)) (suc t) (suc t) (omega arith) (omega arith) (ch .3) (λ g h. h) (r .rises) (k .node .fields) (λ a. k .node) (k .sends) few
+      where
+        on : (v : ℕ) → v ≡ 0 → v ≡ suc t → ⊥
+        on v a b = omega arith
+
+-- ---- opening
+
+getD-map : (f : ℕ → Node) (n j i : ℕ) (z : Node) → i < n → getD (map f (numbers j n)) i z ≡ f (j + i)
+unfolding numbers
+getD-map f zero j i z h = absurd (omega arith)
+getD-map f (suc n) j zero z h = rw add-zero
+getD-map f (suc n) j (suc i) z h = let e : suc j + i ≡ j + suc i = omega arith in getD-map f n (suc j) i z (omega arith) ∙ ap f e
+
+module _ (p : Plan) (pl : Plain p) where
+  -- a node in a ring of two or more
+  abbrev pub ringed : ℕ → Node
+  ringed j = record { emitter = back (p .order) 0 (place (p .order) j); observer = next (p .order) 0 (place (p .order) j); watch = suc (p .w); heartbeat = suc (p .h); list = 0 }
+
+  abbrev pub Shape : ℕ → Type 0
+  Shape j = ((1 < p .n) × (j < p .n) × (nodeOf (start p) j ≡ ringed j)) ⊎ ((nodeOf (start p) j ≡ alone j 0) × (1 < p .n → ¬ (j < p .n)))
+
+  pub shape : (j : ℕ) → Shape j
+  unfolding start opening
+  shape j = go (decLt j (p .n)) (decLt 1 (p .n))
+    where
+      size : length (p .order) ≡ p .n
+      size = pl .order .size
+
+      at : j < p .n → nodeOf (start p) j ≡ opening (p .order) (p .h) (p .w) j
+      at h = getD-map (opening (p .order) (p .h) (p .w)) (p .n) 0 j (alone j 0) h ∙ ap (opening (p .order) (p .h) (p .w)) (zero-add j)
+
+      go : Dec (j < p .n) → Dec (1 < p .n) → Shape j
+      go (no a) d = inr (List·getD-eq-default ((start p) .nodes) (alone j 0) {n = j} (rw (length-map, length-numbers) (omega arith)), λ x. a)
+      go (yes a) (yes b) = inl (b, a, at a ∙ rw (size, lt-ltb 1 (p .n) b))
+      go (yes a) (no b) = inr (at a ∙ rw (size, le-ltb 1 (p .n) (omega arith)), λ x. absurd (b x))
+
+  pub start-range : Sound p (start p)
+  unfolding start Rises
+  start-range = record {
+    done = omega arith;
+    last = omega arith;
+    nodes = length-map (numbers 0 (p .n)) (opening (p .order) (p .h) (p .w)) ∙ length-numbers (p .n) 0;
+    fields = λ j jN. fl j jN (shape j);
+    live = λ j a. ap' j (shape j);
+    flying = λ m h. absurd (List·Memᴰ·not-nil h);
+    rises = omega arith;
+    few = omega arith;
+    past = record { crash = λ i a b. omega arith; message = λ g h. omega arith; watch = λ j a o. omega arith; heartbeat = λ j a o. omega arith };
+  }
+    where
+      fl : (j : ℕ) → j < p .n → Shape j → NodeRange (p .n) (p .h) (p .w) 0 (nodeOf (start p) j)
+      fl j jN (inl x) = rw (x .2, open-back (p .n) (p .order) (pl .order) j jN, open-next (p .n) (p .order) (pl .order) j jN) (record { emitter = (down-at (p .n) (ordOf (p .n) (p .order) (pl .order)) j jN) .0; observer = (up-at (p .n) (ordOf (p .n) (p .order) (pl .order)) j jN) .0; list = pow-pos (p .n); watch = omega arith; heartbeat = omega arith })
+      fl j jN (inr x) = rw (x .0) (record { emitter = jN; observer = jN; list = pow-pos (p .n); watch = omega arith; heartbeat = omega arith })
+
+      ap' : (j : ℕ) → Shape j → LiveRange j (nodeOf (start p) j)
+      ap' j (inl x) = rw (x .2, open-back (p .n) (p .order) (pl .order) j (x .1), open-next (p .n) (p .order) (pl .order) j (x .1)) (record { lists = listed-none j; observes = λ z. down-other (p .n) (p .order) (pl .order) j (x .1) (x .0); sends = λ z. up-other (p .n) (p .order) (pl .order) j (x .1) (x .0) })
+      ap' j (inr x) = rw (x .0) (record { lists = listed-none j; observes = λ z. absurd (z refl); sends = λ z. absurd (z refl) })
+
+  -- ---- any number of events
+
+  -- an event that is chosen is not before the last one
+  pub not-early : (s : State) → Sound p s → (t : ℕ) (ev : Event) → Chosen p pl s t ev → s .last ≤ t
+  unfolding Chosen
+  not-early s r t (crash k) ch = omega (arith, r .past .crash (s .done) (omega arith) (ch .0), ch .1)
+  not-early s r t (message i) ch = omega (arith, r .past .message (messageAt s i) (at-mem (s .flight) i (ch .0)), ch .1)
+  not-early s r t (watch x) ch = omega (arith, r .past .watch x (ch .1) (λ z. on (nodeOf s x .watch) z (ch .2)), ch .2)
+    where
+      on : (v : ℕ) → v ≡ 0 → v ≡ suc t → ⊥
+      on v a b = omega arith
+  not-early s r t (heartbeat x) ch = omega (arith, r .past .heartbeat x (ch .1) (λ z. on (nodeOf s x .heartbeat) z (ch .2)), ch .2)
+    where
+      on : (v : ℕ) → v ≡ 0 → v ≡ suc t → ⊥
+      on v a b = omega arith
+
+  -- what a try gives: an event that was chosen, or nothing
+  pub data Tried (s : State) : Outcome → Type 0 where
+    happened : (e : Entry) → e .tick ≤ p .end → s .last ≤ e .tick → Chosen p pl s (e .tick) (e .event) → length ((apply p s (e .tick) (e .event)) .flight) ≤ 2048 → Tried s (did e (apply p s (e .tick) (e .event)))
+    none-left : NotBefore p s (suc (p .end)) (suc (p .end)) (suc (p .end)) → Tried s ended
+    too-many : (e : Entry) → Chosen p pl s (e .tick) (e .event) → 2048 < length ((apply p s (e .tick) (e .event)) .flight) → Tried s refused
+
+  pub try-ok : (s : State) → Sound p s → Tried s (try p s)
+  unfolding try tried Best fits
+  try-ok s r = go (nextEvent p s) (best p pl s)
+    where
+      go : (o : Option Entry) → Best p pl s o → Tried s (tried p s o)
+      go none b = none-left b
+      go (some e) b = at (leb (length ((apply p s (e .tick) (e .event)) .flight)) 2048) refl
+        where
+          at : (c : Bool) → leb (length ((apply p s (e .tick) (e .event)) .flight)) 2048 ≡ c → Tried s (cond c (did e (apply p s (e .tick) (e .event))) refused)
+          at true q = happened e (b .0) (not-early s r (e .tick) (e .event) (b .1)) (b .1) (leb-true _ 2048 q)
+          at false q = too-many e (b .1) (leb-false _ 2048 q)
+
+  pub left-range : (s : State) → Sound p s → (o : Outcome) → Tried s o → Sound p (left s o)
+  unfolding left
+  left-range s r o (happened e a b ch f) = event-range p pl s r (e .tick) b a (e .event) ch f
+  left-range s r o (none-left h) = r
+  left-range s r o (too-many e ch h) = r
+
+  pub steps-range : (k : ℕ) (s : State) → Sound p s → Sound p (steps p k s)
+  unfolding steps
+  steps-range zero s r = r
+  steps-range (suc k) s r = steps-range k (left s (try p s)) (left-range s r (try p s) (try-ok s r))
+
+  -- every state that a plan leads to is in range
+  pub after-range : (e : ℕ) → Sound p (after p e)
+  unfolding after
+  after-range e = steps-range e (start p) start-range

@@ -1,0 +1,181 @@
+-- A state of the platform as the proof sees it: the ring's order gives the parameters, and a turn of one node changes the view at that
+-- node alone. Assumes nothing.
+use mathlib.Core.Path.{_≡_, refl, sym, ap, _∙_}
+use mathlib.Core.Logic.{_⊎_, inl, inr, _≢_}
+use mathlib.Core.Bool.{Bool, true, false, cond, true≢false}
+use mathlib.Core.List.{List, [], _∷_, _++_, List·Memᴰ, List·Memᴰ·append-cases, Memᴰ·append-left, Memᴰ·append-right, Memᴰ·map, Memᴰ·of-map}
+use Prim.Native.Nat.{ℕ, zero, suc, _^_, _≤_, _<_}
+use native.Mathlib.Omega.{arith}
+use borrow.Author.Tests.{eq-eqb, ne-eqb}
+use lib.Dec.{eqb}
+use lib.ListN.{length, getD}
+use Rattle.ring.specs.Ring.{jumps, listed, listing, place, targets, InOrder}
+use Rattle.ring.proofs.Counts.{jumps-covers}
+use Rattle.node.specs.declared.Node.{Node}
+use Rattle.node.specs.declared.Message.{Message}
+use Rattle.node.specs.Node.{H, R, Turn, due, reports}
+use Rattle.runfile.specs.Plan.{Crash, Plan, hits}
+use Rattle.model.specs.Platform.{InFlight, State, alive, delayOf, numbered, nodeOf, taken}
+use Rattle.model.specs.Range.{noCrash, Plain, Accepted, NotBefore, Sound}
+use Rattle.model.proofs.RingOrder.{Order, gap, gap-inj, gap-cyc, gap-add, cnt, hops}
+use Rattle.model.proofs.RingSearch.{ahead as aheadOf, ahead-is}
+use Rattle.model.proofs.RingLists.{ordOf}
+use Rattle.model.proofs.Events.{View, Params, Frame, Least, Sent, Reports, Adds, crash, sends, Seen}
+use Rattle.model.proofs.NextEvent.{hit-where, undone}
+use Rattle.model.proofs.RulesInRange.{add-kept, add-is, add-only, Target, target-ok, target-has}
+use Rattle.model.proofs.RangesKept.{delay-ok, Given, numbered-in, numbered-has, here, other}
+
+-- ---- rows as a function of the node
+
+unfoldable pub tickIn : List Crash → ℕ → ℕ
+tickIn [] k = 0
+tickIn (r ∷ rs) k = cond (eqb (r .node) k) (r .tick) (tickIn rs k)
+
+pub tick-of : (rows : List Crash) (z : Crash) (i k : ℕ) → ((a b : ℕ) → a < b → b < length rows → (getD rows a z) .node ≢ (getD rows b z) .node) → i < length rows → (getD rows i z) .node ≡ k → tickIn rows k ≡ (getD rows i z) .tick
+unfolding tickIn
+tick-of [] z i k o h e = absurd (omega arith)
+tick-of (r ∷ rs) z zero k o h e = rw (eq-eqb (r .node) k e)
+tick-of (r ∷ rs) z (suc i) k o h e = rw (ne-eqb (r .node) k (λ q. o 0 (suc i) (omega arith) h (q ∙ sym e))) (tick-of rs z i k (λ a b x y. o (suc a) (suc b) (omega arith) (omega arith)) (omega arith) e)
+
+module _ (p : Plan) (ac : Accepted p) where
+  abbrev pub pl : Plain p
+  pl = ac .plain
+
+  abbrev o : Order (p .n)
+  o = ordOf (p .n) (p .order) (pl .order)
+
+  pub planned-N : (k : ℕ) → hits (p .crashes) k ≡ true → k < p .n
+  planned-N k h = let w : (i : ℕ) × (i < length (p .crashes)) × ((getD (p .crashes) i noCrash) .node ≡ k) = hit-where (p .crashes) noCrash k h in rw (sym (w .2)) (pl .node (w .0) (w .1))
+
+  abbrev pub P : Params
+  P = record {
+    N = p .n;
+    H = p .h;
+    W = p .w;
+    D = p .d;
+    planned = hits (p .crashes);
+    c = tickIn (p .crashes);
+    planned-N = planned-N;
+    gap = gap (p .n) o;
+    gap-inj = gap-inj (p .n) o;
+    gap-cyc = gap-cyc (p .n) o;
+    gap-add = gap-add (p .n) o;
+    cnt = cnt (p .n) o;
+    ahead = aheadOf (p .n) o;
+    hops = λ l f fs. hops (p .n) o l f fs;
+    ahead-is = λ l f fs. ahead-is (p .n) o l f fs;
+    log = jumps;
+    log-is = jumps-covers;
+    D≥1 = pl .d≥;
+    W≥ = ac .four;
+  }
+
+-- ---- a timer, a node and a state
+
+abbrev pub isOn : ℕ → Bool
+isOn zero = false
+isOn (suc t) = true
+
+abbrev pub tickOf : ℕ → ℕ
+tickOf zero = 0
+tickOf (suc t) = t
+
+pub on-is : (v : ℕ) → isOn v ≡ true → v ≡ suc (tickOf v)
+on-is zero h = absurd (true≢false (sym h))
+on-is (suc t) h = refl
+
+pub on-of : (v t : ℕ) → v ≡ suc t → (isOn v ≡ true) × (tickOf v ≡ t)
+on-of v t e = rw e (refl, refl)
+
+abbrev pub seen : Bool → Node → Seen
+seen b a = record { alive = b; emitter = a .emitter; observer = a .observer; watchOn = isOn (a .watch); watch = tickOf (a .watch); heartbeatOn = isOn (a .heartbeat); heartbeat = tickOf (a .heartbeat); list = listed (a .list) }
+
+abbrev pub view : Plan → State → View
+view p s = record { last = s .last; node = λ j. seen (alive p (s .done) j) (nodeOf s j); flight = s .flight }
+
+module _ (p : Plan) (ac : Accepted p) (s : State) (r : Sound p s) where
+  abbrev pub Q : Params
+  Q = P p ac
+
+  pub least : (c m t : ℕ) → NotBefore p s c m t → Least Q (view p s) t m c
+  least c m t nb = record {
+    message≥ = nb .message;
+    watch≥ = λ j l o. late ((nodeOf s j) .watch) o (nb .watch j l);
+    heartbeat≥ = λ j l o. late ((nodeOf s j) .heartbeat) o (nb .heartbeat j l);
+    crash≥ = λ k l q. cr k l (hit-where (p .crashes) noCrash k q);
+  }
+    where
+      late : (v : ℕ) → isOn v ≡ true → (v ≢ 0 → t < v) → t ≤ tickOf v
+      late v o f = let e : v ≡ suc (tickOf v) = on-is v o in omega (arith, f (λ z. off v z o))
+        where
+          off : (v : ℕ) → v ≡ 0 → isOn v ≡ true → ⊥
+          off v z o = omega (arith, on-is v o)
+
+      cr : (k : ℕ) → alive p (s .done) k ≡ true → (i : ℕ) × (i < length (p .crashes)) × ((getD (p .crashes) i noCrash) .node ≡ k) → c ≤ tickIn (p .crashes) k
+      cr k l w = rw (tick-of (p .crashes) noCrash (w .0) k ((ac .plain) .once) (w .1) (w .2)) (nb .crash (w .0) (undone p (ac .plain) (s .done) (w .0) (w .1) (rw (w .2) l)) (w .1))
+
+  -- a turn of one node
+  pub frame : (t x : ℕ) (gone rest : List InFlight) (u : Turn) (n' : Seen) → x < p .n → s .last ≤ t → t ≤ p .end → seen (alive p (s .done) x) (u .node) ≡ n'
+      → ((g : InFlight) → List·Memᴰ g (s .flight) → List·Memᴰ g gone ⊎ List·Memᴰ g rest) → ((g : InFlight) → List·Memᴰ g rest → List·Memᴰ g (s .flight))
+      → Frame Q (view p s) (view p (taken p s t x rest u)) t x n' gone (numbered p t x (s .next) (u .sends))
+  unfolding taken
+  frame t x gone rest u n' xN a b e kp cm = record {
+    last' = refl;
+    here = ap (seen (alive p (s .done) x)) (here p (ac .plain) s r t a b x xN rest u) ∙ e;
+    other = λ j ne. ap (seen (alive p (s .done) j)) (other p (ac .plain) s r t a b x xN rest u j ne);
+    keep = λ g h. k g (kp g h);
+    came = λ g h. c g (List·Memᴰ·append-cases rest h);
+    add = λ g h. Memᴰ·append-right rest h;
+  }
+    where
+      out : List InFlight
+      out = numbered p t x (s .next) (u .sends)
+
+      k : (g : InFlight) → List·Memᴰ g gone ⊎ List·Memᴰ g rest → List·Memᴰ g gone ⊎ List·Memᴰ g (rest ++ numbered p t x (s .next) (u .sends))
+      k g (inl h) = inl h
+      k g (inr h) = inr (Memᴰ·append-left (numbered p t x (s .next) (u .sends)) h)
+
+      c : (g : InFlight) → List·Memᴰ g rest ⊎ List·Memᴰ g (numbered p t x (s .next) (u .sends)) → List·Memᴰ g (s .flight) ⊎ List·Memᴰ g (numbered p t x (s .next) (u .sends))
+      c g (inl h) = inl (cm g h)
+      c g (inr h) = inr h
+
+  -- reports to the forward targets
+  pub told : (x t k d nr : ℕ) → x < p .n → listed d x ≡ false → Reports Q x t k (listed d) (numbered p t x nr (reports k (targets (p .order) d (place (p .order) x))))
+  unfolding reports
+  told x t k d nr xN un = record {
+    each = λ m h. one m (numbered-in p t x us nr m h);
+    kinds = λ m h. kd m (numbered-in p t x us nr m h);
+    subject = λ m h. sj m (numbered-in p t x us nr m h);
+    complete = λ b h. full b h;
+  }
+    where
+      io : InOrder (p .n) (p .order)
+      io = (ac .plain) .order
+
+      us : List Message
+      us = reports k (targets (p .order) d (place (p .order) x))
+
+      src : (u : Message) → List·Memᴰ u us → (y : ℕ) × List·Memᴰ y (targets (p .order) d (place (p .order) x)) × (record { kind = R; to = y; subject = k } ≡ u)
+      src u h = Memᴰ·of-map (λ y. record { kind = R; to = y; subject = k }) (targets (p .order) d (place (p .order) x)) h
+
+      one : (m : InFlight) → Given p t x nr us m → Sent Q x t m
+      one m g =
+          let q : (y : ℕ) × List·Memᴰ y (targets (p .order) d (place (p .order) x)) × (record { kind = R; to = y; subject = k } ≡ g .u) = src (g .u) (g .has) in
+          let z : Target (p .n) (p .order) ((ac .plain) .order) d x xN un (q .0) = target-ok (p .n) (p .order) ((ac .plain) .order) d x xN un (q .0) (q .1) in
+          let e : m .to ≡ q .0 = g .to ∙ ap (λ (v : Message). v .to) (sym (q .2)) in
+          let dl : (1 ≤ delayOf p (m .number)) × (delayOf p (m .number) ≤ p .d) = delay-ok p (ac .plain) (m .number) in
+          record { by = g .from; after = omega (arith, g .due); within = omega (arith, g .due); self = λ w. z .other (sym e ∙ w); inN = rw e (z .inN) }
+
+      kd : (m : InFlight) → Given p t x nr us m → m .kind ≡ R
+      kd m g = let q : (y : ℕ) × List·Memᴰ y (targets (p .order) d (place (p .order) x)) × (record { kind = R; to = y; subject = k } ≡ g .u) = src (g .u) (g .has) in g .kind ∙ ap (λ (v : Message). v .kind) (sym (q .2))
+
+      sj : (m : InFlight) → Given p t x nr us m → m .subject ≡ k
+      sj m g = let q : (y : ℕ) × List·Memᴰ y (targets (p .order) d (place (p .order) x)) × (record { kind = R; to = y; subject = k } ≡ g .u) = src (g .u) (g .has) in g .subject ∙ ap (λ (v : Message). v .subject) (sym (q .2))
+
+      full : (b : ℕ) → 2 ^ b < cnt (p .n) (ordOf (p .n) (p .order) ((ac .plain) .order)) (listed d) → (m : InFlight) × List·Memᴰ m (numbered p t x nr us) × (m .to ≡ aheadOf (p .n) (ordOf (p .n) (p .order) ((ac .plain) .order)) (listed d) x (2 ^ b))
+      full b h =
+          let y : ℕ = aheadOf (p .n) (ordOf (p .n) (p .order) ((ac .plain) .order)) (listed d) x (2 ^ b) in
+          numbered-has p t x us nr (record { kind = R; to = y; subject = k }) (Memᴰ·map (λ y. record { kind = R; to = y; subject = k }) (target-has (p .n) (p .order) ((ac .plain) .order) d x xN un b h))
+
+  pub adds : (d k : ℕ) → Adds Q (listed d) (listed (listing d k)) k
+  adds d k = record { kept = λ a h. add-kept d k a h; is = add-is d k; only = λ a h. add-only d k a h }

@@ -1,0 +1,226 @@
+-- A watch that expires expires on a node that crashed D ticks ago or earlier; the node that moves, or is alone, keeps the invariant.
+-- Assumes nothing.
+use mathlib.Core.Path.{_≡_, refl, ap, sym, _∙_}
+use mathlib.Core.Logic.{_⊎_, inl, inr, _≢_}
+use mathlib.Core.List.{List, [], _∷_, List·Memᴰ·not-nil, List·Memᴰ·cases-cons, List·Memᴰ·head}
+use mathlib.Core.Bool.{Bool, true, false, true≢false}
+use Prim.Native.Nat.{ℕ, _≤_, _<_}
+use native.Mathlib.Omega.{arith}
+use native.Mathlib.Decide.{ℕ-discrete, decLt}
+use Rattle.node.specs.Node.{H}
+use Rattle.model.specs.Platform.{InFlight}
+use Rattle.model.proofs.Events.{Seen, View, Live, Lists, _∈_, Params, Expiry, Moves, Alone, moving, left}
+use Rattle.model.proofs.Invariant.{Tied, Inv, Covered, byHeartbeat, byTimer, byObserver, byCrash}
+use Rattle.model.proofs.EveryEvent.{live-not-dead, NewMessage, GoneBy, Alike, base'}
+use Rattle.model.proofs.OneState.{live-unlisted, emitter-beats}
+use Rattle.model.proofs.OneNode.{each, alike, timers}
+use Rattle.model.proofs.WatchKept.{stays0, came0, Same, covered-map}
+
+module _ (p : Params) (s s' : View) (i : Inv p s) where
+  module _ (t x : ℕ) (list' : ℕ → Bool) (y : ℕ) (e : Expiry p s t x list' y) where
+    pub expiry-now : s .last ≤ t
+    expiry-now = omega (arith, (i .timers x (e .live)) .watch≥ (e .on), e .due)
+
+    pub expiry-other : (s .node x) .emitter ≢ x
+    expiry-other = (i .timers x (e .live)) .off (e .on)
+
+    -- the point of the whole: a watch that expires expires on a node that crashed D ticks ago or earlier
+    pub expiry-late : GoneBy p s t ((s .node x) .emitter)
+    expiry-late = go (i .covered x ((s .node x) .emitter) (e .live) refl expiry-other)
+      where
+        go : Covered p (s .flight) x ((s .node x) .emitter) ((s .node x) .watch) (s .node ((s .node x) .emitter)) → GoneBy p s t ((s .node x) .emitter)
+        go (byHeartbeat m h k f to u) = absurd (omega (arith, e .least .message≥ m h, e .due))
+        go (byTimer la o u) = absurd (omega (arith, e .due, p .D≥1, e .least .heartbeat≥ ((s .node x) .emitter) la (emitter-beats p s i x _ (e .live) refl expiry-other la)))
+        go (byObserver la m h k f to u) = absurd (omega (arith, e .least .message≥ m h, e .due))
+        go (byCrash d u) = record { dead = d; long = omega (arith, e .due) }
+
+    pub expiry-list' : (a : ℕ) → list' a ≡ true → Lists s x a ⊎ GoneBy p s t a
+    expiry-list' a h = go (e .adds .only a h)
+      where
+        go : Lists s x a ⊎ (a ≡ (s .node x) .emitter) → Lists s x a ⊎ GoneBy p s t a
+        go (inl h) = inl h
+        go (inr q) = inr (rw q expiry-late)
+
+    pub expiry-dead : (a : ℕ) → list' a ≡ true → Live s a → ⊥
+    expiry-dead a h la = go (expiry-list' a h)
+      where
+        go : Lists s x a ⊎ GoneBy p s t a → ⊥
+        go (inl h) = live-unlisted p s (i .base) x a h la
+        go (inr g) = live-not-dead la (g .dead)
+
+    pub expiry-between : (k : ℕ) → p .gap x k < p .gap x y → list' k ≡ true
+    expiry-between k h = go (decLt (p .gap x k) (p .gap x ((s .node x) .emitter))) (decLt (p .gap x ((s .node x) .emitter)) (p .gap x k))
+      where
+        go : Dec (p .gap x k < p .gap x ((s .node x) .emitter)) → Dec (p .gap x ((s .node x) .emitter) < p .gap x k) → list' k ≡ true
+        go (yes u) d = e .adds .kept k (i .base .between x k u)
+        go (no n) (yes u) = e .back .passed k u h
+        go (no n) (no m) = rw (p .gap-inj x k ((s .node x) .emitter) ((i .base .inN x expiry-other) .0) (omega arith)) (e .adds .is)
+
+  module _ (t x : ℕ) (list' : ℕ → Bool) (y : ℕ) (o : InFlight) (out : List InFlight) (e : Moves p s s' t x list' y o out) where
+    pub moves-all : (Q : ℕ → Seen → Seen → Type 0) → Q x (s .node x) (moving p (s .node x) list' y t) → ((j : ℕ) → Q j (s .node j) (s .node j)) → (j : ℕ) → Q j (s .node j) (s' .node j)
+    moves-all = each p s s' t x _ [] (o ∷ out) (e .frame)
+
+    moves-now : s .last ≤ t
+    moves-now = expiry-now t x list' y (e .expiry)
+
+    moves-new : (m : InFlight) → (m ≡ o) ⊎ (m ∈ out) → NewMessage p s s' t m
+    moves-new m (inl q) = rw q (record {
+      due = omega (arith, e .o-after);
+      from = λ pl. let pl' : p .planned x ≡ true = rw (sym (e .o-by)) pl in omega (arith, e .o-within, e .expiry .least .crash≥ x (e .expiry .live) pl', ap (p .c) (e .o-by));
+      self = λ q. e .other (sym (e .o-to) ∙ sym q ∙ e .o-by);
+      heartbeat = λ k. absurd (omega (arith, e .o-kind));
+      observer = λ k. inl (rw (e .o-by, e .frame .here) (sym (e .o-to)));
+      report = λ k. absurd (omega (arith, e .o-kind));
+      N = λ k. absurd (omega (arith, e .o-kind));
+    })
+    moves-new m (inr h) = record {
+      due = omega (arith, (e .rs .each m h) .after);
+      from = λ pl. let pl' : p .planned x ≡ true = rw (sym ((e .rs .each m h) .by)) pl in omega (arith, (e .rs .each m h) .within, e .expiry .least .crash≥ x (e .expiry .live) pl', ap (p .c) ((e .rs .each m h) .by));
+      self = λ q. (e .rs .each m h) .self (sym q ∙ (e .rs .each m h) .by);
+      heartbeat = λ k. absurd (omega (arith, e .rs .kinds m h));
+      observer = λ k. absurd (omega (arith, e .rs .kinds m h));
+      report = λ k. rw (e .rs .subject m h) (expiry-late t x list' y (e .expiry));
+      N = λ k. (e .rs .each m h) .inN;
+    }
+
+    pub moves-alike : Alike p s s' t
+    moves-alike = alike p s s' t x _ [] (o ∷ out) (e .frame) (e .expiry .least) (omega arith) (omega arith) moves-now record {
+      alive = λ h. e .expiry .live;
+      died = λ h. absurd (true≢false h);
+      list = e .expiry .adds .kept;
+      list' = expiry-list' t x list' y (e .expiry);
+      emitter = inr record {
+        inN = rw (e .frame .here) ((i .base .inN x (expiry-other t x list' y (e .expiry))) .0, e .expiry .back .inN);
+        left = rw (e .frame .here) (e .expiry .adds .is);
+        between = rw (e .frame .here) (expiry-between t x list' y (e .expiry));
+      };
+      observer = inl refl;
+      new = λ m h. moves-new m (List·Memᴰ·cases-cons h);
+    }
+
+    pub moves-sames : (j : ℕ) → Same (s .node j) (s' .node j)
+    moves-sames = moves-all (λ j n n'. Same n n') record { alive = sym (e .expiry .live); observer = refl; heartbeat = refl } (λ j. record { alive = refl; observer = refl; heartbeat = refl })
+
+    -- the new emitter, live or not
+    moves-here : (b : Bool) → (s .node y) .alive ≡ b → Covered p (s' .flight) x y ((moving p (s .node x) list' y t) .watch) (s .node y)
+    moves-here true la = byObserver la o (e .frame .add o (List·Memᴰ·head refl)) (e .o-kind) (e .o-by) (e .o-to) (omega (arith, e .o-within, p .W≥))
+    moves-here false da = byCrash da (omega (arith, (i .base .dead y da) .1, moves-now, p .W≥))
+
+    moves-covered : (j a : ℕ) → Live s' j → (s' .node j) .emitter ≡ a → a ≢ j → Covered p (s' .flight) j a ((s' .node j) .watch) (s' .node a)
+    moves-covered j a lj ej ne = go (ℕ-discrete j x)
+      where
+        go : Dec (j ≡ x) → Covered p (s' .flight) j a ((s' .node j) .watch) (s' .node a)
+        go (yes q) =
+            let ay : a ≡ y = sym ej ∙ rw (q, e .frame .here) in
+            rw (ay, e .frame .other y (e .other), q, e .frame .here) (moves-here _ refl)
+        go (no n) =
+            let same : s' .node j ≡ s .node j = e .frame .other j n in
+            rw same (covered-map p (s .flight) (s' .flight) j a _ _ _ _ (i .covered j a (moves-alike .alive j lj) (rw same at ej) ne) (omega arith) (moves-sames a)
+            (λ m h k f to. stays0 (s' .flight) m (e .frame .keep m h))
+            (λ la m h k f to. stays0 (s' .flight) m (e .frame .keep m h)))
+
+    moves-old : (m : InFlight) → m .kind ≡ H → (m ∈ s .flight) ⊎ (m ∈ (o ∷ out)) → m ∈ s .flight
+    moves-old m k (inl h) = h
+    moves-old m k (inr h) = absurd (go (List·Memᴰ·cases-cons h))
+      where
+        go : (m ≡ o) ⊎ (m ∈ out) → ⊥
+        go (inl q) = omega (arith, e .o-kind, ap (λ g. g .kind) q)
+        go (inr h) = omega (arith, e .rs .kinds m h)
+
+    -- no H of the new emitter was on its way
+    moves-fresh : (m : InFlight) → m ∈ s .flight → m .kind ≡ H → m .to ≡ x → m .from ≡ y → ⊥
+    moves-fresh m h k to fr = go (rw (to, fr) at (i .base .m-H m h k))
+      where
+        go : Tied p s x y → ⊥
+        go (inl q) = live-not-dead (e .expiry .adds .is) (rw (sym q) at (e .expiry .back .unlisted))
+        go (inr l) = live-not-dead (e .expiry .adds .kept y l) (e .expiry .back .unlisted)
+
+    moves-back : (m : InFlight) → m ∈ s' .flight → m .kind ≡ H → Live s' (m .from) → Live s' (m .to) → (s' .node (m .to)) .emitter ≡ m .from → m .from ≢ m .to → (s' .node (m .from)) .observer ≡ m .to
+    moves-back m h k lf lt em ne = moves-sames (m .from) .observer ∙ go (ℕ-discrete (m .to) x)
+      where
+        m0 : m ∈ s .flight
+        m0 = moves-old m k (e .frame .came m h)
+
+        go : Dec (m .to ≡ x) → (s .node (m .from)) .observer ≡ m .to
+        go (yes q) = absurd (moves-fresh m m0 k q (sym em ∙ rw (q, e .frame .here)))
+        go (no n) = i .answered m m0 k (moves-alike .alive (m .from) lf) (moves-alike .alive (m .to) lt) (rw (e .frame .other (m .to) n) at em) ne
+
+    pub moves-inv : Inv p s'
+    moves-inv = record {
+      base = base' p s s' t moves-alike (i .base);
+      timers = timers p s s' t x _ [] (o ∷ out) (e .frame) (e .expiry .least) moves-now i (λ l h. record {
+        on = λ ne. (refl, ((i .timers x l) .on (expiry-other t x list' y (e .expiry))) .1);
+        off = λ o. e .other;
+        watch≥ = λ o. omega arith;
+        heartbeat≥ = e .expiry .least .heartbeat≥ x l;
+        heartbeat≤ = λ o. omega (arith, moves-now, (i .timers x l) .heartbeat≤ o);
+        to = (i .timers x l) .to;
+      }) (λ h. e .expiry .live);
+      answered = moves-back;
+      covered = moves-covered;
+    }
+
+  module _ (t x : ℕ) (list' : ℕ → Bool) (e : Alone p s s' t x list') where
+    alone-now : s .last ≤ t
+    alone-now = expiry-now t x list' x (e .expiry)
+
+    pub alone-N : x < p .N
+    alone-N = (i .base .inN x (expiry-other t x list' x (e .expiry))) .0
+
+    pub alone-alike : Alike p s s' t
+    alone-alike = alike p s s' t x _ [] [] (e .frame) (e .expiry .least) (omega arith) (omega arith) alone-now record {
+      alive = λ h. e .expiry .live;
+      died = λ h. absurd (true≢false h);
+      list = e .expiry .adds .kept;
+      list' = expiry-list' t x list' x (e .expiry);
+      emitter = inr record {
+        inN = rw (e .frame .here) (alone-N, alone-N);
+        left = rw (e .frame .here) (e .expiry .adds .is);
+        between = rw (e .frame .here) (expiry-between t x list' x (e .expiry));
+      };
+      observer = inr (inr (inl (rw (e .frame .here))));
+      new = λ m h. absurd (List·Memᴰ·not-nil h);
+    }
+
+    -- the alone node lists every other, so no live node observes it
+    pub alone-only : (j : ℕ) → Live s j → (s .node j) .emitter ≡ x → j ≢ x → ⊥
+    alone-only j lj ej ne = go (p .gap-cyc j x x ((i .base .inN j (λ q. ne (sym q ∙ ej))) .0) alone-N ne)
+      where
+        go : (p .gap x j < p .gap x x) ⊎ (p .gap j x < p .gap j x) → ⊥
+        go (inl h) = expiry-dead t x list' x (e .expiry) j (expiry-between t x list' x (e .expiry) j h) lj
+        go (inr h) = omega arith
+
+    alone-covered : (j a : ℕ) → Live s' j → (s' .node j) .emitter ≡ a → a ≢ j → Covered p (s' .flight) j a ((s' .node j) .watch) (s' .node a)
+    alone-covered j a lj ej ne = go (ℕ-discrete j x) (ℕ-discrete a x)
+      where
+        go : Dec (j ≡ x) → Dec (a ≡ x) → Covered p (s' .flight) j a ((s' .node j) .watch) (s' .node a)
+        go (yes q) d = absurd (ne (sym ej ∙ rw (q, e .frame .here)))
+        go (no n) (yes r) = absurd (alone-only j (alone-alike .alive j lj) (rw (e .frame .other j n) at (ej ∙ r)) n)
+        go (no n) (no r) =
+            let same : s' .node j ≡ s .node j = e .frame .other j n in
+            rw (same, e .frame .other a r) (covered-map p (s .flight) (s' .flight) j a _ _ _ _ (i .covered j a (alone-alike .alive j lj) (rw same at ej) ne) (omega arith) record { alive = refl; observer = refl; heartbeat = refl }
+            (λ m h k f to. stays0 (s' .flight) m (e .frame .keep m h))
+            (λ la m h k f to. stays0 (s' .flight) m (e .frame .keep m h)))
+
+    alone-back : (m : InFlight) → m ∈ s' .flight → m .kind ≡ H → Live s' (m .from) → Live s' (m .to) → (s' .node (m .to)) .emitter ≡ m .from → m .from ≢ m .to → (s' .node (m .from)) .observer ≡ m .to
+    alone-back m h k lf lt em ne = go (ℕ-discrete (m .to) x) (ℕ-discrete (m .from) x)
+      where
+        go : Dec (m .to ≡ x) → Dec (m .from ≡ x) → (s' .node (m .from)) .observer ≡ m .to
+        go (yes q) d = absurd (ne (sym em ∙ rw (q, e .frame .here)))
+        go (no n) (yes r) = absurd (alone-only (m .to) (alone-alike .alive (m .to) lt) (rw (e .frame .other (m .to) n) at (em ∙ r)) n)
+        go (no n) (no r) = rw (e .frame .other (m .from) r) (i .answered m (came0 (s .flight) m (e .frame .came m h)) k (alone-alike .alive (m .from) lf) (alone-alike .alive (m .to) lt) (rw (e .frame .other (m .to) n) at em) ne)
+
+    pub alone-inv : Inv p s'
+    alone-inv = record {
+      base = base' p s s' t alone-alike (i .base);
+      timers = timers p s s' t x _ [] [] (e .frame) (e .expiry .least) alone-now i (λ l h. record {
+        on = λ ne. absurd (ne refl);
+        off = λ o. absurd (live-not-dead o refl);
+        watch≥ = λ o. absurd (live-not-dead o refl);
+        heartbeat≥ = λ o. absurd (live-not-dead o refl);
+        heartbeat≤ = λ o. absurd (live-not-dead o refl);
+        to = λ o. absurd (live-not-dead o refl);
+      }) (λ h. e .expiry .live);
+      answered = alone-back;
+      covered = alone-covered;
+    }

@@ -1,0 +1,74 @@
+-- DEMAND 3: between two crashes the platform settles, and no live node is ever listed. The statements, in the words of the
+-- customer's terms and of document 01's 'The platform'; proofs/Theorems.antt proves them. Assumes nothing.
+use mathlib.Core.Path.{_≡_}
+use mathlib.Core.Bool.{true, false}
+use mathlib.Core.List.{List, List·Memᴰ}
+use Prim.Native.Nat.{ℕ, suc, _+_, _*_, _^_, _≤_, _<_}
+use Rattle.ring.specs.Ring.{listed, jumps}
+use Rattle.runfile.specs.Plan.{Plan}
+use Rattle.model.specs.Platform.{State, Entry, Call, alive, survivors, nextSurvivor, survivorBefore, crashedList, start, nodeOf, pending, steps, after, events, calls}
+use Rattle.model.specs.Range.{rowAt, Sound, InRange}
+
+-- ---- safety
+
+-- No node's list, a crashed node's neither, holds a live node.
+pub record Safe (p : Plan) (s : State) : Type 0 where
+  pub unlisted : (j k : ℕ) → listed ((nodeOf s j) .list) k ≡ true → alive p (s .done) k ≡ false
+
+-- ---- settling
+
+-- k is the base-two logarithm of m, rounded up: the least number with m ≤ 2 ^ k, which for none is 0
+pub record LogRoundedUp (m k : ℕ) : Type 0 where
+  pub enough : m ≤ 2 ^ k
+  pub least : (j : ℕ) → m ≤ 2 ^ j → k ≤ j
+
+-- K for m survivors: how many powers of two are below m. It is the logarithm above: `logarithm` in proofs/Theorems.antt
+abbrev pub K : ℕ → ℕ
+K m = jumps m
+
+-- S = W + (K + 2) × D, for m survivors
+unfoldable pub S : Plan → ℕ → ℕ
+S p m = p .w + (K m + 2) * p .d
+
+-- the tick until which S is counted from the crash of C line i: its survivors are those of the first i + 1 lines
+unfoldable pub settledBy : Plan → ℕ → ℕ
+settledBy p i = (rowAt p i) .tick + S p (survivors p (suc i))
+
+-- Each of the first k crashes came at least S ticks after the one before.
+unfoldable pub Spaced : Plan → ℕ → Type 0
+Spaced p k = (i : ℕ) → suc i < k → settledBy p i ≤ (rowAt p (suc i)) .tick
+
+-- No event due before u is left: planned crashes, messages and timers of live nodes, those beyond the end tick too.
+unfoldable pub NoneLeftBefore : Plan → State → ℕ → Type 0
+NoneLeftBefore p s u = (e : Entry) → List·Memᴰ e (pending p s) → u ≤ e .tick
+
+-- node j lists exactly the crashed nodes, observes the survivor before it and emits to the next one
+pub record SettledAt (p : Plan) (s : State) (j : ℕ) : Type 0 where
+  pub list : (nodeOf s j) .list ≡ crashedList p (s .done)
+  pub emitter : (nodeOf s j) .emitter ≡ survivorBefore p (s .done) j
+  pub observer : (nodeOf s j) .observer ≡ nextSurvivor p (s .done) j
+
+-- Where i + 1 crashes are done, each at least S ticks after the one before, and S ticks have passed since the last, every
+-- survivor is settled.
+pub record Settles (p : Plan) (s : State) : Type 0 where
+  pub settled : (i : ℕ) → s .done ≡ suc i → Spaced p (suc i) → NoneLeftBefore p s (settledBy p i)
+      → (j : ℕ) → j < p .n → alive p (s .done) j ≡ true → SettledAt p s j
+
+-- ---- the demand, of the first e events of a file, for every e, and of any list of calls
+
+pub record Demand3 (p : Plan) : Type 0 where
+  pub safe : (e : ℕ) → Safe p (after p e)
+  pub settles : (e : ℕ) → Settles p (after p e)
+
+-- One store just opened, any list of steps and runs on it: the events done are the first e, e from the calls alone, and what
+-- they leave is safe and settles.
+pub record AnyCalls (p : Plan) (cs : List Call) : Type 0 where
+  pub reaches : calls p cs (start p) ≡ after p (events p cs)
+  pub safe : Safe p (calls p cs (start p))
+  pub settles : Settles p (calls p cs (start p))
+
+-- ---- nothing that the rules lead to is out of range, whatever W
+
+pub record NeverOutOfRange (p : Plan) : Type 0 where
+  pub reached : (e : ℕ) → InRange p (after p e)
+  pub kept : (s : State) → Sound p s → (k : ℕ) → Sound p (steps p k s)

@@ -1,0 +1,5 @@
+-- In reading order.
+pub mod Platform
+pub mod Lines
+pub mod Range
+pub mod Demand3

@@ -1,0 +1,102 @@
+-- What the code of each rule gives is what its definition says. Assumes nothing.
+use mathlib.Core.Path.{_≡_, sym, _∙_}
+use mathlib.Core.Bool.{Bool, true, false, cond}
+use mathlib.Core.List.{List, [], _∷_}
+use Prim.Native.Nat.{ℕ, zero, suc, _+_, _*_, _≤_, _<_}
+use native.Mathlib.Numerals.{add-one}
+use native.Mathlib.Omega.{arith}
+use borrow.Author.Tests.{eq-eqb, ne-eqb, lt-ltb, le-ltb}
+use lib.Dec.{eqb}
+use lib.ListN.{length}
+use Rattle.ring.specs.Ring.{listed, listing, place, ahead, back, next}
+use Rattle.node.specs.declared.Node.{Node}
+use Rattle.node.specs.Node.{H, O, message, silent, sending, alone, withObserver, withWatch, withHeartbeat, withList, turned, relayed, opening, onHeartbeat, onObserver, onReport, onHeartbeatDue, onWatchDue, onMessage}
+use Rattle.node.proofs.Messages.{relayed-turned}
+
+-- ---- opening
+
+pub place-le : (order : List ℕ) (i : ℕ) → place order i ≤ length order
+unfolding place
+place-le [] i = omega arith
+place-le (x ∷ xs) i = go (eqb x i) (place-le xs i)
+  where
+    go : (b : Bool) → place xs i ≤ length xs → cond b zero (suc (place xs i)) ≤ suc (length xs)
+    go true h = omega arith
+    go false h = omega arith
+
+module _ (order : List ℕ) (h w me : ℕ) where
+  pub opening-alone : length order ≤ 1 → opening order h w me ≡ alone me 0
+  unfolding opening
+  opening-alone l = rw (le-ltb 1 (length order) l)
+
+  pub opening-joined : 1 < length order → (p e o : ℕ) → p ≡ place order me → e ≡ back order 0 p → o ≡ ahead order 0 (p + 1) 0
+      → opening order h w me ≡ record { emitter = e; observer = o; watch = w + 1; heartbeat = h + 1; list = 0 }
+  unfolding opening next ahead
+  opening-joined l p e o pq eq oq = rw (lt-ltb 1 (length order) l, eq, oq, pq, add-one (place order me), add-one w, add-one h)
+
+-- ---- messages
+
+module _ (w tick from : ℕ) (n : Node) where
+  pub heartbeat-renews : n .emitter ≡ from → onHeartbeat w tick from n ≡ silent (withWatch n (tick + w + 1))
+  unfolding onHeartbeat
+  heartbeat-renews e = rw (eq-eqb (n .emitter) from e, add-one (tick + w))
+
+  pub heartbeat-ignored : (n .emitter ≡ from → ⊥) → onHeartbeat w tick from n ≡ silent n
+  unfolding onHeartbeat
+  heartbeat-ignored e = rw (ne-eqb (n .emitter) from e)
+
+  pub observer-changes : onObserver tick from n ≡ silent (withHeartbeat (withObserver n from) (tick + 1))
+  unfolding onObserver
+  observer-changes = rw (add-one tick)
+
+module _ (order : List ℕ) (me subject : ℕ) (n : Node) (b : Bool) (bq : b ≡ listed (n .list) subject) where
+  pub report-known : b ≡ true → onReport order me subject n ≡ silent n
+  unfolding onReport
+  report-known t = rw (sym bq ∙ t)
+
+  pub report-own : b ≡ false → subject ≡ me → onReport order me subject n ≡ silent n
+  unfolding onReport
+  report-own t e = rw (sym bq ∙ t, eq-eqb subject me e)
+
+  pub report-new : b ≡ false → (subject ≡ me → ⊥) → (d : ℕ) → d ≡ listing (n .list) subject → length order ≤ 64
+      → turned (onReport order me subject n) ≡ relayed order me subject (turned (silent (withList n d)))
+  unfolding onReport
+  report-new t e d dq l =
+      rw (sym bq ∙ t, ne-eqb subject me e, ← dq) (sym (relayed-turned order me subject (withList n d) [] (omega arith) l))
+
+-- ---- timers
+
+pub heartbeat-sent : (h tick : ℕ) (n : Node) → onHeartbeatDue h tick n ≡ sending (withHeartbeat n (tick + h + 1)) (message H (n .observer) 0 ∷ [])
+unfolding onHeartbeatDue
+heartbeat-sent h tick n = rw (add-one (tick + h))
+
+module _ (order : List ℕ) (w tick me : ℕ) (n : Node) (d p e : ℕ) (dq : d ≡ listing (n .list) (n .emitter)) (pq : p ≡ place order (n .emitter)) (eq : e ≡ back order d p) where
+  new-emitter : back order (listing (n .list) (n .emitter)) (place order (n .emitter)) ≡ e
+  new-emitter = rw (← dq, ← pq) (sym eq)
+
+  pub watch-alone : e ≡ me → onWatchDue order w tick me n ≡ silent (alone me d)
+  unfolding onWatchDue
+  watch-alone z = rw (new-emitter, eq-eqb e me z, ← dq)
+
+  pub watch-moves : (e ≡ me → ⊥) → length order ≤ 64
+      → turned (onWatchDue order w tick me n) ≡ relayed order me (n .emitter)
+      (turned (sending (record { emitter = e; observer = n .observer; watch = tick + 2 * w + 1; heartbeat = n .heartbeat; list = d }) (message O e 0 ∷ [])))
+  unfolding onWatchDue
+  watch-moves z l =
+      rw (new-emitter, ne-eqb e me z, ← dq, add-one (tick + 2 * w))
+      (sym (relayed-turned order me (n .emitter) (record { emitter = e; observer = n .observer; watch = suc (tick + 2 * w); heartbeat = n .heartbeat; list = d }) (message O e 0 ∷ []) (omega arith) l))
+
+-- ---- a message of a kind
+
+module _ (order : List ℕ) (w tick me kind from subject : ℕ) (n : Node) where
+  pub message-heartbeat : kind ≡ H → onMessage order w tick me kind from subject n ≡ onHeartbeat w tick from n
+  unfolding onMessage
+  message-heartbeat h = rw h
+
+  pub message-observer : kind ≡ O → onMessage order w tick me kind from subject n ≡ onObserver tick from n
+  unfolding onMessage
+  message-observer o = rw o
+
+  pub message-report : (kind ≡ H → ⊥) → (kind ≡ O → ⊥) → onMessage order w tick me kind from subject n ≡ onReport order me subject n
+  unfolding onMessage
+  message-report h o = rw (ne-eqb kind H h, ne-eqb kind O o)

@@ -1,0 +1,154 @@
+-- The rules of one node, as document 01's 'The node' states them, one definition a rule. Each gives the node after it and the
+-- messages that the node sends, in order. They hold for any ring order. Assumes nothing.
+-- A timer is `off`, or `due t` where it is due at tick t. A message's kind is its letter in the log.
+use mathlib.Core.Bool.{cond, _||_}
+use mathlib.Core.List.{List, [], _∷_, _++_, map}
+use Prim.Native.Nat.{ℕ, suc, _+_, _-_, _*_}
+use lib.Dec.{eqb, ltb}
+use lib.ListN.{length, replicate}
+use lib.Seq.{sets}
+use Rattle.ring.specs.Ring.{listed, listing, place, back, next, targets}
+use Rattle.node.specs.declared.Message.{Message}
+use Rattle.node.specs.declared.Node.{Node}
+use Rattle.node.specs.declared.Turned.{Turned}
+
+-- ---- 01's numbers
+
+-- "H 1 to 1,000"
+abbrev pub mostH : ℕ
+mostH = 1000
+
+-- "W 1 to 65,535"
+abbrev pub mostW : ℕ
+mostW = 65535
+
+-- the last tick of a run or of a node call, "1,000,000"
+abbrev pub mostTick : ℕ
+mostTick = 1000000
+
+-- the messages that a node sends in one turn, "at most seven"
+abbrev pub mostSent : ℕ
+mostSent = 7
+
+-- what a rule gives
+pub record Turn : Type 0 where
+  pub node : Node
+  pub sends : List Message
+
+-- ---- timers and messages
+
+abbrev pub off : ℕ
+off = 0
+
+abbrev pub due : ℕ → ℕ
+due t = suc t
+
+-- the kinds of message: H (heartbeat), O (new observer), R (report)
+abbrev pub H : ℕ
+H = 72
+
+abbrev pub O : ℕ
+O = 79
+
+abbrev pub R : ℕ
+R = 82
+
+abbrev pub message : ℕ → ℕ → ℕ → Message
+message kind to subject = record { kind = kind; to = to; subject = subject }
+
+-- R of a subject to each of some nodes
+unfoldable pub reports : ℕ → List ℕ → List Message
+reports subject nodes = map (λ to. message R to subject) nodes
+
+-- ---- a node with one field changed
+
+abbrev pub withObserver : Node → ℕ → Node
+withObserver n x = record { emitter = n .emitter; observer = x; watch = n .watch; heartbeat = n .heartbeat; list = n .list }
+
+abbrev pub withWatch : Node → ℕ → Node
+withWatch n x = record { emitter = n .emitter; observer = n .observer; watch = x; heartbeat = n .heartbeat; list = n .list }
+
+abbrev pub withHeartbeat : Node → ℕ → Node
+withHeartbeat n x = record { emitter = n .emitter; observer = n .observer; watch = n .watch; heartbeat = x; list = n .list }
+
+abbrev pub withList : Node → ℕ → Node
+withList n x = record { emitter = n .emitter; observer = n .observer; watch = n .watch; heartbeat = n .heartbeat; list = x }
+
+-- a node, with the messages that it sends
+abbrev pub sending : Node → List Message → Turn
+sending n ms = record { node = n; sends = ms }
+
+-- a node that sends nothing
+abbrev pub silent : Node → Turn
+silent n = sending n []
+
+-- a node that is alone: emitter and observer itself, both timers off
+abbrev pub alone : ℕ → ℕ → Node
+alone me list = record { emitter = me; observer = me; watch = off; heartbeat = off; list = list }
+
+-- ---- the rules
+
+-- opening, tick 0: emitter the node before, observer the node after, watch due W, heartbeat due H, list empty; with one node, alone
+unfoldable pub opening : List ℕ → ℕ → ℕ → ℕ → Node
+opening order h w me =
+    cond (ltb 1 (length order))
+    (record {
+      emitter = back order 0 (place order me);
+      observer = next order 0 (place order me);
+      watch = due w;
+      heartbeat = due h;
+      list = 0;
+    })
+    (alone me 0)
+
+-- message H: from the emitter, watch due becomes this tick + W; from any other node, nothing
+unfoldable pub onHeartbeat : ℕ → ℕ → ℕ → Node → Turn
+onHeartbeat w tick from n = silent (cond (eqb (n .emitter) from) (withWatch n (due (tick + w))) n)
+
+-- message O: observer becomes the sender, heartbeat due becomes this tick
+unfoldable pub onObserver : ℕ → ℕ → Node → Turn
+onObserver tick from n = silent (withHeartbeat (withObserver n from) (due tick))
+
+-- message R of a subject: already listed or the node itself, nothing; otherwise it is listed, and R of the same subject goes to
+-- the forward targets, taken with the list after the change
+unfoldable pub onReport : List ℕ → ℕ → ℕ → Node → Turn
+onReport order me subject n =
+    let list : ℕ = listing (n .list) subject in
+    cond (listed (n .list) subject || eqb subject me) (silent n)
+    (record { node = withList n list; sends = reports subject (targets order list (place order me)) })
+
+-- heartbeat due: send H to the observer; due becomes this tick + H
+unfoldable pub onHeartbeatDue : ℕ → ℕ → Node → Turn
+onHeartbeatDue h tick n = record { node = withHeartbeat n (due (tick + h)); sends = message H (n .observer) 0 ∷ [] }
+
+-- watch due: list the emitter; the new emitter is the first unlisted node going back from it. If that is the node itself, it is
+-- alone. Otherwise watch due becomes this tick + 2 × W; O to the new emitter, then R of the old one to the forward targets
+unfoldable pub onWatchDue : List ℕ → ℕ → ℕ → ℕ → Node → Turn
+onWatchDue order w tick me n =
+    let list : ℕ = listing (n .list) (n .emitter) in
+    let emitter : ℕ = back order list (place order (n .emitter)) in
+    cond (eqb emitter me) (silent (alone me list))
+    (record {
+      node = record { emitter = emitter; observer = n .observer; watch = due (tick + 2 * w); heartbeat = n .heartbeat; list = list };
+      sends = message O emitter 0 ∷ reports (n .emitter) (targets order list (place order me));
+    })
+
+-- a message of a kind
+unfoldable pub onMessage : List ℕ → ℕ → ℕ → ℕ → ℕ → ℕ → ℕ → Node → Turn
+onMessage order w tick me kind from subject n =
+    cond (eqb kind H) (onHeartbeat w tick from n)
+    (cond (eqb kind O) (onObserver tick from n) (onReport order me subject n))
+
+-- ---- what the code answers: the messages in seven places, the unused ones zero, and their count
+
+unfoldable pub places : List Message → List Message
+places ms = ms ++ replicate (mostSent - length ms) (message 0 0 0)
+
+unfoldable pub turned : Turn → Turned
+turned u = record { node = u .node; sent = places (u .sends); count = length (u .sends) }
+
+-- a node after a rule, with R of a subject to its forward targets after what it sends already
+unfoldable pub relayed : List ℕ → ℕ → ℕ → Turned → Turned
+relayed order me subject t =
+    let ms : List Message = reports subject (targets order (t .node .list) (place order me)) in
+    record { node = t .node; sent = sets (t .sent) (t .count) ms; count = t .count + length ms }

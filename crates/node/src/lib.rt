@@ -1,0 +1,242 @@
+// The rules of one node. A node goes in by value and comes back with the messages that it sends.
+// Nodes in the field and the rehearsal both run these functions.
+ghost use mathlib.Core.Path.{_≡_};
+ghost use mathlib.Core.List.{[], _∷_};
+ghost use Prim.Native.Nat.{_+_, _<_, _≤_};
+ghost use lib.ListN.{length, take};
+ghost use lib.Seq.{sets};
+ghost use Rattle.ring.specs.Ring.{mostNodes};
+ghost use Rattle.node.specs.Node.{mostH, mostW, mostTick, message, reports, silent, sending, alone, opening, onHeartbeat, onObserver, onReport, onHeartbeatDue, onWatchDue, onMessage, turned, relayed};
+
+// A node's fields. A timer is 0 where it is off, else one more than the tick at which it is due.
+pub struct Node {
+    pub emitter: u8,
+    pub observer: u8,
+    pub watch: u32,
+    pub heartbeat: u32,
+    pub list: u64,
+}
+
+// A message as its sender gives it away: its letter (b'H', b'O' or b'R'), its receiver and, on R, its subject.
+pub struct Message {
+    pub kind: u8,
+    pub to: u8,
+    pub subject: u8,
+}
+
+// A node after a rule, with what it sends: the first `count` of seven messages. The others are zero.
+pub struct Turned {
+    pub node: Node,
+    pub sent: [Message; 7],
+    pub count: usize,
+}
+
+fn no_message() -> Message
+    ensures { λ r. ⌜ r ≡ message 0 0 0 ⌝ }
+{
+    Message {
+        kind: 0,
+        to: 0,
+        subject: 0,
+    }
+}
+
+// A node that sends nothing.
+fn quiet(n: Node) -> Turned
+    ensures { λ r. ⌜ r ≡ turned (silent n) ⌝ }
+{
+    Turned {
+        node: n,
+        sent: [no_message(); 7],
+        count: 0,
+    }
+}
+
+// A node that sends one message.
+fn sends_one(n: Node, m: Message) -> Turned
+    ensures { λ r. ⌜ r ≡ turned (sending n (m ∷ [])) ⌝ }
+{
+    let mut sent = [no_message(); 7];
+    sent[0] = m;
+    Turned {
+        node: n,
+        sent,
+        count: 1,
+    }
+}
+
+// R of the subject to the first `count` of a row, put into seven places from `from` on.
+fn put_reports(
+    places: [Message; 7],
+    from: usize,
+    to: [u8; 6],
+    count: usize,
+    subject: u8,
+) -> [Message; 7]
+    requires { ⌜ (count ≤ 6) × (from + count ≤ 7) ⌝ }
+    ensures { λ r. ⌜ r ≡ sets places from (reports subject (take count to)) ⌝ }
+{
+    let mut out = places;
+    let mut i: usize = 0;
+    while i < count {
+        out[from + i] = Message {
+            kind: b'R',
+            to: to[i],
+            subject,
+        };
+        i += 1;
+    }
+    out
+}
+
+// A node after a rule, with R of the subject to its forward targets after what it sends already.
+fn relay(order: &[u8], me: u8, subject: u8, t: Turned) -> Turned
+    requires { ⌜ (1 ≤ length (now order)) × (length (now order) ≤ mostNodes) × (t .count ≤ 1) ⌝ }
+    ensures { λ r. ⌜ r ≡ relayed (now (order .entry)) me subject t ⌝ }
+{
+    let node = t.node;
+    let p = ring::place_of(order, me);
+    let to = ring::target_row(order, node.list, p);
+    let size = order.len() as u8;
+    let left = ring::count_unlisted(size, node.list);
+    let jumps = ring::jump_count(left) as usize;
+    let before = t.sent;
+    let sent = put_reports(before, t.count, to, jumps, subject);
+    Turned {
+        node,
+        sent,
+        count: t.count + jumps,
+    }
+}
+
+// A node that is alone.
+fn lone(me: u8, list: u64) -> Node
+    ensures { λ r. ⌜ r ≡ alone me list ⌝ }
+{
+    Node {
+        emitter: me,
+        observer: me,
+        watch: 0,
+        heartbeat: 0,
+        list,
+    }
+}
+
+// Opening, at tick 0.
+pub fn opened(order: &[u8], h: u32, w: u32, me: u8) -> Node
+    requires { ⌜ (length (now order) ≤ mostNodes) × (h ≤ mostH) × (w ≤ mostW) ⌝ }
+    ensures { λ r. ⌜ r ≡ opening (now (order .entry)) h w me ⌝ }
+{
+    if order.len() <= 1 {
+        return lone(me, 0);
+    }
+    let p = ring::place_of(order, me);
+    let emitter = ring::find_back(order, 0, p);
+    let observer = ring::find_ahead(order, 0, p + 1, 0);
+    Node {
+        emitter,
+        observer,
+        watch: w + 1,
+        heartbeat: h + 1,
+        list: 0,
+    }
+}
+
+// Message H: from the emitter it renews the watch.
+pub fn on_heartbeat(w: u32, tick: u32, from: u8, n: Node) -> Turned
+    requires { ⌜ (w ≤ mostW) × (tick ≤ mostTick) ⌝ }
+    ensures { λ r. ⌜ r ≡ turned (onHeartbeat w tick from n) ⌝ }
+{
+    if n.emitter != from {
+        return quiet(n);
+    }
+    let mut m = n;
+    m.watch = tick + w + 1;
+    quiet(m)
+}
+
+// Message O: the sender is the new observer, and a heartbeat is due now.
+pub fn on_observer(tick: u32, from: u8, n: Node) -> Turned
+    requires { ⌜ tick ≤ mostTick ⌝ }
+    ensures { λ r. ⌜ r ≡ turned (onObserver tick from n) ⌝ }
+{
+    let mut m = n;
+    m.observer = from;
+    m.heartbeat = tick + 1;
+    quiet(m)
+}
+
+// Message R: a subject that is new here is listed and reported on.
+pub fn on_report(order: &[u8], me: u8, subject: u8, n: Node) -> Turned
+    requires { ⌜ (1 ≤ length (now order)) × (length (now order) ≤ mostNodes) × (subject < mostNodes) ⌝ }
+    ensures { λ r. ⌜ r ≡ turned (onReport (now (order .entry)) me subject n) ⌝ }
+{
+    if ring::is_listed(n.list, subject) {
+        return quiet(n);
+    }
+    if subject == me {
+        return quiet(n);
+    }
+    let mut m = n;
+    m.list = ring::with_listed(n.list, subject);
+    relay(order, me, subject, quiet(m))
+}
+
+// Heartbeat due: H to the observer.
+pub fn on_heartbeat_due(h: u32, tick: u32, n: Node) -> Turned
+    requires { ⌜ (h ≤ mostH) × (tick ≤ mostTick) ⌝ }
+    ensures { λ r. ⌜ r ≡ turned (onHeartbeatDue h tick n) ⌝ }
+{
+    let beat = Message {
+        kind: b'H',
+        to: n.observer,
+        subject: 0,
+    };
+    let mut m = n;
+    m.heartbeat = tick + h + 1;
+    sends_one(m, beat)
+}
+
+// Watch due: the emitter is listed and reported, and the first unlisted node going back from it becomes the emitter.
+pub fn on_watch_due(order: &[u8], w: u32, tick: u32, me: u8, n: Node) -> Turned
+    requires { ⌜ (1 ≤ length (now order)) × (length (now order) ≤ mostNodes) × (w ≤ mostW) × (tick ≤ mostTick) × (n .emitter < mostNodes) ⌝ }
+    ensures { λ r. ⌜ r ≡ turned (onWatchDue (now (order .entry)) w tick me n) ⌝ }
+{
+    let list = ring::with_listed(n.list, n.emitter);
+    let p = ring::place_of(order, n.emitter);
+    let emitter = ring::find_back(order, list, p);
+    if emitter == me {
+        return quiet(lone(me, list));
+    }
+    let mut m = n;
+    m.emitter = emitter;
+    m.watch = tick + 2 * w + 1;
+    m.list = list;
+    let observe = Message {
+        kind: b'O',
+        to: emitter,
+        subject: 0,
+    };
+    relay(order, me, n.emitter, sends_one(m, observe))
+}
+
+// A message of a kind, its letter; all but H and O are taken as R.
+pub fn on_message(
+    order: &[u8],
+    w: u32,
+    tick: u32,
+    me: u8,
+    kind: u8,
+    from: u8,
+    subject: u8,
+    n: Node,
+) -> Turned
+    requires { ⌜ (1 ≤ length (now order)) × (length (now order) ≤ mostNodes) × (w ≤ mostW) × (tick ≤ mostTick) × (subject < mostNodes) ⌝ }
+    ensures { λ r. ⌜ r ≡ turned (onMessage (now (order .entry)) w tick me kind from subject n) ⌝ }
+{
+    match kind {
+        b'H' => on_heartbeat(w, tick, from, n),
+        b'O' => on_observer(tick, from, n),
+        _ => on_report(order, me, subject, n),
+    }
+}

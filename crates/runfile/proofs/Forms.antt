@@ -1,0 +1,170 @@
+-- A line's form, by the tests of the code. Assumes nothing.
+use Prim.Native.Nat.{ℕ, _<_}
+use native.Mathlib.Omega.{arith}
+use mathlib.Core.Path.{_≡_, refl, sym, ap, _∙_}
+use mathlib.Core.Bool.{Bool, true, false, cond}
+use mathlib.Core.List.{List, [], _∷_}
+use mathlib.Core.Option.{Option, none, some}
+use lib.Dec.{eqb}
+use lib.ListN.{length, getD}
+use borrow.Author.Tests.{eq-eqb, ne-eqb}
+use Rattle.text.specs.declared.Number.{Number}
+use Rattle.text.specs.declared.Number.the-variants.{Value, NoNumber}
+use Rattle.text.specs.Field.{fieldAt, ends}
+use Rattle.runfile.specs.Plan.{Plan}
+use Rattle.runfile.specs.File.{Row, start, crash, delay, opening, fieldThen, pairOf, startOf, crashOf, delayOf, formOf, rowOf, firstLine, laterLine, stop}
+use Rattle.runfile.specs.Reader.{lineOf}
+use Rattle.runfile.specs.declared.Line.the-variants.{Next, Stop}
+
+-- ---- the letter
+
+module _ (l : List ℕ) where
+  pub row-empty : length l ≡ 0 → rowOf l ≡ none
+  unfolding rowOf
+  row-empty h = by l h
+    where
+      by : (l : List ℕ) → length l ≡ 0 → rowOf l ≡ none
+      by [] h = refl
+      by (b ∷ s) h = absurd (omega arith)
+
+  row-letter : (length l ≡ 0 → ⊥) → rowOf l ≡ formOf (getD l 0 0) l
+  unfolding rowOf
+  row-letter h = by l h
+    where
+      by : (l : List ℕ) → (length l ≡ 0 → ⊥) → rowOf l ≡ formOf (getD l 0 0) l
+      by [] h = absurd (h refl)
+      by (b ∷ s) h = refl
+
+  pub row-start : (length l ≡ 0 → ⊥) → getD l 0 0 ≡ 80 → rowOf l ≡ startOf l
+  unfolding formOf
+  row-start h e = row-letter h ∙ rw e
+
+  pub row-crash : (length l ≡ 0 → ⊥) → getD l 0 0 ≡ 67 → rowOf l ≡ crashOf l
+  unfolding formOf
+  row-crash h e = row-letter h ∙ rw e
+
+  pub row-delay : (length l ≡ 0 → ⊥) → getD l 0 0 ≡ 76 → rowOf l ≡ delayOf l
+  unfolding formOf
+  row-delay h e = row-letter h ∙ rw e
+
+-- ---- two numbers
+
+module _ (row : ℕ → ℕ → Row) (l : List ℕ) where
+  pub pair-none-1 : fieldAt l 1 ≡ NoNumber → pairOf row l ≡ none
+  unfolding pairOf fieldThen
+  pair-none-1 e = rw e
+
+  module _ (a i : ℕ) (f : fieldAt l 1 ≡ Value a i) where
+    pub pair-none-2 : fieldAt l i ≡ NoNumber → pairOf row l ≡ none
+    unfolding pairOf fieldThen
+    pair-none-2 e = rw (f, e)
+
+    module _ (b j : ℕ) (g : fieldAt l i ≡ Value b j) where
+      pub pair-none : ends l j ≡ false → pairOf row l ≡ none
+      unfolding pairOf fieldThen
+      pair-none e = rw (f, g, e)
+
+      pub pair-some : ends l j ≡ true → pairOf row l ≡ some (row a b)
+      unfolding pairOf fieldThen
+      pair-some e = rw (f, g, e)
+
+-- ---- five numbers
+
+module _ (l : List ℕ) where
+  pub start-none-1 : fieldAt l 1 ≡ NoNumber → startOf l ≡ none
+  unfolding startOf fieldThen
+  start-none-1 e = rw e
+
+  module _ (n i : ℕ) (fn : fieldAt l 1 ≡ Value n i) where
+    pub start-none-2 : fieldAt l i ≡ NoNumber → startOf l ≡ none
+    unfolding startOf fieldThen
+    start-none-2 e = rw (fn, e)
+
+    module _ (h j : ℕ) (fh : fieldAt l i ≡ Value h j) where
+      pub start-none-3 : fieldAt l j ≡ NoNumber → startOf l ≡ none
+      unfolding startOf fieldThen
+      start-none-3 e = rw (fn, fh, e)
+
+      module _ (w k : ℕ) (fw : fieldAt l j ≡ Value w k) where
+        pub start-none-4 : fieldAt l k ≡ NoNumber → startOf l ≡ none
+        unfolding startOf fieldThen
+        start-none-4 e = rw (fn, fh, fw, e)
+
+        module _ (d m : ℕ) (fd : fieldAt l k ≡ Value d m) where
+          pub start-none-5 : fieldAt l m ≡ NoNumber → startOf l ≡ none
+          unfolding startOf fieldThen
+          start-none-5 e = rw (fn, fh, fw, fd, e)
+
+          module _ (end z : ℕ) (fe : fieldAt l m ≡ Value end z) where
+            pub start-none : ends l z ≡ false → startOf l ≡ none
+            unfolding startOf fieldThen
+            start-none e = rw (fn, fh, fw, fd, fe, e)
+
+            pub start-some : ends l z ≡ true → startOf l ≡ some (start (opening n h w d end))
+            unfolding startOf fieldThen
+            start-some e = rw (fn, fh, fw, fd, fe, e)
+
+-- ---- what a line of bad form, or of the wrong letter, comes to
+
+module _ (x : Option Row) where
+  pub first-none : x ≡ none → Stop 2 ≡ lineOf (firstLine x)
+  unfolding firstLine lineOf
+  first-none e = rw e
+
+  pub later-none : (p : Plan) → x ≡ none → Stop 2 ≡ lineOf (laterLine p x)
+  unfolding laterLine lineOf
+  later-none p e = rw e
+
+-- two numbers make no P line, and five no other line
+pair-first : (row : ℕ → ℕ → Row) (l : List ℕ) → ((a b : ℕ) → firstLine (some (row a b)) ≡ stop 2) → firstLine (pairOf row l) ≡ stop 2
+unfolding pairOf firstLine fieldThen
+pair-first row l h = field (fieldAt l 1) _ λ a i. field (fieldAt l i) _ λ b j. end (ends l j) a b
+  where
+    field : (x : Number) (f : ℕ → ℕ → Option Row) → ((v j : ℕ) → firstLine (f v j) ≡ stop 2) → firstLine (fieldThen x f) ≡ stop 2
+    field (Value v j) f h = h v j
+    field NoNumber f h = refl
+
+    end : (t : Bool) (a b : ℕ) → firstLine (cond t (some (row a b)) none) ≡ stop 2
+    end true a b = h a b
+    end false a b = refl
+
+start-later : (l : List ℕ) (p : Plan) → laterLine p (startOf l) ≡ stop 2
+unfolding startOf laterLine fieldThen
+start-later l p =
+    field (fieldAt l 1) _ λ n i.
+    field (fieldAt l i) _ λ h j.
+    field (fieldAt l j) _ λ w k.
+    field (fieldAt l k) _ λ d m.
+    field (fieldAt l m) _ λ e z.
+    end (ends l z) (opening n h w d e)
+  where
+    field : (x : Number) (f : ℕ → ℕ → Option Row) → ((v j : ℕ) → laterLine p (f v j) ≡ stop 2) → laterLine p (fieldThen x f) ≡ stop 2
+    field (Value v j) f h = h v j
+    field NoNumber f h = refl
+
+    end : (t : Bool) (q : Plan) → laterLine p (cond t (some (start q)) none) ≡ stop 2
+    end true q = refl
+    end false q = refl
+
+-- a first line that is no P line
+pub first-other : (l : List ℕ) → (length l ≡ 0 → ⊥) → (getD l 0 0 ≡ 80 → ⊥) → Stop 2 ≡ lineOf (firstLine (rowOf l))
+unfolding formOf crashOf delayOf firstLine lineOf
+first-other l h e =
+    let refused : firstLine (rowOf l) ≡ stop 2 = rw (row-letter l h, ne-eqb _ _ e) (by (eqb (getD l 0 0) 67) (eqb (getD l 0 0) 76)) in
+    sym (ap lineOf refused)
+  where
+    by : (a b : Bool) → firstLine (cond a (crashOf l) (cond b (delayOf l) none)) ≡ stop 2
+    by true b = pair-first _ l (λ t k. refl)
+    by false true = pair-first _ l (λ t k. refl)
+    by false false = refl
+
+-- a later line that is neither a C nor an L line
+pub later-other : (l : List ℕ) (p : Plan) → (length l ≡ 0 → ⊥) → (getD l 0 0 ≡ 67 → ⊥) → (getD l 0 0 ≡ 76 → ⊥) → Stop 2 ≡ lineOf (laterLine p (rowOf l))
+unfolding formOf laterLine lineOf
+later-other l p h c d =
+    let refused : laterLine p (rowOf l) ≡ stop 2 = rw (row-letter l h, ne-eqb _ _ c, ne-eqb _ _ d) (by (eqb (getD l 0 0) 80)) in
+    sym (ap lineOf refused)
+  where
+    by : (a : Bool) → laterLine p (cond a (startOf l) none) ≡ stop 2
+    by true = start-later l p
+    by false = refl

@@ -1,0 +1,13 @@
+pub mod Order
+pub mod Steps
+pub mod Forms
+pub mod Lines
+pub mod Trip
+pub mod Grown
+pub mod Reading
+pub mod Written
+pub mod Size
+pub mod RoundTrip
+pub mod Places
+pub mod Writing
+pub mod Edges

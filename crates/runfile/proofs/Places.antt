@@ -1,0 +1,201 @@
+-- The rows of an accepted file stand at the places that the plan's text gives them. Assumes nothing.
+use Prim.Native.Nat.{ℕ, zero, suc, _+_, _-_, _*_, _≤_, _<_, min}
+use native.Mathlib.Omega.{arith}
+use native.Mathlib.Numerals.{add-one}
+use mathlib.Core.Path.{_≡_, refl, sym, ap, _∙_, subst}
+use mathlib.Core.Bool.{Bool, true, false, cond, _&&_}
+use mathlib.Core.List.{List, [], _∷_, _++_, append-assoc, append-nil}
+use lib.Dec.{eqb, leb, ltb}
+use lib.ListN.{length, take, drop, getD, length-append, length-drop, drop-of-length-le, take-append-drop}
+use lib.Seq.{take-suc, split-at, drop-append-add, take-length}
+use Rattle.text.specs.declared.Number.{Number}
+use Rattle.text.specs.declared.Number.the-variants.{Value, NoNumber}
+use Rattle.text.specs.Number.{digit, ceiling, digitsFrom, numberFrom}
+use Rattle.text.specs.Field.{field, fieldFrom, fieldAt}
+use Rattle.runfile.specs.Plan.{Crash, Delay, Plan, startRanges, crashRange, delayRange, every, planTest, fieldsText, lineText, startText, crashText, delayText, rowsText, planText}
+use Rattle.runfile.specs.File.{accepted, fileOf}
+use Rattle.runfile.specs.Reader.{rowThen, rowAt, crashPlace, delayPlace}
+use Rattle.runfile.specs.declared.Fields.{Fields}
+use Rattle.runfile.proofs.Grown.{tests-of, crash-small, delay-small, ranges-good}
+use Rattle.runfile.proofs.Written.{field-next, field-last}
+use Rattle.runfile.proofs.Order.{every-there}
+use Rattle.runfile.proofs.RoundTrip.{rows-append, rows-snoc, written-back, accepted-plan}
+use Rattle.runfile.proofs.Size.{pair-size}
+
+-- ---- a field that was read lies within the text
+
+digits-within : (a i : ℕ) (s : List ℕ) (v j : ℕ) → digitsFrom a i s ≡ Value v j → j ≤ i + length s
+digits-within a i [] v j e = let q : i ≡ j = cc in omega arith
+digits-within a i (b ∷ s) v j e = by (digit b) e (digits-within (a * 10 + (b - 48)) (i + 1) s v j)
+  where
+    by : (t : Bool) → cond t (digitsFrom (a * 10 + (b - 48)) (i + 1) s) (Value (min a ceiling) i) ≡ Value v j
+        → (digitsFrom (a * 10 + (b - 48)) (i + 1) s ≡ Value v j → j ≤ i + 1 + length s) → j ≤ i + suc (length s)
+    by true e ih = omega (arith, ih e)
+    by false e ih = let q : i ≡ j = cc in omega arith
+
+number-within : (i : ℕ) (s : List ℕ) (v j : ℕ) → numberFrom i s ≡ Value v j → j ≤ i + length s
+number-within i [] v j e = let z : _≡_ {A = ℕ} 0 1 = cc in absurd (omega arith)
+number-within i (b ∷ s) v j e = by (eqb b 48) (digit b) e
+  where
+    by : (x y : Bool) → cond x (Value 0 (i + 1)) (cond y (cond y (digitsFrom (0 * 10 + (b - 48)) (i + 1) s) (Value (min 0 ceiling) i)) NoNumber) ≡ Value v j → j ≤ i + suc (length s)
+    by true y e = let q : i + 1 ≡ j = cc in omega arith
+    by false true e = omega (arith, digits-within (0 * 10 + (b - 48)) (i + 1) s v j e)
+    by false false e = let z : _≡_ {A = ℕ} 0 1 = cc in absurd (omega arith)
+
+field-from-within : (i : ℕ) (s : List ℕ) (v j : ℕ) → fieldFrom i s ≡ Value v j → (1 ≤ length s) × (j ≤ i + length s)
+field-from-within i [] v j e = let z : _≡_ {A = ℕ} 0 1 = cc in absurd (omega arith)
+field-from-within i (b ∷ s) v j e = by (eqb b 44) e
+  where
+    by : (t : Bool) → cond t (numberFrom (i + 1) s) NoNumber ≡ Value v j → (1 ≤ suc (length s)) × (j ≤ i + suc (length s))
+    by true e = (omega arith, omega (arith, number-within (i + 1) s v j e))
+    by false e = let z : _≡_ {A = ℕ} 0 1 = cc in absurd (omega arith)
+
+pub field-within : (s : List ℕ) (at v j : ℕ) → fieldAt s at ≡ Value v j → j ≤ length s
+unfolding fieldAt
+field-within s at v j e = let w = field-from-within at (drop at s) v j e in omega (arith, w .0, w .1, length-drop at s)
+
+-- ---- a row at its place
+
+module _ (s : List ℕ) (at : ℕ) where
+  pub no-row : length s ≤ at → rowAt s at ≡ record { first = 0; second = 0; next = at }
+  unfolding rowAt rowThen fieldAt
+  no-row h = let past : length s ≤ at + 1 = omega arith in rw (drop-of-length-le s past)
+
+  pub no-first : fieldAt s (at + 1) ≡ NoNumber → rowAt s at ≡ record { first = 0; second = 0; next = at }
+  unfolding rowAt rowThen
+  no-first e = rw e
+
+  module _ (a i : ℕ) (f : fieldAt s (at + 1) ≡ Value a i) where
+    pub no-second : fieldAt s i ≡ NoNumber → rowAt s at ≡ record { first = 0; second = 0; next = at }
+    unfolding rowAt rowThen
+    no-second e = rw (f, e)
+
+    pub row-there : (b j : ℕ) → fieldAt s i ≡ Value b j → rowAt s at ≡ record { first = a; second = b; next = j + 1 }
+    unfolding rowAt rowThen
+    row-there b j e = rw (f, e)
+
+rows-cut : {A : Type 0} (text : A → List ℕ) (xs : List A) (r : A) (ys : List A) → rowsText text (xs ++ (r ∷ ys)) ≡ rowsText text xs ++ (text r ++ rowsText text ys)
+unfolding rowsText
+rows-cut text xs r ys = rows-append text xs (r ∷ ys)
+
+-- the first rows' lines are no longer than all
+rows-start : {A : Type 0} (text : A → List ℕ) (xs : List A) (i : ℕ) → length (rowsText text (take i xs)) ≤ length (rowsText text xs)
+rows-start text xs i =
+    let whole : rowsText text xs ≡ rowsText text (take i xs) ++ rowsText text (drop i xs) = ap (rowsText text) (sym (take-append-drop i xs)) ∙ rows-append text (take i xs) (drop i xs) in
+    omega (arith, ap length whole, length-append (rowsText text (take i xs)) (rowsText text (drop i xs)))
+
+every-at : {A : Type 0} (test : A → Bool) (xs : List A) (i : ℕ) (z : A) → i < length xs → every test xs ≡ true → test (getD xs i z) ≡ true
+every-at test xs i z h e = every-there test (take i xs) (getD xs i z) (drop (suc i) xs) (ap (every test) (sym (split-at xs i z h)) ∙ e)
+
+-- a written row, with what stands before and after it, is read at its place
+row-read : (before : List ℕ) (letter a b : ℕ) (rest : List ℕ) → a < ceiling → b < ceiling
+    → rowAt (before ++ (lineText letter (a ∷ b ∷ []) ++ rest)) (length before) ≡ record { first = a; second = b; next = length (before ++ lineText letter (a ∷ b ∷ [])) }
+unfolding lineText
+row-read before letter a b rest ha hb =
+    let s : List ℕ = before ++ (lineText letter (a ∷ b ∷ []) ++ rest) in
+    let there : drop (length before + 1) s ≡ fieldsText (a ∷ b ∷ []) ++ rest = drop-append-add before (lineText letter (a ∷ b ∷ []) ++ rest) 1 in
+    let x = field-next s (length before + 1) a b [] rest there ha in
+    let y = field-last s (length before + 1 + length (field a)) b rest (x .1) hb in
+    row-there s (length before) a _ (x .0) b _ (y .0)
+    ∙ ap (λ (k : ℕ). record { first = a; second = b; next = k }) (omega (arith, length-append before (lineText letter (a ∷ b ∷ [])), pair-size letter a b))
+
+-- ---- places
+
+module _ (p : Plan) where
+  pub crash-place-first : crashPlace p 0 ≡ length (startText p)
+  unfolding crashPlace rowsText
+  crash-place-first = ap length (append-nil (startText p))
+
+  -- the first delay row stands where the crash rows end
+  pub crash-place-last : crashPlace p (length (p .crashes)) ≡ delayPlace p 0
+  unfolding crashPlace delayPlace rowsText
+  crash-place-last = rw (take-length (p .crashes), append-nil (rowsText crashText (p .crashes)))
+
+  pub delay-place-last : delayPlace p (length (p .delays)) ≡ length (planText p)
+  unfolding delayPlace planText
+  delay-place-last = rw (take-length (p .delays))
+
+  -- every place lies in the text
+  pub crash-place-within : (i : ℕ) → crashPlace p i ≤ length (planText p)
+  unfolding crashPlace planText
+  crash-place-within i =
+      simp length-append
+      (omega (arith, rows-start crashText (p .crashes) i))
+
+  pub delay-place-within : (i : ℕ) → delayPlace p i ≤ length (planText p)
+  unfolding delayPlace planText
+  delay-place-within i =
+      simp length-append
+      (omega (arith, rows-start delayText (p .delays) i))
+
+  module _ (z : Crash) (i : ℕ) (h : i < length (p .crashes)) where
+    pub crash-place-next : crashPlace p (suc i) ≡ crashPlace p i + length (crashText (getD (p .crashes) i z))
+    unfolding crashPlace
+    crash-place-next =
+        rw (take-suc (p .crashes) i z h, rows-snoc crashText (take i (p .crashes)) (getD (p .crashes) i z))
+        (simp length-append (omega arith))
+
+    -- the plan's text, parted at the row
+    crash-parts : planText p ≡ (startText p ++ rowsText crashText (take i (p .crashes)))
+        ++ (crashText (getD (p .crashes) i z) ++ (rowsText crashText (drop (suc i) (p .crashes)) ++ rowsText delayText (p .delays)))
+    unfolding planText
+    crash-parts =
+        let rows : rowsText crashText (p .crashes) ≡ rowsText crashText (take i (p .crashes)) ++ (crashText (getD (p .crashes) i z) ++ rowsText crashText (drop (suc i) (p .crashes))) =
+        ap (rowsText crashText) (split-at (p .crashes) i z h) ∙ rows-cut crashText (take i (p .crashes)) (getD (p .crashes) i z) (drop (suc i) (p .crashes)) in
+        ap (λ (t : List ℕ). startText p ++ (t ++ rowsText delayText (p .delays))) rows ∙ simp append-assoc
+
+  module _ (z : Delay) (i : ℕ) (h : i < length (p .delays)) where
+    pub delay-place-next : delayPlace p (suc i) ≡ delayPlace p i + length (delayText (getD (p .delays) i z))
+    unfolding delayPlace
+    delay-place-next =
+        rw (take-suc (p .delays) i z h, rows-snoc delayText (take i (p .delays)) (getD (p .delays) i z))
+        (simp length-append (omega arith))
+
+    delay-parts : planText p ≡ (startText p ++ (rowsText crashText (p .crashes) ++ rowsText delayText (take i (p .delays))))
+        ++ (delayText (getD (p .delays) i z) ++ rowsText delayText (drop (suc i) (p .delays)))
+    unfolding planText
+    delay-parts =
+        let rows : rowsText delayText (p .delays) ≡ rowsText delayText (take i (p .delays)) ++ (delayText (getD (p .delays) i z) ++ rowsText delayText (drop (suc i) (p .delays))) =
+        ap (rowsText delayText) (split-at (p .delays) i z h) ∙ rows-cut delayText (take i (p .delays)) (getD (p .delays) i z) (drop (suc i) (p .delays)) in
+        ap (λ (t : List ℕ). startText p ++ (rowsText crashText (p .crashes) ++ t)) rows ∙ simp append-assoc
+
+-- ---- the rows of a plan that a file may hold
+
+module _ (p : Plan) (g : planTest p ≡ true) where
+  pub crash-in-range : (z : Crash) (i : ℕ) → i < length (p .crashes) → crashRange p (getD (p .crashes) i z) ≡ true
+  crash-in-range z i h = every-at (crashRange p) (p .crashes) i z h (tests-of p g .crashes)
+
+  pub delay-in-range : (z : Delay) (i : ℕ) → i < length (p .delays) → delayRange p (getD (p .delays) i z) ≡ true
+  delay-in-range z i h = every-at (delayRange p) (p .delays) i z h (tests-of p g .delays)
+
+-- ---- the rows of an accepted file
+
+module _ (s : List ℕ) (p : Plan) (e : fileOf s ≡ accepted p) where
+  -- at the place of crash row i stands its line, and after it the place of the next row
+  pub crash-at : (z : Crash) (i : ℕ) → i < length (p .crashes)
+      → rowAt s (crashPlace p i) ≡ record { first = getD (p .crashes) i z .tick; second = getD (p .crashes) i z .node; next = crashPlace p (suc i) }
+  unfolding crashPlace crashText
+  crash-at z i h =
+      let g = accepted-plan s p e in
+      let r : Crash = getD (p .crashes) i z in
+      let small = crash-small p r (ranges-good p g) (crash-in-range p g z i h) in
+      let before : List ℕ = startText p ++ rowsText crashText (take i (p .crashes)) in
+      let rest : List ℕ = rowsText crashText (drop (suc i) (p .crashes)) ++ rowsText delayText (p .delays) in
+      let text : s ≡ before ++ (crashText r ++ rest) = sym (written-back s p e) ∙ crash-parts p z i h in
+      ap (λ (t : List ℕ). rowAt t (length before)) text
+      ∙ row-read before 67 (r .tick) (r .node) rest (omega (arith, small .0)) (omega (arith, small .1))
+      ∙ ap (λ (k : ℕ). record { first = r .tick; second = r .node; next = k }) (length-append before (crashText r) ∙ sym (crash-place-next p z i h))
+
+  pub delay-at : (z : Delay) (i : ℕ) → i < length (p .delays)
+      → rowAt s (delayPlace p i) ≡ record { first = getD (p .delays) i z .number; second = getD (p .delays) i z .delay; next = delayPlace p (suc i) }
+  unfolding delayPlace delayText
+  delay-at z i h =
+      let g = accepted-plan s p e in
+      let r : Delay = getD (p .delays) i z in
+      let small = delay-small p r (ranges-good p g) (delay-in-range p g z i h) in
+      let before : List ℕ = startText p ++ (rowsText crashText (p .crashes) ++ rowsText delayText (take i (p .delays))) in
+      let rest : List ℕ = rowsText delayText (drop (suc i) (p .delays)) in
+      let text : s ≡ before ++ (delayText r ++ rest) = sym (written-back s p e) ∙ delay-parts p z i h in
+      ap (λ (t : List ℕ). rowAt t (length before)) text
+      ∙ row-read before 76 (r .number) (r .delay) rest (omega (arith, small .0)) (omega (arith, small .1))
+      ∙ ap (λ (k : ℕ). record { first = r .number; second = r .delay; next = k }) (length-append before (delayText r) ∙ sym (delay-place-next p z i h))

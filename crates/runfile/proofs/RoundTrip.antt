@@ -1,0 +1,213 @@
+-- Round trips: the file written from what was read of an accepted file is that file, and what is written is accepted and read back as it
+-- was. Assumes nothing.
+use Prim.Native.Nat.{ℕ, suc, _+_, _≤_, _<_}
+use native.Mathlib.Omega.{arith}
+use mathlib.Core.Path.{_≡_, refl, sym, ap, _∙_, subst}
+use mathlib.Core.Bool.{Bool, true, false, cond, _&&_}
+use mathlib.Core.List.{List, [], _∷_, _++_, append-assoc, append-nil}
+use mathlib.Core.Option.{Option, none, some}
+use lib.Dec.{eqb, leb, ltb}
+use lib.ListN.{length}
+use borrow.Author.Tests.{le-leb}
+use Rattle.ring.specs.Ring.{numbers}
+use Rattle.text.specs.Number.{ceiling}
+use Rattle.runfile.specs.Plan.{Crash, Delay, Plan, within, startRanges, longEnough, startTest, crashRange, delayRange, crashOrder, delayOrder, fewDelays, every, planTest, startText, crashText, delayText, rowsText, planText}
+use Rattle.runfile.specs.File.{Answer, accepted, refused, Row, Step, next, stop, onto, lines, opening, rowOf, orElse, withCrash, withDelay, early, startLine, crashLine, delayLine, firstLine, laterLine, stepThen, laterLines, allLines, fileOf}
+use Rattle.runfile.proofs.Order.{and-first, and-second, every-there, crash-order-start, delay-order-start, few-start}
+use Rattle.runfile.proofs.Trip.{start-rows, crash-text, delay-text}
+use Rattle.runfile.proofs.Grown.{Opened, first-inv, Ranges, ranges-of, opened-text, opened-good, Grown, by-crash, by-delay, later-inv, Tests, tests-of, grown-good, grown-order, crash-small, delay-small, ranges-good}
+use Rattle.runfile.proofs.Written.{Small, start-row, crash-row, delay-row, line-first}
+use Rattle.runfile.proofs.Size.{plan-size}
+
+-- ---- an accepted file is its plan's text
+
+-- lines put together again
+unfoldable joined : List (List ℕ) → List ℕ
+joined [] = []
+joined (l ∷ ls) = l ++ joined ls
+
+joined-onto : (b : ℕ) (ls : List (List ℕ)) → joined (onto b ls) ≡ b ∷ joined ls
+unfolding joined onto
+joined-onto b [] = refl
+joined-onto b (l ∷ ls) = refl
+
+lines-joined : (s : List ℕ) → joined (lines s) ≡ s
+unfolding joined lines
+lines-joined [] = refl
+lines-joined (b ∷ s) = by (eqb b 10) (lines-joined s)
+  where
+    by : (t : Bool) → joined (lines s) ≡ s → joined (cond t ((b ∷ []) ∷ lines s) (onto b (lines s))) ≡ b ∷ s
+    by true e = ap (λ (l : List ℕ). b ∷ l) e
+    by false e = joined-onto b (lines s) ∙ ap (λ (l : List ℕ). b ∷ l) e
+
+pub rows-append : {A : Type 0} (text : A → List ℕ) (xs ys : List A) → rowsText text (xs ++ ys) ≡ rowsText text xs ++ rowsText text ys
+unfolding rowsText
+rows-append text [] ys = refl
+rows-append text (x ∷ xs) ys = ap (λ (l : List ℕ). text x ++ l) (rows-append text xs ys) ∙ sym (append-assoc (text x) (rowsText text xs) (rowsText text ys))
+
+pub rows-snoc : {A : Type 0} (text : A → List ℕ) (xs : List A) (r : A) → rowsText text (xs ++ (r ∷ [])) ≡ rowsText text xs ++ text r
+unfolding rowsText
+rows-snoc text xs r = rows-append text xs (r ∷ []) ∙ ap (λ (l : List ℕ). rowsText text xs ++ l) (append-nil (text r))
+
+-- an accepted line adds its bytes to the plan's text
+grown-text : (p : Plan) (l : List ℕ) (q : Plan) → Grown p (rowOf l) q → planTest p ≡ true → planText q ≡ planText p ++ l
+unfolding planText withCrash withDelay startText rowsText
+grown-text p l q (by-crash r a) g =
+    let s = crash-small p r (ranges-good p g) (a .range) in
+    ap planText (a .plan)
+    ∙ rw (a .first, rows-snoc crashText (p .crashes) r, crash-text l r (a .row) (omega arith) (omega arith))
+    (simp (append-assoc, append-nil))
+grown-text p l q (by-delay r a) g =
+    let s = delay-small p r (ranges-good p g) (a .range) in
+    ap planText (a .plan)
+    ∙ rw (rows-snoc delayText (p .delays) r, delay-text l r (a .row) (omega arith) (omega arith))
+    (simp append-assoc)
+
+-- a step that led to an accepted file
+step-inv : (x : Step) (line : ℕ) (f : Plan → Answer) (q : Plan) → stepThen x line f ≡ accepted q → (p : Plan) × (x ≡ next p) × (f p ≡ accepted q)
+unfolding stepThen
+step-inv (next p) line f q e = (p, refl, e)
+step-inv (stop k) line f q e = let z : _≡_ {A = ℕ} 0 1 = cc in absurd (omega arith)
+
+-- what the lines after p lead to
+record Leads (p : Plan) (ls : List (List ℕ)) (q : Plan) : Type 0 where
+  text : planText q ≡ planText p ++ joined ls
+  good : planTest q ≡ true
+  order : q .order ≡ numbers 0 (q .n)
+
+later-leads : (p : Plan) (line : ℕ) (ls : List (List ℕ)) (q : Plan) → planTest p ≡ true → p .order ≡ numbers 0 (p .n) → laterLines p line ls ≡ accepted q → Leads p ls q
+unfolding laterLines joined
+later-leads p line [] q g o e =
+    let same : p ≡ q = cc in
+    record { text = ap planText (sym same) ∙ sym (append-nil (planText p)); good = ap planTest (sym same) ∙ g; order = subst (λ (s : Plan). s .order ≡ numbers 0 (s .n)) same o }
+later-leads p line (l ∷ ls) q g o e =
+    let w = step-inv (laterLine p (rowOf l)) line _ q e in
+    let x = later-inv p (rowOf l) (w .0) (w .1) in
+    let r = later-leads (w .0) (suc line) ls q (grown-good p _ (w .0) x g) (grown-order p _ (w .0) x o) (w .2) in
+    record {
+      text = r .text ∙ ap (λ (t : List ℕ). t ++ joined ls) (grown-text p l (w .0) x g) ∙ append-assoc (planText p) l (joined ls);
+      good = r .good;
+      order = r .order;
+    }
+
+-- what an accepted file says of its plan
+record Holds (s : List ℕ) (q : Plan) : Type 0 where
+  text : planText q ≡ s
+  good : planTest q ≡ true
+  order : q .order ≡ numbers 0 (q .n)
+
+all-hold : (ls : List (List ℕ)) (q : Plan) → allLines ls ≡ accepted q → Holds (joined ls) q
+unfolding allLines joined planText rowsText
+all-hold [] q e = let z : _≡_ {A = ℕ} 0 1 = cc in absurd (omega arith)
+all-hold (l ∷ ls) q e =
+    let w = step-inv (firstLine (rowOf l)) 1 _ q e in
+    let o = first-inv (rowOf l) (w .0) (w .1) in
+    let rows = start-rows l (w .0) (o .row) in
+    let r = later-leads (w .0) 2 ls q (opened-good l (w .0) o) (rows .2) (w .2) in
+    let plan : planText (w .0) ≡ l = rw (rows .0, rows .1, append-nil) (sym (opened-text l (w .0) o)) in
+    record { text = r .text ∙ ap (λ (t : List ℕ). t ++ joined ls) plan; good = r .good; order = r .order }
+
+file-holds : (s : List ℕ) (q : Plan) → fileOf s ≡ accepted q → Holds s q
+unfolding fileOf
+file-holds s q e = by (within 1 65536 (length s)) e
+  where
+    by : (t : Bool) → cond t (allLines (lines s)) (refused 1 0) ≡ accepted q → Holds s q
+    by true e = subst (λ (t : List ℕ). Holds t q) (lines-joined s) (all-hold (lines s) q e)
+    by false e = let z : _≡_ {A = ℕ} 0 1 = cc in absurd (omega arith)
+
+-- ---- a plan's text is read as the plan
+
+-- the plan of p's P line, with these rows, in number order
+abbrev part : Plan → List Crash → List Delay → Plan
+part p cs ds = record { n = p .n; h = p .h; w = p .w; d = p .d; end = p .end; order = numbers 0 (p .n); crashes = cs; delays = ds }
+
+crash-taken : (p : Plan) (done : List Crash) (r : Crash) (rest : List Crash) → planTest p ≡ true → p .crashes ≡ done ++ (r ∷ rest)
+    → laterLine (part p done []) (rowOf (crashText r)) ≡ next (part p (done ++ (r ∷ [])) [])
+unfolding laterLine crashLine early orElse withCrash crashRange
+crash-taken p done r rest g e =
+    let t = tests-of p g in
+    let range : crashRange p r ≡ true = every-there (crashRange p) done r rest (ap (every (crashRange p)) (sym e) ∙ t .crashes) in
+    let order : crashOrder (done ++ (r ∷ [])) ≡ true = crash-order-start (done ++ (r ∷ [])) rest (ap crashOrder (append-assoc done (r ∷ []) rest ∙ sym e) ∙ t .crash-order) in
+    let small = crash-small p r (ranges-good p g) range in
+    rw (crash-row r (omega arith) (omega arith), range, order)
+
+delay-taken : (p : Plan) (done : List Delay) (r : Delay) (rest : List Delay) → planTest p ≡ true → p .delays ≡ done ++ (r ∷ rest)
+    → laterLine (part p (p .crashes) done) (rowOf (delayText r)) ≡ next (part p (p .crashes) (done ++ (r ∷ [])))
+unfolding laterLine delayLine orElse withDelay delayRange
+delay-taken p done r rest g e =
+    let t = tests-of p g in
+    let range : delayRange p r ≡ true = every-there (delayRange p) done r rest (ap (every (delayRange p)) (sym e) ∙ t .delays) in
+    let whole : (done ++ (r ∷ [])) ++ rest ≡ p .delays = append-assoc done (r ∷ []) rest ∙ sym e in
+    let order : delayOrder (done ++ (r ∷ [])) ≡ true = delay-order-start (done ++ (r ∷ [])) rest (ap delayOrder whole ∙ t .delay-order) in
+    let few : fewDelays (done ++ (r ∷ [])) ≡ true = few-start (done ++ (r ∷ [])) rest (ap fewDelays whole ∙ t .few) in
+    let small = delay-small p r (ranges-good p g) range in
+    rw (delay-row r (omega arith) (omega arith), range, order, few)
+
+-- a row's text is a line
+crash-line : (p : Plan) (r : Crash) (s : List ℕ) → startRanges p ≡ true → crashRange p r ≡ true → lines (crashText r ++ s) ≡ crashText r ∷ lines s
+unfolding crashText Small
+crash-line p r s g e = let small = crash-small p r g e in line-first 67 (r .tick ∷ r .node ∷ []) s (λ z. omega arith) (omega arith, (omega arith, tt))
+
+delay-line : (p : Plan) (r : Delay) (s : List ℕ) → startRanges p ≡ true → delayRange p r ≡ true → lines (delayText r ++ s) ≡ delayText r ∷ lines s
+unfolding delayText Small
+delay-line p r s g e = let small = delay-small p r g e in line-first 76 (r .number ∷ r .delay ∷ []) s (λ z. omega arith) (omega arith, (omega arith, tt))
+
+delays-read : (p : Plan) (done rest : List Delay) (line : ℕ) → planTest p ≡ true → p .delays ≡ done ++ rest
+    → laterLines (part p (p .crashes) done) line (lines (rowsText delayText rest)) ≡ accepted (part p (p .crashes) (p .delays))
+unfolding laterLines lines rowsText stepThen
+delays-read p done [] line g e = ap (λ (ds : List Delay). accepted (part p (p .crashes) ds)) (sym (e ∙ append-nil done))
+delays-read p done (r ∷ rest) line g e =
+    let range : delayRange p r ≡ true = every-there (delayRange p) done r rest (ap (every (delayRange p)) (sym e) ∙ tests-of p g .delays) in
+    rw (delay-line p r (rowsText delayText rest) (ranges-good p g) range, delay-taken p done r rest g e)
+    (delays-read p (done ++ (r ∷ [])) rest (suc line) g (e ∙ sym (append-assoc done (r ∷ []) rest)))
+
+crashes-read : (p : Plan) (done rest : List Crash) (line : ℕ) → planTest p ≡ true → p .crashes ≡ done ++ rest
+    → laterLines (part p done []) line (lines (rowsText crashText rest ++ rowsText delayText (p .delays))) ≡ accepted (part p (p .crashes) (p .delays))
+unfolding laterLines rowsText stepThen
+crashes-read p done [] line g e =
+    let whole : done ≡ p .crashes = sym (e ∙ append-nil done) in
+    rw whole (delays-read p [] (p .delays) line g refl)
+crashes-read p done (r ∷ rest) line g e =
+    let range : crashRange p r ≡ true = every-there (crashRange p) done r rest (ap (every (crashRange p)) (sym e) ∙ tests-of p g .crashes) in
+    rw (append-assoc (crashText r) (rowsText crashText rest) (rowsText delayText (p .delays)), crash-line p r (rowsText crashText rest ++ rowsText delayText (p .delays)) (ranges-good p g) range, crash-taken p done r rest g e)
+    (crashes-read p (done ++ (r ∷ [])) rest (suc line) g (e ∙ sym (append-assoc done (r ∷ []) rest)))
+
+-- the P line's tests, of the plan without its rows
+opening-tests : (p : Plan) → startTest p ≡ true → (startRanges (opening (p .n) (p .h) (p .w) (p .d) (p .end)) ≡ true) × (longEnough (opening (p .n) (p .h) (p .w) (p .d) (p .end)) ≡ true)
+unfolding startTest startRanges longEnough opening
+opening-tests p e = (and-first (startRanges p) (longEnough p) e, and-second (startRanges p) (longEnough p) e)
+
+start-taken : (p : Plan) → planTest p ≡ true → firstLine (rowOf (startText p)) ≡ next (part p [] [])
+unfolding firstLine startLine orElse opening
+start-taken p g =
+    let b = ranges-of p (ranges-good p g) in
+    let t = opening-tests p (tests-of p g .start) in
+    rw (start-row p (omega (arith, b .n-high)) (omega (arith, b .h-high)) (omega (arith, b .w-high)) (omega (arith, b .d-high)) (omega (arith, b .end-high)), t .0, t .1)
+
+start-line : (p : Plan) (s : List ℕ) → startRanges p ≡ true → lines (startText p ++ s) ≡ startText p ∷ lines s
+unfolding startText Small
+start-line p s g =
+    let b = ranges-of p g in
+    line-first 80 (p .n ∷ p .h ∷ p .w ∷ p .d ∷ p .end ∷ []) s (λ z. omega arith)
+    (omega (arith, b .n-high), (omega (arith, b .h-high), (omega (arith, b .w-high), (omega (arith, b .d-high), (omega (arith, b .end-high), tt)))))
+
+-- ---- the theorems
+
+-- a file that is read and written again has the same bytes
+pub written-back : (s : List ℕ) (p : Plan) → fileOf s ≡ accepted p → planText p ≡ s
+written-back s p e = file-holds s p e .text
+
+-- an accepted file's plan passes the test, in number order
+pub accepted-plan : (s : List ℕ) (p : Plan) → fileOf s ≡ accepted p → planTest p ≡ true
+accepted-plan s p e = file-holds s p e .good
+
+pub accepted-order : (s : List ℕ) (p : Plan) → fileOf s ≡ accepted p → p .order ≡ numbers 0 (p .n)
+accepted-order s p e = file-holds s p e .order
+
+-- what is written is accepted and read back as it was
+pub read-back : (p : Plan) → planTest p ≡ true → p .order ≡ numbers 0 (p .n) → fileOf (planText p) ≡ accepted p
+unfolding fileOf within allLines stepThen planText
+read-back p g o =
+    let size = plan-size p g in
+    rw (le-leb 1 (length (planText p)) (size .0), le-leb (length (planText p)) 65536 (omega (arith, size .1)), start-line p (rowsText crashText (p .crashes) ++ rowsText delayText (p .delays)) (ranges-good p g), start-taken p g)
+    (crashes-read p [] (p .crashes) 2 g refl ∙ rw (← o))

@@ -1,0 +1,241 @@
+-- A line's step, by the tests of the code: one law for each answer of `take_start`, `take_crash` and `take_delay`. Assumes nothing.
+use Prim.Native.Nat.{ℕ, zero, suc, _+_, _-_, _<_, _≤_, zero-le}
+use native.Mathlib.Omega.{arith}
+use native.Mathlib.Numerals.{add-one}
+use mathlib.Core.Path.{_≡_, refl, sym, ap, _∙_}
+use mathlib.Core.Bool.{Bool, true, false, cond, not, _&&_, _||_}
+use mathlib.Core.List.{List, [], _∷_, _++_}
+use lib.Dec.{eqb, leb, ltb}
+use lib.ListN.{length}
+use borrow.Author.Tests.{eq-eqb, ne-eqb, le-leb, lt-leb, lt-ltb, le-ltb, leb-true, leb-false}
+use Rattle.ring.specs.Ring.{listed, listing}
+use Rattle.text.specs.declared.Ranged.{Ranged}
+use Rattle.text.specs.declared.Ranged.the-variants.{Within, Outside}
+use Rattle.text.specs.Field.{rangedOf}
+use Rattle.text.proofs.FieldLaws.{range-bound}
+use Rattle.runfile.specs.Plan.{Crash, Delay, Plan, within, startRanges, longEnough, crashRange, delayRange, crashOrder, delayOrder, fewDelays, startTest, crashTest, delayTest, planTest, every, hits}
+use Rattle.runfile.specs.File.{Step, next, stop, opening, orElse, withCrash, withDelay, startLine, early, crashLine, delayLine}
+use Rattle.runfile.specs.Reader.{sofarOf, Kept, lineOf, follows, crashFloor, delayFloor, seenFrom}
+use Rattle.runfile.specs.declared.Sofar.{Sofar}
+use Rattle.runfile.specs.declared.Line.{Line}
+use Rattle.runfile.specs.declared.Line.the-variants.{Next, Stop}
+use Rattle.runfile.proofs.Order.{and-left, and-right, and-both, and-first, and-second, every-snoc, crash-order-snoc, crash-floor-snoc, seen-snoc, seen-hits, delay-order-snoc, delay-floor-snoc, snoc-length, few-snoc}
+
+-- ---- ranges
+
+-- a number that has left its range
+outside : (x low high : ℕ) → rangedOf x low high ≡ Outside → within low high x ≡ false
+unfolding rangedOf within
+outside x low high e = by (leb low x && leb x high) refl e
+  where
+    by : (t : Bool) → (leb low x && leb x high) ≡ t → cond t (Within x) Outside ≡ Outside → (leb low x && leb x high) ≡ false
+    by true p e = let z : _≡_ {A = ℕ} 0 1 = cc in absurd (omega arith)
+    by false p e = p
+
+inside : (x low high y : ℕ) → rangedOf x low high ≡ Within y → within low high x ≡ true
+unfolding within
+inside x low high y e =
+    let b = range-bound x low high y e in
+    and-both (le-leb low x (omega arith)) (le-leb x high (omega arith))
+
+-- a number of which only the upper bound is asked
+above-range : (x high : ℕ) → rangedOf x 0 high ≡ Outside → leb x high ≡ false
+unfolding within
+above-range x high e = sym (rw (le-leb 0 x zero-le) refl) ∙ outside x 0 high e
+
+-- ---- the P line
+
+module _ (n h w d end : ℕ) where
+  start-outside : startRanges (opening n h w d end) ≡ false → Stop 3 ≡ lineOf (startLine (opening n h w d end))
+  unfolding startLine orElse lineOf
+  start-outside e = rw e
+
+  pub start-n : rangedOf n 1 64 ≡ Outside → Stop 3 ≡ lineOf (startLine (opening n h w d end))
+  unfolding startRanges opening
+  start-n e = start-outside (and-left _ (outside n 1 64 e))
+
+  pub start-h : rangedOf h 1 1000 ≡ Outside → Stop 3 ≡ lineOf (startLine (opening n h w d end))
+  unfolding startRanges opening
+  start-h e = start-outside (and-right (within 1 64 n) (and-left _ (outside h 1 1000 e)))
+
+  pub start-w : rangedOf w 1 65535 ≡ Outside → Stop 3 ≡ lineOf (startLine (opening n h w d end))
+  unfolding startRanges opening
+  start-w e = start-outside (and-right (within 1 64 n) (and-right (within 1 1000 h) (and-left _ (outside w 1 65535 e))))
+
+  pub start-d : rangedOf d 1 255 ≡ Outside → Stop 3 ≡ lineOf (startLine (opening n h w d end))
+  unfolding startRanges opening
+  start-d e = start-outside (and-right (within 1 64 n) (and-right (within 1 1000 h) (and-right (within 1 65535 w) (and-left _ (outside d 1 255 e)))))
+
+  pub start-end : rangedOf end 0 1000000 ≡ Outside → Stop 3 ≡ lineOf (startLine (opening n h w d end))
+  unfolding startRanges opening
+  start-end e = start-outside (and-right (within 1 64 n) (and-right (within 1 1000 h) (and-right (within 1 65535 w) (and-right (within 1 255 d) (outside end 0 1000000 e)))))
+
+  module _ (n' h' w' d' end' : ℕ) (rn : rangedOf n 1 64 ≡ Within n') (rh : rangedOf h 1 1000 ≡ Within h') (rw' : rangedOf w 1 65535 ≡ Within w') (rd : rangedOf d 1 255 ≡ Within d') (re : rangedOf end 0 1000000 ≡ Within end') where
+    start-inside : startRanges (opening n h w d end) ≡ true
+    unfolding startRanges opening
+    start-inside = and-both (inside n 1 64 n' rn) (and-both (inside h 1 1000 h' rh) (and-both (inside w 1 65535 w' rw') (and-both (inside d 1 255 d' rd) (inside end 0 1000000 end' re))))
+
+    pub start-short : w' < h' + d' → Stop 4 ≡ lineOf (startLine (opening n h w d end))
+    unfolding startLine orElse lineOf longEnough opening
+    start-short k =
+        let short : w < h + d = omega (arith, range-bound h 1 1000 h' rh .0, range-bound w 1 65535 w' rw' .0, range-bound d 1 255 d' rd .0) in
+        rw (start-inside, lt-leb (h + d) w short)
+
+    pub start-next : h' + d' ≤ w'
+        → Next (record { n = n'; h = h'; w = w'; d = d'; end = end'; crashes = 0; delays = 0; tick = 0; node = 0; seen = 0; number = 0 }) ≡ lineOf (startLine (opening n h w d end))
+    unfolding startLine orElse lineOf longEnough opening sofarOf crashFloor delayFloor seenFrom
+    start-next k =
+        let long : h + d ≤ w = omega (arith, range-bound h 1 1000 h' rh .0, range-bound w 1 65535 w' rw' .0, range-bound d 1 255 d' rd .0) in
+        rw (start-inside, le-leb (h + d) w long, ← range-bound n 1 64 n' rn .0, ← range-bound h 1 1000 h' rh .0, ← range-bound w 1 65535 w' rw' .0, ← range-bound d 1 255 d' rd .0, ← range-bound end 0 1000000 end' re .0)
+
+-- ---- a C line after those before it
+
+-- the rows of a plan that a file may hold are in order
+crashes-ordered : (p : Plan) → planTest p ≡ true → crashOrder (p .crashes) ≡ true
+unfolding planTest crashTest
+crashes-ordered p g = and-second (every (crashRange p) (p .crashes)) _ (and-first _ (delayTest p) (and-second (startTest p) _ g))
+
+module _ (p : Plan) (st : Sofar) (kept : Kept p st) (tick node : ℕ) where
+  -- the row of the line
+  abbrev row : Crash
+  row = record { tick = tick; node = node }
+
+  delays-same : st .delays ≡ length (p .delays)
+  unfolding sofarOf
+  delays-same = ap (λ (s : Sofar). s .delays) (kept .same)
+
+  pub crash-late : (st .delays ≡ 0 → ⊥) → Stop 2 ≡ lineOf (crashLine p row)
+  unfolding crashLine early orElse lineOf
+  crash-late h = rw (ne-eqb (length (p .delays)) 0 (λ e. h (delays-same ∙ e)))
+
+  module _ (none : st .delays ≡ 0) where
+    is-early : early p ≡ true
+    unfolding early
+    is-early = eq-eqb _ _ (sym delays-same ∙ none)
+
+    crash-outside : crashRange p row ≡ false → Stop 3 ≡ lineOf (crashLine p row)
+    unfolding crashLine orElse lineOf
+    crash-outside e = rw (is-early, e)
+
+    pub crash-tick : rangedOf tick 0 (st .end) ≡ Outside → Stop 3 ≡ lineOf (crashLine p row)
+    unfolding crashRange sofarOf
+    crash-tick e = crash-outside (and-left _ (above-range tick (p .end) (ap (rangedOf tick 0) (sym (ap (λ (s : Sofar). s .end) (kept .same))) ∙ e)))
+
+    module _ (some : 1 ≤ st .n) where
+      node-range : (t : Bool) → leb node (st .n - 1) ≡ t → ltb node (p .n) ≡ t
+      unfolding sofarOf
+      node-range t e = let k : st .n ≡ p .n = ap (λ (s : Sofar). s .n) (kept .same) in by t e
+        where
+          by : (t : Bool) → leb node (st .n - 1) ≡ t → ltb node (p .n) ≡ t
+          by true e = lt-ltb node (p .n) (omega (arith, leb-true node (st .n - 1) e, ap (λ (s : Sofar). s .n) (kept .same)))
+          by false e = le-ltb node (p .n) (omega (arith, leb-false node (st .n - 1) e, ap (λ (s : Sofar). s .n) (kept .same)))
+
+      pub crash-node : rangedOf node 0 (st .n - 1) ≡ Outside → Stop 3 ≡ lineOf (crashLine p row)
+      unfolding crashRange
+      crash-node e = crash-outside (and-right (leb tick (p .end)) (node-range false (above-range node (st .n - 1) e)))
+
+      module _ (t k : ℕ) (rt : rangedOf tick 0 (st .end) ≡ Within t) (rk : rangedOf node 0 (st .n - 1) ≡ Within k) where
+        crash-inside : crashRange p row ≡ true
+        unfolding crashRange sofarOf
+        crash-inside =
+            let a = range-bound tick 0 (st .end) t rt in
+            let b = range-bound node 0 (st .n - 1) k rk in
+            and-both (le-leb tick (p .end) (omega (arith, a, ap (λ (s : Sofar). s .end) (kept .same)))) (node-range true (le-leb node (st .n - 1) (omega arith)))
+
+        -- the test of order, by what is kept
+        crash-order : crashOrder (p .crashes ++ (row ∷ [])) ≡ follows (st .tick) (st .node) t k && not (listed (st .seen) k)
+        unfolding sofarOf
+        crash-order =
+            crash-order-snoc (p .crashes) tick node (crashes-ordered p (kept .good))
+            ∙ rw (kept .same, ← range-bound tick 0 (st .end) t rt .0, ← range-bound node 0 (st .n - 1) k rk .0, seen-hits (p .crashes) node)
+
+        crash-unordered : follows (st .tick) (st .node) t k && not (listed (st .seen) k) ≡ false → Stop 5 ≡ lineOf (crashLine p row)
+        unfolding crashLine withCrash orElse lineOf
+        crash-unordered e = rw (is-early, crash-inside, crash-order ∙ e)
+
+        pub crash-low : follows (st .tick) (st .node) t k ≡ false → Stop 5 ≡ lineOf (crashLine p row)
+        crash-low e = crash-unordered (and-left _ e)
+
+        pub crash-twice : listed (st .seen) k ≡ true → Stop 5 ≡ lineOf (crashLine p row)
+        crash-twice e = crash-unordered (and-right (follows (st .tick) (st .node) t k) (ap not e))
+
+        pub crash-next : follows (st .tick) (st .node) t k ≡ true → listed (st .seen) k ≡ false
+            → Next (record { n = st .n; h = st .h; w = st .w; d = st .d; end = st .end; crashes = st .crashes + 1; delays = 0; tick = t; node = k + 1; seen = listing (st .seen) k; number = st .number }) ≡ lineOf (crashLine p row)
+        unfolding crashLine withCrash orElse lineOf sofarOf
+        crash-next e f =
+            rw (
+              is-early,
+              crash-inside,
+              crash-order ∙ and-both e (ap not f),
+              kept .same,
+              snoc-length (p .crashes) row,
+              crash-floor-snoc (p .crashes) tick node,
+              seen-snoc 0 (p .crashes) row,
+              range-bound tick 0 (st .end) t rt .0,
+              range-bound node 0 (st .n - 1) k rk .0,
+              add-one k,
+              sym delays-same ∙ none,
+            )
+
+-- ---- an L line after those before it
+
+delays-ordered : (p : Plan) → planTest p ≡ true → delayOrder (p .delays) ≡ true
+unfolding planTest delayTest
+delays-ordered p g = and-first _ (fewDelays (p .delays)) (and-second (every (delayRange p) (p .delays)) _ (and-second (crashTest p) _ (and-second (startTest p) _ g)))
+
+module _ (p : Plan) (st : Sofar) (kept : Kept p st) (number delay : ℕ) where
+  abbrev late : Delay
+  late = record { number = number; delay = delay }
+
+  delay-outside : delayRange p late ≡ false → Stop 3 ≡ lineOf (delayLine p late)
+  unfolding delayLine orElse lineOf
+  delay-outside e = rw e
+
+  pub delay-number : rangedOf number 0 999999 ≡ Outside → Stop 3 ≡ lineOf (delayLine p late)
+  unfolding delayRange
+  delay-number e = delay-outside (and-left _ (above-range number 999999 e))
+
+  pub delay-delay : rangedOf delay 1 (st .d) ≡ Outside → Stop 3 ≡ lineOf (delayLine p late)
+  unfolding delayRange sofarOf
+  delay-delay e = delay-outside (and-right (leb number 999999) (outside delay 1 (p .d) (ap (rangedOf delay 1) (sym (ap (λ (s : Sofar). s .d) (kept .same))) ∙ e)))
+
+  module _ (k t : ℕ) (rk : rangedOf number 0 999999 ≡ Within k) (rt : rangedOf delay 1 (st .d) ≡ Within t) where
+    delay-inside : delayRange p late ≡ true
+    unfolding delayRange sofarOf
+    delay-inside =
+        let a = range-bound number 0 999999 k rk in
+        and-both (le-leb number 999999 (omega arith)) (inside delay 1 (p .d) t (ap (rangedOf delay 1) (sym (ap (λ (s : Sofar). s .d) (kept .same))) ∙ rt))
+
+    delay-order : delayOrder (p .delays ++ (late ∷ [])) ≡ leb (st .number) k
+    unfolding sofarOf
+    delay-order =
+        delay-order-snoc (p .delays) late (delays-ordered p (kept .good))
+        ∙ rw (kept .same, ← range-bound number 0 999999 k rk .0)
+
+    delay-few : fewDelays (p .delays ++ (late ∷ [])) ≡ ltb (st .delays) 2048
+    unfolding sofarOf
+    delay-few = few-snoc (p .delays) late ∙ rw (kept .same)
+
+    pub delay-low : k < st .number → Stop 5 ≡ lineOf (delayLine p late)
+    unfolding delayLine withDelay orElse lineOf
+    delay-low h = rw (delay-inside, delay-order ∙ lt-leb (st .number) k h)
+
+    module _ (rises : st .number ≤ k) where
+      pub delay-many : 2048 ≤ st .delays → Stop 6 ≡ lineOf (delayLine p late)
+      unfolding delayLine withDelay orElse lineOf
+      delay-many h = rw (delay-inside, delay-order ∙ le-leb (st .number) k rises, delay-few ∙ le-ltb (st .delays) 2048 h)
+
+      pub delay-next : st .delays < 2048
+          → Next (record { n = st .n; h = st .h; w = st .w; d = st .d; end = st .end; crashes = st .crashes; delays = st .delays + 1; tick = st .tick; node = st .node; seen = st .seen; number = k + 1 }) ≡ lineOf (delayLine p late)
+      unfolding delayLine withDelay orElse lineOf sofarOf
+      delay-next h =
+          rw (
+            delay-inside,
+            delay-order ∙ le-leb (st .number) k rises,
+            delay-few ∙ lt-ltb (st .delays) 2048 h,
+            kept .same,
+            snoc-length (p .delays) late,
+            delay-floor-snoc (p .delays) late,
+            range-bound number 0 999999 k rk .0,
+            add-one k,
+          )

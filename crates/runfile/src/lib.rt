@@ -1,0 +1,403 @@
+// Run files: their reader, the rows of an accepted file, and their writer.
+use text::Number;
+use text::Ranged;
+ghost use mathlib.Core.Path.{_≡_};
+ghost use mathlib.Core.List.{[], _∷_, _++_};
+ghost use Prim.Native.Nat.{_+_, _<_, _≤_};
+ghost use lib.ListN.{drop, length};
+ghost use Rattle.text.specs.Field.{field};
+ghost use Rattle.text.specs.Put.{Put};
+ghost use Rattle.runfile.specs.Plan.{lineText, startText, crashText, delayText};
+ghost use Rattle.runfile.specs.File.{rowOf, fileOf, allLines, lines, opening, firstLine, laterLine, startLine, crashLine, delayLine, crashOf, delayOf};
+ghost use Rattle.runfile.specs.Reader.{readOf, lineOf, Tells, Passed, follows as Reader·follows, lineLength, rowAt};
+
+// What an accepted file plans: the values of its P line, how many C and L lines it has, and the place of the first of them.
+pub struct Outline {
+    pub n: u64,
+    pub h: u64,
+    pub w: u64,
+    pub d: u64,
+    pub end: u64,
+    pub crashes: usize,
+    pub delays: usize,
+    pub rows: usize,
+}
+
+// What a file comes to: what it plans, or the refusal's number and its line.
+pub enum Read {
+    Accepted(Outline),
+    Refused(u64, u64),
+}
+
+// What is kept of the lines so far: the values of the P line, how many C and L lines came, the tick and node that the next C line
+// may not be below, the nodes that the C lines named, and the number that the next L line may not be below.
+pub struct Sofar {
+    pub n: u64,
+    pub h: u64,
+    pub w: u64,
+    pub d: u64,
+    pub end: u64,
+    pub crashes: usize,
+    pub delays: usize,
+    pub tick: u64,
+    pub node: u64,
+    pub seen: u64,
+    pub number: u64,
+}
+
+// What a line comes to: what is kept from there on, or the number that refuses it.
+pub enum Line {
+    Next(Sofar),
+    Stop(u64),
+}
+
+// The values of a P line.
+fn take_start(n: u64, h: u64, w: u64, d: u64, end: u64) -> Line
+    ensures { λ r. ⌜ r ≡ lineOf (startLine (opening n h w d end)) ⌝ }
+{
+    let Ranged::Within(n) = text::in_range(n, 1, 64) else {
+        return Line::Stop(3);
+    };
+    let Ranged::Within(h) = text::in_range(h, 1, 1000) else {
+        return Line::Stop(3);
+    };
+    let Ranged::Within(w) = text::in_range(w, 1, 65535) else {
+        return Line::Stop(3);
+    };
+    let Ranged::Within(d) = text::in_range(d, 1, 255) else {
+        return Line::Stop(3);
+    };
+    let Ranged::Within(end) = text::in_range(end, 0, 1000000) else {
+        return Line::Stop(3);
+    };
+    if w < h + d {
+        return Line::Stop(4);
+    }
+    Line::Next(Sofar {
+        n,
+        h,
+        w,
+        d,
+        end,
+        crashes: 0,
+        delays: 0,
+        tick: 0,
+        node: 0,
+        seen: 0,
+        number: 0,
+    })
+}
+
+// The first line, which is to be the P line.
+fn first_line(l: &[u8]) -> Line
+    ensures { λ r. ⌜ r ≡ lineOf (firstLine (rowOf (now (l .entry)))) ⌝ }
+{
+    if l.len() == 0 {
+        return Line::Stop(2);
+    }
+    if l[0] != b'P' {
+        return Line::Stop(2);
+    }
+    let Number::Value(n, i) = text::read_field(l, 1) else {
+        return Line::Stop(2);
+    };
+    let Number::Value(h, j) = text::read_field(l, i) else {
+        return Line::Stop(2);
+    };
+    let Number::Value(w, k) = text::read_field(l, j) else {
+        return Line::Stop(2);
+    };
+    let Number::Value(d, m) = text::read_field(l, k) else {
+        return Line::Stop(2);
+    };
+    let Number::Value(end, e) = text::read_field(l, m) else {
+        return Line::Stop(2);
+    };
+    if !text::ends(l, e) {
+        return Line::Stop(2);
+    }
+    take_start(n, h, w, d, end)
+}
+
+// The row of a tick and a node is not below that of the tick floor and the node first, by tick and then node.
+fn follows(floor: u64, first: u64, tick: u64, node: u64) -> bool
+    ensures { λ r. ⌜ r ≡ Reader·follows floor first tick node ⌝ }
+{
+    if floor < tick {
+        return true;
+    }
+    if floor != tick {
+        return false;
+    }
+    first <= node
+}
+
+// A C line after those before it.
+fn take_crash(st: Sofar, tick: u64, node: u64) -> Line
+    requires { ⌜ (1 ≤ st .n) × (st .n ≤ 64) × (st .crashes < 65536) ⌝ }
+    ensures { λ r. ⌜ Tells st (λ p. crashLine p (record { tick = tick; node = node })) r ⌝ }
+{
+    if st.delays != 0 {
+        return Line::Stop(2);
+    }
+    let Ranged::Within(tick) = text::in_range(tick, 0, st.end) else {
+        return Line::Stop(3);
+    };
+    let Ranged::Within(node) = text::in_range(node, 0, st.n - 1) else {
+        return Line::Stop(3);
+    };
+    if !follows(st.tick, st.node, tick, node) {
+        return Line::Stop(5);
+    }
+    if ring::is_listed(st.seen, node as u8) {
+        return Line::Stop(5);
+    }
+    Line::Next(Sofar {
+        n: st.n,
+        h: st.h,
+        w: st.w,
+        d: st.d,
+        end: st.end,
+        crashes: st.crashes + 1,
+        delays: 0,
+        tick,
+        node: node + 1,
+        seen: ring::with_listed(st.seen, node as u8),
+        number: st.number,
+    })
+}
+
+// An L line after those before it.
+fn take_delay(st: Sofar, number: u64, delay: u64) -> Line
+    ensures { λ r. ⌜ Tells st (λ p. delayLine p (record { number = number; delay = delay })) r ⌝ }
+{
+    let Ranged::Within(number) = text::in_range(number, 0, 999999) else {
+        return Line::Stop(3);
+    };
+    let Ranged::Within(_) = text::in_range(delay, 1, st.d) else {
+        return Line::Stop(3);
+    };
+    if number < st.number {
+        return Line::Stop(5);
+    }
+    if 2048 <= st.delays {
+        return Line::Stop(6);
+    }
+    Line::Next(Sofar {
+        n: st.n,
+        h: st.h,
+        w: st.w,
+        d: st.d,
+        end: st.end,
+        crashes: st.crashes,
+        delays: st.delays + 1,
+        tick: st.tick,
+        node: st.node,
+        seen: st.seen,
+        number: number + 1,
+    })
+}
+
+// A C line: two numbers and the line's end.
+fn crash_line(st: Sofar, l: &[u8]) -> Line
+    requires { ⌜ (1 ≤ st .n) × (st .n ≤ 64) × (st .crashes < 65536) ⌝ }
+    ensures { λ r. ⌜ Tells st (λ p. laterLine p (crashOf (now (l .entry)))) r ⌝ }
+{
+    let Number::Value(tick, i) = text::read_field(l, 1) else {
+        return Line::Stop(2);
+    };
+    let Number::Value(node, j) = text::read_field(l, i) else {
+        return Line::Stop(2);
+    };
+    if !text::ends(l, j) {
+        return Line::Stop(2);
+    }
+    take_crash(st, tick, node)
+}
+
+// An L line: two numbers and the line's end.
+fn delay_line(st: Sofar, l: &[u8]) -> Line
+    ensures { λ r. ⌜ Tells st (λ p. laterLine p (delayOf (now (l .entry)))) r ⌝ }
+{
+    let Number::Value(number, i) = text::read_field(l, 1) else {
+        return Line::Stop(2);
+    };
+    let Number::Value(delay, j) = text::read_field(l, i) else {
+        return Line::Stop(2);
+    };
+    if !text::ends(l, j) {
+        return Line::Stop(2);
+    }
+    take_delay(st, number, delay)
+}
+
+// A line after the P line, by its letter.
+fn later_line(st: Sofar, l: &[u8]) -> Line
+    requires { ⌜ (1 ≤ st .n) × (st .n ≤ 64) × (st .crashes < 65536) ⌝ }
+    ensures { λ r. ⌜ Tells st (λ p. laterLine p (rowOf (now (l .entry)))) r ⌝ }
+{
+    if l.len() == 0 {
+        return Line::Stop(2);
+    }
+    let letter = l[0];
+    match letter {
+        b'C' => crash_line(st, l),
+        b'L' => delay_line(st, l),
+        _ => Line::Stop(2),
+    }
+}
+
+// The place after the line that starts at the place at.
+fn line_end(s: &[u8], at: usize) -> usize
+    requires { ⌜ at ≤ length (now s) ⌝ }
+    ensures { λ r. ⌜ (r ≡ at + lineLength (drop at (now (s .entry)))) × (r ≤ length (now (s .entry))) ⌝ }
+{
+    let mut i = at;
+    while i < s.len() {
+        if s[i] == b'\n' {
+            return i + 1;
+        }
+        i += 1;
+    }
+    i
+}
+
+// The lines after the P line, which ends at the place rows and of which first is kept.
+fn later_lines(s: &[u8], first: Sofar, rows: usize) -> Read
+    requires { ⌜ (length (now s) ≤ 65536) × Passed (now s) rows first 2 rows ⌝ }
+    ensures { λ r. ⌜ r ≡ readOf (allLines (lines (now (s .entry)))) ⌝ }
+{
+    let mut st = first;
+    let mut line: u64 = 2;
+    let mut at = rows;
+    while at < s.len() {
+        let end = line_end(s, at);
+        let step = later_line(st, &s[at..end]);
+        match step {
+            Line::Next(next) => {
+                st = next;
+            }
+            Line::Stop(number) => {
+                return Read::Refused(number, line);
+            }
+        }
+        line += 1;
+        at = end;
+    }
+    Read::Accepted(Outline {
+        n: st.n,
+        h: st.h,
+        w: st.w,
+        d: st.d,
+        end: st.end,
+        crashes: st.crashes,
+        delays: st.delays,
+        rows,
+    })
+}
+
+// What a file comes to: its length, then its lines one after another, the first bad line deciding.
+pub fn read_file(s: &[u8]) -> Read
+    ensures { λ r. ⌜ r ≡ readOf (fileOf (now (s .entry))) ⌝ }
+{
+    if s.len() == 0 {
+        return Read::Refused(1, 0);
+    }
+    if 65536 < s.len() {
+        return Read::Refused(1, 0);
+    }
+    let rows = line_end(s, 0);
+    let step = first_line(&s[..rows]);
+    match step {
+        Line::Next(first) => later_lines(s, first, rows),
+        Line::Stop(number) => Read::Refused(number, 1),
+    }
+}
+
+// The two numbers of a C or L line, and the place after the line.
+pub struct Fields {
+    pub first: u64,
+    pub second: u64,
+    pub next: usize,
+}
+
+// The C or L line at the place at. Where there is none, the answer's place is at.
+pub fn row_at(s: &[u8], at: usize) -> Fields
+    ensures { λ r. ⌜ r ≡ rowAt (now (s .entry)) at ⌝ }
+{
+    if s.len() <= at {
+        return Fields {
+            first: 0,
+            second: 0,
+            next: at,
+        };
+    }
+    let Number::Value(first, i) = text::read_field(s, at + 1) else {
+        return Fields {
+            first: 0,
+            second: 0,
+            next: at,
+        };
+    };
+    let Number::Value(second, j) = text::read_field(s, i) else {
+        return Fields {
+            first: 0,
+            second: 0,
+            next: at,
+        };
+    };
+    Fields {
+        first,
+        second,
+        next: j + 1,
+    }
+}
+
+// The writers put a line into out from the place at on, and answer the place after it.
+
+// Two fields.
+fn put_two(out: &mut [u8], at: usize, a: u64, b: u64) -> usize
+    requires { ⌜ at + length (field a ++ field b) ≤ length (now out) ⌝ }
+    ensures { λ r. ⌜ Put (now (out .entry)) at (field a ++ field b) r (now (out .exit)) ⌝ }
+{
+    let next = text::put_field(out, at, a);
+    text::put_field(out, next, b)
+}
+
+// A letter, two fields and a line feed.
+fn put_row(out: &mut [u8], at: usize, letter: u8, a: u64, b: u64) -> usize
+    requires { ⌜ at + length (lineText letter (a ∷ b ∷ [])) ≤ length (now out) ⌝ }
+    ensures { λ r. ⌜ Put (now (out .entry)) at (lineText letter (a ∷ b ∷ [])) r (now (out .exit)) ⌝ }
+{
+    let fields = text::put_byte(out, at, letter);
+    let end = put_two(out, fields, a, b);
+    text::put_byte(out, end, b'\n')
+}
+
+// A P line.
+pub fn put_start(out: &mut [u8], at: usize, n: u64, h: u64, w: u64, d: u64, end: u64) -> usize
+    requires { ⌜ at + length (startText (opening n h w d end)) ≤ length (now out) ⌝ }
+    ensures { λ r. ⌜ Put (now (out .entry)) at (startText (opening n h w d end)) r (now (out .exit)) ⌝ }
+{
+    let i = text::put_byte(out, at, b'P');
+    let j = put_two(out, i, n, h);
+    let k = put_two(out, j, w, d);
+    let m = text::put_field(out, k, end);
+    text::put_byte(out, m, b'\n')
+}
+
+// A C line.
+pub fn put_crash(out: &mut [u8], at: usize, tick: u64, node: u64) -> usize
+    requires { ⌜ at + length (crashText (record { tick = tick; node = node })) ≤ length (now out) ⌝ }
+    ensures { λ r. ⌜ Put (now (out .entry)) at (crashText (record { tick = tick; node = node })) r (now (out .exit)) ⌝ }
+{
+    put_row(out, at, b'C', tick, node)
+}
+
+// An L line.
+pub fn put_delay(out: &mut [u8], at: usize, number: u64, delay: u64) -> usize
+    requires { ⌜ at + length (delayText (record { number = number; delay = delay })) ≤ length (now out) ⌝ }
+    ensures { λ r. ⌜ Put (now (out .entry)) at (delayText (record { number = number; delay = delay })) r (now (out .exit)) ⌝ }
+{
+    put_row(out, at, b'L', number, delay)
+}
