@@ -1,9 +1,15 @@
 -- The table of document 01's starred edges, an entry each with 01's words above it: what a definition gives there. To add
 -- one, write its line here and `refl` for it in proofs/Starred.antt. Assumes nothing.
 use mathlib.Core.Path.{_≡_}
-use mathlib.Core.List.{List, [], _∷_}
+use mathlib.Core.List.{List, [], _∷_, _++_}
 use Prim.Native.Nat.{ℕ}
+use Prim.Native.Char.{Char, code}
+use Prim.Native.String.{String, [] as empty, _∷_ as before}
 use Rattle.ring.specs.Ring.{numbers, listing, place, back, powers, targets}
+use Rattle.runfile.specs.File.{Answer, accepted, refused, fileOf, opening, withDelay}
+use Rattle.logline.specs.declared.Line.{Line}
+use Rattle.logline.specs.Line.{lineText}
+use Rattle.model.specs.Lines.{log}
 
 -- the dead list with these nodes listed
 unfoldable pub dead : List ℕ → ℕ
@@ -17,7 +23,37 @@ targetsOf n d i = targets (numbers 0 n) d (place (numbers 0 n) i)
 unfoldable pub backFrom : ℕ → ℕ → ℕ → ℕ
 backFrom n d i = back (numbers 0 n) d (place (numbers 0 n) i)
 
+-- the bytes of a text
+unfoldable pub bytes : String → List ℕ
+bytes empty = []
+bytes (before c s) = code c ∷ bytes s
+
+-- what a run file comes to
+unfoldable pub judged : String → Answer
+judged file = fileOf (bytes file)
+
+-- the text of a log's lines
+unfoldable pub logText : List Line → List ℕ
+logText [] = []
+logText (l ∷ ls) = lineText l ++ logText ls
+
+-- the whole log of an accepted file that has fewer than 20 events
+unfoldable pub written : Answer → List ℕ
+written (accepted p) = logText (log p 20)
+written (refused number line) = []
+
+unfoldable pub logOf : String → List ℕ
+logOf file = written (judged file)
+
 pub record Edges : Type 0 where
+  -- "the log above"
+  pub worked-log : logOf "P,2,2,3,1,6\nC,3,1\n" ≡ bytes "S,2,0,1,0000000000000000\nS,2,1,0,0000000000000000\nC,3,1,1,0000000000000000\nX,3,1,0,0000000000000000\nH,3,0,1,0000000000000000\nS,4,0,1,0000000000000000\nX,5,1,0,0000000000000000\nW,6,0,1,0000000000000002\nE,6,1,0,0000000000000002\n"
+  -- "P,1,1,2,1,5 logs only `E,5,1,0,0000000000000000`"
+  pub lone-log : logOf "P,1,1,2,1,5\n" ≡ bytes "E,5,1,0,0000000000000000\n"
+  -- "H 2, D 1: W 3 passes"
+  pub watch-3-passes : judged "P,2,2,3,1,6\n" ≡ accepted (opening 2 2 3 1 6)
+  -- "W 2 gets 4"
+  pub watch-2-refused : judged "P,2,2,2,1,6\n" ≡ refused 4 1
   -- "N 8, nodes 2 and 3 listed: targets of 1 are 4, 5, 7"
   pub targets-of-1 : targetsOf 8 (dead (2 ∷ 3 ∷ [])) 1 ≡ 4 ∷ 5 ∷ 7 ∷ []
   -- "of 7 are 0, 1, 5"
@@ -30,3 +66,11 @@ pub record Edges : Type 0 where
   pub back-over-listed : backFrom 5 (dead (3 ∷ 4 ∷ [])) 4 ≡ 2
   -- "with all others listed, to itself"
   pub back-to-itself : backFrom 5 (dead (1 ∷ 2 ∷ 3 ∷ 4 ∷ [])) 4 ≡ 0
+  -- "D 5: delay 5 passes"
+  pub delay-5-passes : judged "P,2,2,7,5,6\nL,0,5\n" ≡ accepted (withDelay (opening 2 2 7 5 6) (record { number = 0; delay = 5 }))
+  -- "0 and 6 get 3"
+  pub delay-0-refused : judged "P,2,2,7,5,6\nL,0,0\n" ≡ refused 3 2
+  pub delay-6-refused : judged "P,2,2,7,5,6\nL,0,6\n" ≡ refused 3 2
+  -- "after `C,3,1`, both `C,3,1` and `C,3,0` get 5"
+  pub crash-twice-refused : judged "P,2,2,3,1,6\nC,3,1\nC,3,1\n" ≡ refused 5 3
+  pub crash-falling-refused : judged "P,2,2,3,1,6\nC,3,1\nC,3,0\n" ≡ refused 5 3

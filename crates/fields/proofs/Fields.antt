@@ -39,8 +39,8 @@ field-same a b at width e h =
     (ext-getD 0 (take width (drop at a)) (take width (drop at b))
     (simp (length-take, length-drop, e))
     (λ i hi.
-        let hv : i < width = omega (arith, simp length-take at hi) in
-        rw (getD-take width (drop at a) i 0 hv, getD-take width (drop at b) i 0 hv, getD-drop at a i 0, getD-drop at b i 0) (h i hv)))
+    let hv : i < width = omega (arith, simp length-take at hi) in
+    rw (getD-take width (drop at a) i 0 hv, getD-take width (drop at b) i 0 hv, getD-drop at a i 0, getD-drop at b i 0) (h i hv)))
 
 module _ (s : List ℕ) (at : ℕ) where
   pub field-none : fieldAt s at 0 ≡ 0
@@ -87,9 +87,12 @@ module _ (s : List ℕ) (at : ℕ) where
   unfolding fieldAt
   get-put width x h hx =
       let e : length (take at s) ≡ at = length-take-le at s (omega arith) in
-      rw (put-eq width x h, append-assoc (take at s) (bytes width x) (drop (at + width) s),
-      drop-at (take at s) (bytes width x ++ drop (at + width) s) at e,
-      take-at (bytes width x) (drop (at + width) s) width (length-bytes width x)) (value-bytes width x hx)
+      rw (
+        put-eq width x h,
+        append-assoc (take at s) (bytes width x) (drop (at + width) s),
+        drop-at (take at s) (bytes width x ++ drop (at + width) s) at e,
+        take-at (bytes width x) (drop (at + width) s) width (length-bytes width x),
+      ) (value-bytes width x hx)
 
   -- a field before or after is left
   pub get-put-before : (width x p v : ℕ) → p + v ≤ at → fieldAt (putAt s at width x) p v ≡ fieldAt s p v

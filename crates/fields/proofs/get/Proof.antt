@@ -43,8 +43,8 @@ loop-less : tie.Need-loop-less Inv-loop μ-loop
 loop-less c = search needs
 
 loop-again : tie.Need-loop-again Inv-loop μ-loop
-loop-again c = 
-    let b = c .before .before in let a = b .before .args in 
+loop-again c =
+    let b = c .before .before in let a = b .before .args in
     let e = got-turn (a .s .now) (a .at) (a .width) (b .loop .i) (c .before .loop-test .taken) (b .loop .inv .0) (b .before .pre .0) in
     (search needs, rw (b .loop .inv .1) e, rw (b .loop .inv .1, e) (field-lt _ _ _ (λ k. c .shared-slice-known .given k .fits)))
 
