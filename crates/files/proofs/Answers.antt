@@ -1,7 +1,7 @@
 -- What the reader's answer says of number and line. Assumes nothing.
 use Prim.Native.Nat.{ℕ}
 use native.Mathlib.Omega.{arith}
-use mathlib.Core.Path.{_≡_, refl, sym}
+use mathlib.Core.Path.{_≡_, refl}
 use Rattle.runfile.specs.File.{Answer, accepted, refused}
 use Rattle.runfile.specs.Reader.{readOf}
 use Rattle.runfile.specs.declared.Outline.{Outline}

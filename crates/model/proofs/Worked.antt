@@ -1,5 +1,5 @@
--- Document 01's starred logs, computed from the definitions, and a file with a crash whose settled state is computed and meets every
--- hypothesis of `settling`. Assumes nothing.
+-- A file with a crash whose settled state is computed and meets every hypothesis of `settling`, and the S of document 01's edge.
+-- Assumes nothing.
 use mathlib.Core.Path.{_≡_, refl, sym, subst}
 use mathlib.Core.Bool.{true}
 use mathlib.Core.List.{List, [], _∷_}
@@ -8,43 +8,15 @@ use Prim.Native.Nat.{ℕ, _<_}
 use native.Mathlib.Omega.{arith}
 use Rattle.ring.specs.Ring.{keep, numbers, listed, listing, unlisted, round, place, ahead, back, next, count, powers, jumps, targets}
 use Rattle.node.specs.declared.Node.{Node}
-use Rattle.node.specs.Node.{reports, opening, onHeartbeat, onObserver, onReport, onHeartbeatDue, onWatchDue, onMessage, H}
-use Rattle.logline.specs.declared.Line.{Line}
+use Rattle.node.specs.Node.{reports, opening, onHeartbeat, onObserver, onReport, onHeartbeatDue, onWatchDue, onMessage}
 use Rattle.runfile.specs.Plan.{Plan, within, startRanges, longEnough, crashRange, risingFrom, rising, hits, noneTwice, crashOrder, delayOrder, fewDelays, every, startTest, crashTest, delayTest, planTest}
-use Rattle.model.specs.Platform.{alive, survivors, withCrashed, crashedList, start, crashEntries, messageEntries, timerEntry, timerEntries, pending, earlier, first, upTo, nextEvent, delayIn, delayOf, numbered, nodeOf, taken, without, received, apply, fits, tried, try, left, steps, after}
-use Rattle.model.specs.Lines.{C, X, W, E, line, otherOf, messageLine, lineOf, eventLines, lastLine, linesFrom, log, S as sent}
+use Rattle.model.specs.Platform.{alive, survivors, start, crashEntries, messageEntries, timerEntry, timerEntries, pending, earlier, first, upTo, nextEvent, delayIn, delayOf, numbered, nodeOf, taken, without, received, apply, fits, tried, try, left, steps, after}
 use Rattle.model.specs.Range.{Accepted, NotBefore}
 use Rattle.model.specs.Demand3.{S, settledBy, Spaced, NoneLeftBefore, SettledAt}
 use Rattle.model.proofs.NextEvent.{Best, best}
 use Rattle.model.proofs.Theorems.{settling}
 use Rattle.model.proofs.Plans.{accepted}
 use Rattle.model.proofs.Search.{none-left-before}
-
--- ---- the starred logs
-
--- P,2,2,3,1,6 and C,3,1
-unfoldable pub worked : Plan
-worked = record { n = 2; h = 2; w = 3; d = 1; end = 6; order = numbers 0 2; crashes = record { tick = 3; node = 1 } ∷ []; delays = [] }
-
-unfoldable pub workedLog : List Line
-workedLog = line sent 2 0 1 0
-    ∷ line sent 2 1 0 0
-    ∷ line C 3 1 1 0
-    ∷ line X 3 1 0 0
-    ∷ line H 3 0 1 0
-    ∷ line sent 4 0 1 0
-    ∷ line X 5 1 0 0
-    ∷ line W 6 0 1 2
-    ∷ line E 6 1 0 2
-    ∷ []
-
--- P,1,1,2,1,5
-unfoldable pub lone : Plan
-lone = record { n = 1; h = 1; w = 2; d = 1; end = 5; order = numbers 0 1; crashes = []; delays = [] }
-
-pub logs : (log worked 20 ≡ workedLog) × (log lone 20 ≡ line E 5 1 0 0 ∷ [])
-unfolding worked workedLog lone keep numbers listed listing unlisted round place ahead back next count powers jumps targets reports opening onHeartbeat onObserver onReport onHeartbeatDue onWatchDue onMessage hits alive survivors withCrashed crashedList start crashEntries messageEntries timerEntry timerEntries pending earlier first upTo nextEvent delayIn delayOf numbered taken without received apply fits tried try left otherOf messageLine lineOf eventLines lastLine linesFrom log
-logs = (refl, refl)
 
 -- ---- 63 survivors, W 100, D 5: S is 140
 

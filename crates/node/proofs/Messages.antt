@@ -11,7 +11,7 @@ use Rattle.ring.proofs.Counts.{length-targets, jumps-count-le}
 use Rattle.node.specs.declared.Message.{Message}
 use Rattle.node.specs.declared.Node.{Node}
 use Rattle.node.specs.declared.Turned.{Turned}
-use Rattle.node.specs.Node.{R, message, reports, sending, places, turned, relayed}
+use Rattle.node.specs.Node.{Turn, mostSent, R, message, reports, sending, places, turned, relayed}
 
 -- ---- the targets of a row
 
@@ -100,3 +100,7 @@ relayed-put order me subject t p m k to sent pq tq mq kq sq =
 pub turned-count : (t : Turned) (n : Node) (ms : List Message) → t ≡ turned (sending n ms) → t .count ≡ length ms
 unfolding turned
 turned-count t n ms e = ap (λ (x : Turned). x .count) e
+
+pub turned-sends : (t : Turned) (u : Turn) → t ≡ turned u → take (t .count) (t .sent) ≡ u .sends
+unfolding turned places
+turned-sends t u e = rw e (take-at (u .sends) (replicate (mostSent - length (u .sends)) none) (length (u .sends)) refl)

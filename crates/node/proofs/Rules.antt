@@ -1,6 +1,6 @@
 -- What the code of each rule gives is what its definition says. Assumes nothing.
 use mathlib.Core.Path.{_≡_, sym, _∙_}
-use mathlib.Core.Bool.{Bool, true, false, cond}
+use mathlib.Core.Bool.{Bool, true, false, cond, _||_}
 use mathlib.Core.List.{List, [], _∷_}
 use Prim.Native.Nat.{ℕ, zero, suc, _+_, _*_, _≤_, _<_}
 use native.Mathlib.Numerals.{add-one}
@@ -8,10 +8,11 @@ use native.Mathlib.Omega.{arith}
 use borrow.Author.Tests.{eq-eqb, ne-eqb, lt-ltb, le-ltb}
 use lib.Dec.{eqb}
 use lib.ListN.{length}
-use Rattle.ring.specs.Ring.{listed, listing, place, ahead, back, next}
+use Rattle.ring.specs.Ring.{mostNodes, listed, listing, place, ahead, back, next, targets}
 use Rattle.node.specs.declared.Node.{Node}
-use Rattle.node.specs.Node.{H, O, message, silent, sending, alone, withObserver, withWatch, withHeartbeat, withList, turned, relayed, opening, onHeartbeat, onObserver, onReport, onHeartbeatDue, onWatchDue, onMessage}
-use Rattle.node.proofs.Messages.{relayed-turned}
+use Rattle.node.specs.Node.{mostSent, reports, H, O, message, silent, sending, alone, withObserver, withWatch, withHeartbeat, withList, turned, relayed, opening, onHeartbeat, onObserver, onReport, onHeartbeatDue, onWatchDue, onMessage}
+use Rattle.ring.proofs.Counts.{length-targets, jumps-count-le}
+use Rattle.node.proofs.Messages.{length-reports, relayed-turned}
 
 -- ---- opening
 
@@ -100,3 +101,47 @@ module _ (order : List ℕ) (w tick me kind from subject : ℕ) (n : Node) where
   pub message-report : (kind ≡ H → ⊥) → (kind ≡ O → ⊥) → onMessage order w tick me kind from subject n ≡ onReport order me subject n
   unfolding onMessage
   message-report h o = rw (ne-eqb kind H h, ne-eqb kind O o)
+
+-- ---- a rule sends at most seven messages
+
+module _ (order : List ℕ) (l : length order ≤ mostNodes) where
+  reports-few : (subject d p : ℕ) → length (reports subject (targets order d p)) ≤ 6
+  reports-few subject d p = rw (length-reports, length-targets) (jumps-count-le (length order) d l)
+
+  pub report-few : (me subject : ℕ) (n : Node) → length (onReport order me subject n .sends) ≤ mostSent
+  unfolding onReport
+  report-few me subject n = go (listed (n .list) subject || eqb subject me)
+    where
+      d : ℕ
+      d = listing (n .list) subject
+
+      go : (b : Bool) → length (cond b (silent n) (sending (withList n d) (reports subject (targets order d (place order me)))) .sends) ≤ mostSent
+      go true = omega arith
+      go false = omega (arith, reports-few subject d (place order me))
+
+  pub watch-few : (w tick me : ℕ) (n : Node) → length (onWatchDue order w tick me n .sends) ≤ mostSent
+  unfolding onWatchDue
+  watch-few w tick me n = go (eqb e me)
+    where
+      d : ℕ
+      d = listing (n .list) (n .emitter)
+
+      e : ℕ
+      e = back order d (place order (n .emitter))
+
+      go : (b : Bool)
+          → length (cond b (silent (alone me d)) (record {
+            node = record { emitter = e; observer = n .observer; watch = suc (tick + 2 * w); heartbeat = n .heartbeat; list = d };
+            sends = message O e 0 ∷ reports (n .emitter) (targets order d (place order me));
+          }) .sends) ≤ mostSent
+      go true = omega arith
+      go false = omega (arith, reports-few (n .emitter) d (place order me))
+
+  pub message-few : (w tick me kind from subject : ℕ) (n : Node) → length (onMessage order w tick me kind from subject n .sends) ≤ mostSent
+  unfolding onMessage onHeartbeat onObserver
+  message-few w tick me kind from subject n = go (eqb kind H) (eqb kind O)
+    where
+      go : (a b : Bool) → length (cond a (onHeartbeat w tick from n) (cond b (onObserver tick from n) (onReport order me subject n)) .sends) ≤ mostSent
+      go true b = omega arith
+      go false true = omega arith
+      go false false = report-few me subject n

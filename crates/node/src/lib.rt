@@ -42,7 +42,7 @@ fn no_message() -> Message
 }
 
 // A node that sends nothing.
-fn quiet(n: Node) -> Turned
+pub fn quiet(n: Node) -> Turned
     ensures { λ r. ⌜ r ≡ turned (silent n) ⌝ }
 {
     Turned {

@@ -1,5 +1,5 @@
 -- A line's form, by the tests of the code. Assumes nothing.
-use Prim.Native.Nat.{ℕ, _<_}
+use Prim.Native.Nat.{ℕ}
 use native.Mathlib.Omega.{arith}
 use mathlib.Core.Path.{_≡_, refl, sym, ap, _∙_}
 use mathlib.Core.Bool.{Bool, true, false, cond}
@@ -7,14 +7,14 @@ use mathlib.Core.List.{List, [], _∷_}
 use mathlib.Core.Option.{Option, none, some}
 use lib.Dec.{eqb}
 use lib.ListN.{length, getD}
-use borrow.Author.Tests.{eq-eqb, ne-eqb}
+use borrow.Author.Tests.{ne-eqb}
 use Rattle.text.specs.declared.Number.{Number}
 use Rattle.text.specs.declared.Number.the-variants.{Value, NoNumber}
 use Rattle.text.specs.Field.{fieldAt, ends}
 use Rattle.runfile.specs.Plan.{Plan}
-use Rattle.runfile.specs.File.{Row, start, crash, delay, opening, fieldThen, pairOf, startOf, crashOf, delayOf, formOf, rowOf, firstLine, laterLine, stop}
+use Rattle.runfile.specs.File.{Row, start, opening, fieldThen, pairOf, startOf, crashOf, delayOf, formOf, rowOf, firstLine, laterLine, stop}
 use Rattle.runfile.specs.Reader.{lineOf}
-use Rattle.runfile.specs.declared.Line.the-variants.{Next, Stop}
+use Rattle.runfile.specs.declared.Line.the-variants.{Stop}
 
 -- ---- the letter
 

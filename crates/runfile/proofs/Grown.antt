@@ -1,19 +1,18 @@
 -- What an accepted line adds to the plan so far: the tests that it passed, and its bytes. Assumes nothing.
-use Prim.Native.Nat.{ℕ, suc, _+_, _≤_, _<_}
+use Prim.Native.Nat.{ℕ, _+_, _≤_, _<_}
 use native.Mathlib.Omega.{arith}
 use mathlib.Core.Path.{_≡_, refl, sym, ap, _∙_, subst}
-use mathlib.Core.Bool.{Bool, true, false, cond, _&&_}
-use mathlib.Core.List.{List, [], _∷_, _++_, append-assoc, append-nil}
+use mathlib.Core.Bool.{Bool, true, false}
+use mathlib.Core.List.{List, [], _∷_, _++_}
 use mathlib.Core.Option.{Option, none, some}
-use lib.Dec.{eqb, leb, ltb}
+use lib.Dec.{eqb, leb}
 use lib.ListN.{length, length-append}
 use borrow.Author.Tests.{leb-true, ltb-true, eqb-true}
 use Rattle.ring.specs.Ring.{numbers}
-use Rattle.text.specs.Number.{ceiling}
-use Rattle.runfile.specs.Plan.{Crash, Delay, Plan, within, startRanges, longEnough, crashRange, delayRange, crashOrder, delayOrder, fewDelays, every, startTest, crashTest, delayTest, planTest, startText, crashText, delayText, rowsText, planText, rising, noneTwice}
-use Rattle.runfile.specs.File.{Row, start, crash, delay, rowOf, Step, next, stop, orElse, withCrash, withDelay, startLine, early, crashLine, delayLine, firstLine, laterLine}
-use Rattle.runfile.proofs.Order.{and-both, and-first, and-second, every-snoc}
-use Rattle.runfile.proofs.Trip.{start-text, start-rows, crash-text, delay-text}
+use Rattle.runfile.specs.Plan.{Crash, Delay, Plan, within, startRanges, longEnough, crashRange, delayRange, crashOrder, delayOrder, fewDelays, every, startTest, crashTest, delayTest, planTest, startText, rising, noneTwice}
+use Rattle.runfile.specs.File.{Row, start, crash, delay, rowOf, Step, next, orElse, withCrash, withDelay, startLine, early, crashLine, delayLine, firstLine, laterLine}
+use Rattle.runfile.proofs.Order.{and-first, and-second, every-snoc}
+use Rattle.runfile.proofs.Trip.{start-text, start-rows}
 
 else-inv : (t : Bool) (k : ℕ) (s : Step) (q : Plan) → orElse t k s ≡ next q → (t ≡ true) × (s ≡ next q)
 unfolding orElse

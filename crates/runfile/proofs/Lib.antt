@@ -10,4 +10,3 @@ pub mod Size
 pub mod RoundTrip
 pub mod Places
 pub mod Writing
-pub mod Edges

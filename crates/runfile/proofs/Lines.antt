@@ -1,16 +1,16 @@
 -- The lines of a file. Assumes nothing.
-use Prim.Native.Nat.{ℕ, zero, suc, _+_, _-_, _≤_, _<_}
+use Prim.Native.Nat.{ℕ, suc, _+_, _-_, _≤_, _<_}
 use native.Mathlib.Omega.{arith}
-use mathlib.Core.Path.{_≡_, refl, sym, ap, _∙_}
+use mathlib.Core.Path.{_≡_, refl}
 use mathlib.Core.Bool.{Bool, true, false, cond}
-use mathlib.Core.List.{List, [], _∷_, _++_}
+use mathlib.Core.List.{List, [], _∷_}
 use lib.ListN.{length, take, drop, getD, drop-of-length-le, length-drop}
 use lib.Seq.{drop-drop}
 use lib.Dec.{eqb}
 use borrow.Author.Tests.{eq-eqb, ne-eqb}
 use Rattle.text.proofs.PutLaws.{drop-next}
 use Rattle.runfile.specs.Plan.{Plan}
-use Rattle.runfile.specs.File.{Answer, accepted, onto, lines, rowOf, firstLine, laterLine, stepThen, laterLines, allLines}
+use Rattle.runfile.specs.File.{accepted, onto, lines, rowOf, firstLine, laterLine, stepThen, laterLines, allLines}
 use Rattle.runfile.specs.Reader.{lineLength}
 
 -- the first line of s, and the lines after it

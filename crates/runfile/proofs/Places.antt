@@ -1,21 +1,18 @@
 -- The rows of an accepted file stand at the places that the plan's text gives them. Assumes nothing.
-use Prim.Native.Nat.{ℕ, zero, suc, _+_, _-_, _*_, _≤_, _<_, min}
+use Prim.Native.Nat.{ℕ, suc, _+_, _-_, _*_, _≤_, _<_, min}
 use native.Mathlib.Omega.{arith}
-use native.Mathlib.Numerals.{add-one}
-use mathlib.Core.Path.{_≡_, refl, sym, ap, _∙_, subst}
-use mathlib.Core.Bool.{Bool, true, false, cond, _&&_}
+use mathlib.Core.Path.{_≡_, sym, ap, _∙_}
+use mathlib.Core.Bool.{Bool, true, false, cond}
 use mathlib.Core.List.{List, [], _∷_, _++_, append-assoc, append-nil}
-use lib.Dec.{eqb, leb, ltb}
+use lib.Dec.{eqb}
 use lib.ListN.{length, take, drop, getD, length-append, length-drop, drop-of-length-le, take-append-drop}
 use lib.Seq.{take-suc, split-at, drop-append-add, take-length}
-use Rattle.text.specs.declared.Number.{Number}
 use Rattle.text.specs.declared.Number.the-variants.{Value, NoNumber}
 use Rattle.text.specs.Number.{digit, ceiling, digitsFrom, numberFrom}
 use Rattle.text.specs.Field.{field, fieldFrom, fieldAt}
-use Rattle.runfile.specs.Plan.{Crash, Delay, Plan, startRanges, crashRange, delayRange, every, planTest, fieldsText, lineText, startText, crashText, delayText, rowsText, planText}
+use Rattle.runfile.specs.Plan.{Crash, Delay, Plan, crashRange, delayRange, every, planTest, fieldsText, lineText, startText, crashText, delayText, rowsText, planText}
 use Rattle.runfile.specs.File.{accepted, fileOf}
 use Rattle.runfile.specs.Reader.{rowThen, rowAt, crashPlace, delayPlace}
-use Rattle.runfile.specs.declared.Fields.{Fields}
 use Rattle.runfile.proofs.Grown.{tests-of, crash-small, delay-small, ranges-good}
 use Rattle.runfile.proofs.Written.{field-next, field-last}
 use Rattle.runfile.proofs.Order.{every-there}

@@ -1,25 +1,20 @@
 -- The reader's pass over a file, line by line. Assumes nothing.
-use Prim.Native.Nat.{ℕ, suc, _+_, _-_, _≤_, _<_}
+use Prim.Native.Nat.{ℕ, _+_, _-_, _≤_, _<_}
 use native.Mathlib.Omega.{arith}
 use mathlib.Core.Path.{_≡_, refl, sym, ap, _∙_}
-use mathlib.Core.Bool.{Bool, true, false, cond, _&&_}
-use mathlib.Core.List.{List, []}
-use lib.Dec.{leb}
+use mathlib.Core.List.{List}
 use lib.ListN.{length, take, drop, length-take}
 use borrow.Author.Tests.{le-leb, lt-leb}
-use Rattle.runfile.specs.Plan.{Plan, startRanges, startTest, planTest, longEnough, startText, within}
-use Rattle.runfile.specs.File.{Answer, accepted, refused, Step, next, stop, lines, rowOf, firstLine, laterLine, stepThen, laterLines, allLines, fileOf}
+use Rattle.runfile.specs.Plan.{Plan, startRanges, startTest, startText, within}
+use Rattle.runfile.specs.File.{Step, next, stop, lines, rowOf, firstLine, laterLine, stepThen, laterLines, allLines, fileOf}
 use Rattle.runfile.specs.Reader.{outlineOf, readOf, sofarOf, Kept, lineOf, Passed, lineLength}
-use Rattle.runfile.specs.declared.Outline.{Outline}
-use Rattle.runfile.specs.declared.Read.{Read}
 use Rattle.runfile.specs.declared.Read.the-variants.{Accepted, Refused}
 use Rattle.runfile.specs.declared.Sofar.{Sofar}
-use Rattle.runfile.specs.declared.Line.{Line}
 use Rattle.runfile.specs.declared.Line.the-variants.{Next, Stop}
 use Rattle.runfile.proofs.Order.{and-first}
 use Rattle.runfile.proofs.Lines.{file-first, file-later, file-end, line-grows}
 use Rattle.runfile.proofs.Trip.{start-rows}
-use Rattle.runfile.proofs.Grown.{Opened, first-inv, Ranges, ranges-of, opened-text, opened-good, Grown, later-inv, tests-of, grown-good, grown-start, grown-crashes}
+use Rattle.runfile.proofs.Grown.{first-inv, ranges-of, opened-text, opened-good, later-inv, tests-of, grown-good, grown-start, grown-crashes}
 
 -- what a step's answer says of the step
 next-inv : (x : Step) (st : Sofar) → Next st ≡ lineOf x → (q : Plan) × (x ≡ next q) × (st ≡ sofarOf q)

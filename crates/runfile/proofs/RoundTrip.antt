@@ -1,21 +1,19 @@
 -- Round trips: the file written from what was read of an accepted file is that file, and what is written is accepted and read back as it
 -- was. Assumes nothing.
-use Prim.Native.Nat.{ℕ, suc, _+_, _≤_, _<_}
+use Prim.Native.Nat.{ℕ, suc}
 use native.Mathlib.Omega.{arith}
 use mathlib.Core.Path.{_≡_, refl, sym, ap, _∙_, subst}
-use mathlib.Core.Bool.{Bool, true, false, cond, _&&_}
+use mathlib.Core.Bool.{Bool, true, false, cond}
 use mathlib.Core.List.{List, [], _∷_, _++_, append-assoc, append-nil}
-use mathlib.Core.Option.{Option, none, some}
-use lib.Dec.{eqb, leb, ltb}
+use lib.Dec.{eqb}
 use lib.ListN.{length}
 use borrow.Author.Tests.{le-leb}
 use Rattle.ring.specs.Ring.{numbers}
-use Rattle.text.specs.Number.{ceiling}
 use Rattle.runfile.specs.Plan.{Crash, Delay, Plan, within, startRanges, longEnough, startTest, crashRange, delayRange, crashOrder, delayOrder, fewDelays, every, planTest, startText, crashText, delayText, rowsText, planText}
-use Rattle.runfile.specs.File.{Answer, accepted, refused, Row, Step, next, stop, onto, lines, opening, rowOf, orElse, withCrash, withDelay, early, startLine, crashLine, delayLine, firstLine, laterLine, stepThen, laterLines, allLines, fileOf}
+use Rattle.runfile.specs.File.{Answer, accepted, refused, Step, next, stop, onto, lines, opening, rowOf, orElse, withCrash, withDelay, early, startLine, crashLine, delayLine, firstLine, laterLine, stepThen, laterLines, allLines, fileOf}
 use Rattle.runfile.proofs.Order.{and-first, and-second, every-there, crash-order-start, delay-order-start, few-start}
 use Rattle.runfile.proofs.Trip.{start-rows, crash-text, delay-text}
-use Rattle.runfile.proofs.Grown.{Opened, first-inv, Ranges, ranges-of, opened-text, opened-good, Grown, by-crash, by-delay, later-inv, Tests, tests-of, grown-good, grown-order, crash-small, delay-small, ranges-good}
+use Rattle.runfile.proofs.Grown.{first-inv, ranges-of, opened-text, opened-good, Grown, by-crash, by-delay, later-inv, tests-of, grown-good, grown-order, crash-small, delay-small, ranges-good}
 use Rattle.runfile.proofs.Written.{Small, start-row, crash-row, delay-row, line-first}
 use Rattle.runfile.proofs.Size.{plan-size}
 

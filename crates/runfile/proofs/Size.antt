@@ -4,17 +4,16 @@ use native.Mathlib.Omega.{arith}
 use native.Mathlib.Decide.{ℕ-discrete}
 use native.Mathlib.Nat.{mul-suc}
 use mathlib.Core.Path.{_≡_, refl, sym, ap, _∙_}
-use mathlib.Core.Bool.{Bool, true, false, cond, not, _&&_, _||_}
-use mathlib.Core.List.{List, [], _∷_, _++_}
+use mathlib.Core.Bool.{Bool, true, false, cond, not, _||_}
+use mathlib.Core.List.{List, [], _∷_}
 use lib.Dec.{eqb, leb, ltb}
 use lib.ListN.{length, length-append}
 use borrow.Author.Tests.{ltb-true, lt-ltb, leb-true, eqb-true, eqb-false, not-true}
-use Rattle.text.specs.Number.{ceiling, decimal}
 use Rattle.text.specs.Field.{field}
 use Rattle.text.proofs.NumberLaws.{decimal-length}
 use Rattle.runfile.specs.Plan.{Crash, Delay, Plan, startRanges, crashRange, delayRange, hits, noneTwice, crashOrder, rising, later, fewDelays, every, planTest, fieldsText, lineText, startText, crashText, delayText, rowsText, planText}
-use Rattle.runfile.proofs.Order.{and-first, and-second, and-both}
-use Rattle.runfile.proofs.Grown.{Ranges, ranges-of, Tests, tests-of, crash-small, delay-small, ranges-good}
+use Rattle.runfile.proofs.Order.{and-first, and-second}
+use Rattle.runfile.proofs.Grown.{ranges-of, tests-of, crash-small, delay-small, ranges-good}
 
 -- ---- rows of different nodes are at most as many as the nodes
 

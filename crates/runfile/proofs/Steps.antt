@@ -1,25 +1,23 @@
 -- A line's step, by the tests of the code: one law for each answer of `take_start`, `take_crash` and `take_delay`. Assumes nothing.
-use Prim.Native.Nat.{ℕ, zero, suc, _+_, _-_, _<_, _≤_, zero-le}
+use Prim.Native.Nat.{ℕ, _+_, _-_, _<_, _≤_, zero-le}
 use native.Mathlib.Omega.{arith}
 use native.Mathlib.Numerals.{add-one}
 use mathlib.Core.Path.{_≡_, refl, sym, ap, _∙_}
-use mathlib.Core.Bool.{Bool, true, false, cond, not, _&&_, _||_}
-use mathlib.Core.List.{List, [], _∷_, _++_}
-use lib.Dec.{eqb, leb, ltb}
+use mathlib.Core.Bool.{Bool, true, false, cond, not, _&&_}
+use mathlib.Core.List.{[], _∷_, _++_}
+use lib.Dec.{leb, ltb}
 use lib.ListN.{length}
 use borrow.Author.Tests.{eq-eqb, ne-eqb, le-leb, lt-leb, lt-ltb, le-ltb, leb-true, leb-false}
 use Rattle.ring.specs.Ring.{listed, listing}
-use Rattle.text.specs.declared.Ranged.{Ranged}
 use Rattle.text.specs.declared.Ranged.the-variants.{Within, Outside}
 use Rattle.text.specs.Field.{rangedOf}
 use Rattle.text.proofs.FieldLaws.{range-bound}
-use Rattle.runfile.specs.Plan.{Crash, Delay, Plan, within, startRanges, longEnough, crashRange, delayRange, crashOrder, delayOrder, fewDelays, startTest, crashTest, delayTest, planTest, every, hits}
-use Rattle.runfile.specs.File.{Step, next, stop, opening, orElse, withCrash, withDelay, startLine, early, crashLine, delayLine}
+use Rattle.runfile.specs.Plan.{Crash, Delay, Plan, within, startRanges, longEnough, crashRange, delayRange, crashOrder, delayOrder, fewDelays, startTest, crashTest, delayTest, planTest, every}
+use Rattle.runfile.specs.File.{opening, orElse, withCrash, withDelay, startLine, early, crashLine, delayLine}
 use Rattle.runfile.specs.Reader.{sofarOf, Kept, lineOf, follows, crashFloor, delayFloor, seenFrom}
 use Rattle.runfile.specs.declared.Sofar.{Sofar}
-use Rattle.runfile.specs.declared.Line.{Line}
 use Rattle.runfile.specs.declared.Line.the-variants.{Next, Stop}
-use Rattle.runfile.proofs.Order.{and-left, and-right, and-both, and-first, and-second, every-snoc, crash-order-snoc, crash-floor-snoc, seen-snoc, seen-hits, delay-order-snoc, delay-floor-snoc, snoc-length, few-snoc}
+use Rattle.runfile.proofs.Order.{and-left, and-right, and-both, and-first, and-second, crash-order-snoc, crash-floor-snoc, seen-snoc, seen-hits, delay-order-snoc, delay-floor-snoc, snoc-length, few-snoc}
 
 -- ---- ranges
 

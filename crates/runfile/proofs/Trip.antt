@@ -12,7 +12,7 @@ use Rattle.ring.specs.Ring.{numbers}
 use Rattle.text.specs.declared.Number.{Number}
 use Rattle.text.specs.declared.Number.the-variants.{Value, NoNumber}
 use Rattle.text.specs.Number.{ceiling}
-use Rattle.text.specs.Field.{fieldAt, ends, field, lineFeed}
+use Rattle.text.specs.Field.{fieldAt, ends, field}
 use Rattle.text.proofs.FieldTrip.{field-trip, ends-trip}
 use Rattle.runfile.specs.Plan.{Crash, Delay, Plan, fieldsText, lineText, startText, crashText, delayText}
 use Rattle.runfile.specs.File.{Row, start, crash, delay, opening, fieldThen, pairOf, startOf, crashOf, delayOf, formOf, rowOf}

@@ -1,18 +1,17 @@
 -- A line that is written is read again as what it says. Assumes nothing.
-use Prim.Native.Nat.{ℕ, zero, suc, _+_, _/_, _%_, _^_, _≤_, _<_}
+use Prim.Native.Nat.{ℕ, zero, suc, _+_, _/_, _%_, _^_, _<_}
 use native.Mathlib.Omega.{arith}
 use native.Mathlib.Decide.{decLt}
 use mathlib.Core.Path.{_≡_, refl, sym, ap, _∙_}
-use mathlib.Core.Bool.{Bool, true, false, cond, not, _&&_}
+use mathlib.Core.Bool.{true, false}
 use mathlib.Core.List.{List, [], _∷_, _++_, append-assoc, append-nil}
-use mathlib.Core.Option.{Option, none, some}
-use lib.Dec.{eqb}
+use mathlib.Core.Option.{some}
 use lib.ListN.{length, drop, length-drop}
 use borrow.Author.Tests.{ne-eqb}
 use Rattle.ring.specs.Ring.{numbers}
 use Rattle.text.specs.Number.{digit, ceiling, decimal}
-use Rattle.text.specs.Field.{fieldAt, ends, field, lineFeed}
-use Rattle.text.specs.declared.Number.the-variants.{Value, NoNumber}
+use Rattle.text.specs.Field.{fieldAt, ends, field}
+use Rattle.text.specs.declared.Number.the-variants.{Value}
 use Rattle.text.proofs.NumberLaws.{decimal-small, decimal-more}
 use Rattle.text.proofs.FieldTrip.{drop-past, field-back, ends-back}
 use Rattle.runfile.specs.Plan.{Crash, Delay, Plan, fieldsText, lineText, startText, crashText, delayText}

@@ -11,6 +11,37 @@ ghost use Rattle.runfile.specs.Plan.{lineText, startText, crashText, del
 ghost use Rattle.runfile.specs.File.{rowOf, fileOf, allLines, lines, opening, firstLine, laterLine, startLine, crashLine, delayLine, crashOf, delayOf};
 ghost use Rattle.runfile.specs.Reader.{readOf, lineOf, Tells, Passed, follows as Reader·follows, lineLength, rowAt};
 
+// The ranges of a run file.
+pub const MOST_BYTES: usize = 65536;
+
+pub const MOST_NODES: u64 = 64;
+
+pub const MOST_H: u64 = 1000;
+
+pub const MOST_W: u64 = 65535;
+
+pub const MOST_D: u64 = 255;
+
+pub const MOST_END: u64 = 1000000;
+
+pub const MOST_NUMBER: u64 = 999999;
+
+pub const MOST_DELAYS: usize = 2048;
+
+// The numbers of its refusals: the file's length; a line's form; a range; W below H + D; rows that do not rise, or a node twice; one
+// L line too many.
+const LENGTH: u64 = 1;
+
+const FORM: u64 = 2;
+
+const RANGE: u64 = 3;
+
+const SHORT: u64 = 4;
+
+const ORDER: u64 = 5;
+
+const MANY: u64 = 6;
+
 // What an accepted file plans: the values of its P line, how many C and L lines it has, and the place of the first of them.
 pub struct Outline {
     pub n: u64,
@@ -31,22 +62,22 @@ pub enum Read {
 
 // What is kept of the lines so far: the values of the P line, how many C and L lines came, the tick and node that the next C line
 // may not be below, the nodes that the C lines named, and the number that the next L line may not be below.
-pub struct Sofar {
-    pub n: u64,
-    pub h: u64,
-    pub w: u64,
-    pub d: u64,
-    pub end: u64,
-    pub crashes: usize,
-    pub delays: usize,
-    pub tick: u64,
-    pub node: u64,
-    pub seen: u64,
-    pub number: u64,
+struct Sofar {
+    n: u64,
+    h: u64,
+    w: u64,
+    d: u64,
+    end: u64,
+    crashes: usize,
+    delays: usize,
+    tick: u64,
+    node: u64,
+    seen: u64,
+    number: u64,
 }
 
 // What a line comes to: what is kept from there on, or the number that refuses it.
-pub enum Line {
+enum Line {
     Next(Sofar),
     Stop(u64),
 }
@@ -55,23 +86,23 @@ pub enum Line {
 fn take_start(n: u64, h: u64, w: u64, d: u64, end: u64) -> Line
     ensures { λ r. ⌜ r ≡ lineOf (startLine (opening n h w d end)) ⌝ }
 {
-    let Ranged::Within(n) = text::in_range(n, 1, 64) else {
-        return Line::Stop(3);
+    let Ranged::Within(n) = text::in_range(n, 1, MOST_NODES) else {
+        return Line::Stop(RANGE);
     };
-    let Ranged::Within(h) = text::in_range(h, 1, 1000) else {
-        return Line::Stop(3);
+    let Ranged::Within(h) = text::in_range(h, 1, MOST_H) else {
+        return Line::Stop(RANGE);
     };
-    let Ranged::Within(w) = text::in_range(w, 1, 65535) else {
-        return Line::Stop(3);
+    let Ranged::Within(w) = text::in_range(w, 1, MOST_W) else {
+        return Line::Stop(RANGE);
     };
-    let Ranged::Within(d) = text::in_range(d, 1, 255) else {
-        return Line::Stop(3);
+    let Ranged::Within(d) = text::in_range(d, 1, MOST_D) else {
+        return Line::Stop(RANGE);
     };
-    let Ranged::Within(end) = text::in_range(end, 0, 1000000) else {
-        return Line::Stop(3);
+    let Ranged::Within(end) = text::in_range(end, 0, MOST_END) else {
+        return Line::Stop(RANGE);
     };
     if w < h + d {
-        return Line::Stop(4);
+        return Line::Stop(SHORT);
     }
     Line::Next(Sofar {
         n,
@@ -93,28 +124,28 @@ fn first_line(l: &[u8]) -> Line
     ensures { λ r. ⌜ r ≡ lineOf (firstLine (rowOf (now (l .entry)))) ⌝ }
 {
     if l.len() == 0 {
-        return Line::Stop(2);
+        return Line::Stop(FORM);
     }
     if l[0] != b'P' {
-        return Line::Stop(2);
+        return Line::Stop(FORM);
     }
     let Number::Value(n, i) = text::read_field(l, 1) else {
-        return Line::Stop(2);
+        return Line::Stop(FORM);
     };
     let Number::Value(h, j) = text::read_field(l, i) else {
-        return Line::Stop(2);
+        return Line::Stop(FORM);
     };
     let Number::Value(w, k) = text::read_field(l, j) else {
-        return Line::Stop(2);
+        return Line::Stop(FORM);
     };
     let Number::Value(d, m) = text::read_field(l, k) else {
-        return Line::Stop(2);
+        return Line::Stop(FORM);
     };
     let Number::Value(end, e) = text::read_field(l, m) else {
-        return Line::Stop(2);
+        return Line::Stop(FORM);
     };
     if !text::ends(l, e) {
-        return Line::Stop(2);
+        return Line::Stop(FORM);
     }
     take_start(n, h, w, d, end)
 }
@@ -138,19 +169,19 @@ fn take_crash(st: Sofar, tick: u64, node: u64) -> Line
     ensures { λ r. ⌜ Tells st (λ p. crashLine p (record { tick = tick; node = node })) r ⌝ }
 {
     if st.delays != 0 {
-        return Line::Stop(2);
+        return Line::Stop(FORM);
     }
     let Ranged::Within(tick) = text::in_range(tick, 0, st.end) else {
-        return Line::Stop(3);
+        return Line::Stop(RANGE);
     };
     let Ranged::Within(node) = text::in_range(node, 0, st.n - 1) else {
-        return Line::Stop(3);
+        return Line::Stop(RANGE);
     };
     if !follows(st.tick, st.node, tick, node) {
-        return Line::Stop(5);
+        return Line::Stop(ORDER);
     }
     if ring::is_listed(st.seen, node as u8) {
-        return Line::Stop(5);
+        return Line::Stop(ORDER);
     }
     Line::Next(Sofar {
         n: st.n,
@@ -171,17 +202,17 @@ fn take_crash(st: Sofar, tick: u64, node: u64) -> Line
 fn take_delay(st: Sofar, number: u64, delay: u64) -> Line
     ensures { λ r. ⌜ Tells st (λ p. delayLine p (record { number = number; delay = delay })) r ⌝ }
 {
-    let Ranged::Within(number) = text::in_range(number, 0, 999999) else {
-        return Line::Stop(3);
+    let Ranged::Within(number) = text::in_range(number, 0, MOST_NUMBER) else {
+        return Line::Stop(RANGE);
     };
     let Ranged::Within(_) = text::in_range(delay, 1, st.d) else {
-        return Line::Stop(3);
+        return Line::Stop(RANGE);
     };
     if number < st.number {
-        return Line::Stop(5);
+        return Line::Stop(ORDER);
     }
-    if 2048 <= st.delays {
-        return Line::Stop(6);
+    if MOST_DELAYS <= st.delays {
+        return Line::Stop(MANY);
     }
     Line::Next(Sofar {
         n: st.n,
@@ -204,13 +235,13 @@ fn crash_line(st: Sofar, l: &[u8]) -> Line
     ensures { λ r. ⌜ Tells st (λ p. laterLine p (crashOf (now (l .entry)))) r ⌝ }
 {
     let Number::Value(tick, i) = text::read_field(l, 1) else {
-        return Line::Stop(2);
+        return Line::Stop(FORM);
     };
     let Number::Value(node, j) = text::read_field(l, i) else {
-        return Line::Stop(2);
+        return Line::Stop(FORM);
     };
     if !text::ends(l, j) {
-        return Line::Stop(2);
+        return Line::Stop(FORM);
     }
     take_crash(st, tick, node)
 }
@@ -220,13 +251,13 @@ fn delay_line(st: Sofar, l: &[u8]) -> Line
     ensures { λ r. ⌜ Tells st (λ p. laterLine p (delayOf (now (l .entry)))) r ⌝ }
 {
     let Number::Value(number, i) = text::read_field(l, 1) else {
-        return Line::Stop(2);
+        return Line::Stop(FORM);
     };
     let Number::Value(delay, j) = text::read_field(l, i) else {
-        return Line::Stop(2);
+        return Line::Stop(FORM);
     };
     if !text::ends(l, j) {
-        return Line::Stop(2);
+        return Line::Stop(FORM);
     }
     take_delay(st, number, delay)
 }
@@ -237,13 +268,13 @@ fn later_line(st: Sofar, l: &[u8]) -> Line
     ensures { λ r. ⌜ Tells st (λ p. laterLine p (rowOf (now (l .entry)))) r ⌝ }
 {
     if l.len() == 0 {
-        return Line::Stop(2);
+        return Line::Stop(FORM);
     }
     let letter = l[0];
     match letter {
         b'C' => crash_line(st, l),
         b'L' => delay_line(st, l),
-        _ => Line::Stop(2),
+        _ => Line::Stop(FORM),
     }
 }
 
@@ -301,10 +332,10 @@ pub fn read_file(s: &[u8]) -> Read
     ensures { λ r. ⌜ r ≡ readOf (fileOf (now (s .entry))) ⌝ }
 {
     if s.len() == 0 {
-        return Read::Refused(1, 0);
+        return Read::Refused(LENGTH, 0);
     }
-    if 65536 < s.len() {
-        return Read::Refused(1, 0);
+    if MOST_BYTES < s.len() {
+        return Read::Refused(LENGTH, 0);
     }
     let rows = line_end(s, 0);
     let step = first_line(&s[..rows]);

@@ -1,30 +1,22 @@
+-- `files::kelbraut_file_check` meets its contract. Assumes nothing.
 use borrow.Author.Needs.{needs}
-use native.Mathlib.Omega.{arith}
-use mathlib.Core.Path.{_≡_, refl, sym, ap, _∙_}
+use mathlib.Core.Path.{sym, _∙_}
 use Rattle.files.proofs.Answers.{accepted-answer, refused-answer}
 use Rattle.files.proofs.kelbraut_file_check.Statement.{statement}
 use Rattle.files.proofs.kelbraut_file_check.Tie as tie
-use Rattle.files.proofs.kelbraut_file_check.Reads as reads
-use Rattle.files.proofs.kelbraut_file_check.Lts as lts
-use Rattle.runfile.proofs.read_file.Reads as read-file-reads
 
--- src/lib.rt:12:9
 read-file-requires : tie.Need-read-file-requires
 read-file-requires c κs = search needs
 
--- src/lib.rt:15:13
 enum-told : tie.Need-enum-told
 enum-told c = search needs
 
--- src/lib.rt:18:23
 enum-known-read : tie.Need-enum-known-read
 enum-known-read c = search needs
 
--- src/lib.rt:8:1
 returns : tie.Need-returns
 returns c = accepted-answer _ _ (sym (c .before .before .read-file .ensures) ∙ c .enum-told .given .1)
 
--- src/lib.rt:8:1
 returns-2 : tie.Need-returns-2
 returns-2 c = refused-answer _ _ _ (sym (c .before .before .before .read-file .ensures) ∙ c .before .read .given .1)
 

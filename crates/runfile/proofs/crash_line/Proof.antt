@@ -1,58 +1,43 @@
+-- `runfile::crash_line` meets its contract: two fields and the line's end, then the C line's step. Assumes nothing.
 use borrow.Author.Needs.{needs}
-use native.Mathlib.Omega.{arith}
-use mathlib.Core.Path.{_≡_, refl, sym, ap, _∙_}
+use mathlib.Core.Path.{sym, _∙_}
 use borrow.Author.Tests.{not-true, not-false}
 use Rattle.runfile.specs.File.{crashOf, laterLine}
 use Rattle.runfile.proofs.Forms.{pair-none-1, pair-none-2, pair-none, pair-some, later-none}
 use Rattle.runfile.proofs.crash_line.Statement.{statement}
 use Rattle.runfile.proofs.crash_line.Tie as tie
-use Rattle.runfile.proofs.crash_line.Reads as reads
-use Rattle.runfile.proofs.crash_line.Lts as lts
-use Rattle.runfile.proofs.take_crash.Reads as take-crash-reads
-use Rattle.text.proofs.ends.Reads as ends-reads
-use Rattle.text.proofs.read_field.Reads as read-field-reads
 
--- src/lib.rt:203:34
 read-field-requires : tie.Need-read-field-requires
 read-field-requires c κs = search needs
 
--- src/lib.rt:203:23
 enum-known-tick : tie.Need-enum-known-tick
 enum-known-tick c = search needs
 
--- src/lib.rt:204:9
 enum-told : tie.Need-enum-told
 enum-told c = search needs
 
--- src/lib.rt:204:9
 returns : tie.Need-returns
 unfolding crashOf
 returns c p kept = later-none _ p (pair-none-1 _ _ (sym (c .before .before .read-field .ensures) ∙ c .enum-told .given .1))
 
--- src/lib.rt:206:34
 read-field-requires-2 : tie.Need-read-field-requires-2
 read-field-requires-2 c κs = search needs
 
--- src/lib.rt:206:23
 enum-known-node : tie.Need-enum-known-node
 enum-known-node c = search needs
 
--- src/lib.rt:207:9
 enum-told-2 : tie.Need-enum-told-2
 enum-told-2 c = search needs
 
--- src/lib.rt:207:9
 returns-2 : tie.Need-returns-2
 unfolding crashOf
 returns-2 c p kept =
     let tick = c .before .before .before .before in
     later-none _ p (pair-none-2 _ _ _ _ (sym (tick .before .before .read-field .ensures) ∙ tick .tick .given .1) (sym (c .before .before .read-field2 .ensures) ∙ c .enum-told2 .given .1))
 
--- src/lib.rt:209:9
 ends-requires : tie.Need-ends-requires
 ends-requires c κs = search needs
 
--- src/lib.rt:210:9
 returns-3 : tie.Need-returns-3
 unfolding crashOf
 returns-3 c p kept =
@@ -60,11 +45,9 @@ returns-3 c p kept =
     let tick = node .before .before .before .before in
     later-none _ p (pair-none _ _ _ _ (sym (tick .before .before .read-field .ensures) ∙ tick .tick .given .1) _ _ (sym (node .before .before .read-field2 .ensures) ∙ node .node .given .1) (sym (c .before .ends .ensures) ∙ not-true _ (c .if1 .taken)))
 
--- src/lib.rt:212:5
 take-crash-requires : tie.Need-take-crash-requires
 take-crash-requires c κs = search needs
 
--- src/lib.rt:199:1
 returns-4 : tie.Need-returns-4
 unfolding crashOf laterLine
 returns-4 c p kept =

@@ -1,58 +1,43 @@
+-- `runfile::delay_line` meets its contract: two fields and the line's end, then the L line's step. Assumes nothing.
 use borrow.Author.Needs.{needs}
-use native.Mathlib.Omega.{arith}
-use mathlib.Core.Path.{_≡_, refl, sym, ap, _∙_}
+use mathlib.Core.Path.{sym, _∙_}
 use borrow.Author.Tests.{not-true, not-false}
 use Rattle.runfile.specs.File.{delayOf, laterLine}
 use Rattle.runfile.proofs.Forms.{pair-none-1, pair-none-2, pair-none, pair-some, later-none}
 use Rattle.runfile.proofs.delay_line.Statement.{statement}
 use Rattle.runfile.proofs.delay_line.Tie as tie
-use Rattle.runfile.proofs.delay_line.Reads as reads
-use Rattle.runfile.proofs.delay_line.Lts as lts
-use Rattle.runfile.proofs.take_delay.Reads as take-delay-reads
-use Rattle.text.proofs.ends.Reads as ends-reads
-use Rattle.text.proofs.read_field.Reads as read-field-reads
 
--- src/lib.rt:219:36
 read-field-requires : tie.Need-read-field-requires
 read-field-requires c κs = search needs
 
--- src/lib.rt:219:23
 enum-known-number : tie.Need-enum-known-number
 enum-known-number c = search needs
 
--- src/lib.rt:220:9
 enum-told : tie.Need-enum-told
 enum-told c = search needs
 
--- src/lib.rt:220:9
 returns : tie.Need-returns
 unfolding delayOf
 returns c p kept = later-none _ p (pair-none-1 _ _ (sym (c .before .before .read-field .ensures) ∙ c .enum-told .given .1))
 
--- src/lib.rt:222:35
 read-field-requires-2 : tie.Need-read-field-requires-2
 read-field-requires-2 c κs = search needs
 
--- src/lib.rt:222:23
 enum-known-delay : tie.Need-enum-known-delay
 enum-known-delay c = search needs
 
--- src/lib.rt:223:9
 enum-told-2 : tie.Need-enum-told-2
 enum-told-2 c = search needs
 
--- src/lib.rt:223:9
 returns-2 : tie.Need-returns-2
 unfolding delayOf
 returns-2 c p kept =
     let number = c .before .before .before .before in
     later-none _ p (pair-none-2 _ _ _ _ (sym (number .before .before .read-field .ensures) ∙ number .number .given .1) (sym (c .before .before .read-field2 .ensures) ∙ c .enum-told2 .given .1))
 
--- src/lib.rt:225:9
 ends-requires : tie.Need-ends-requires
 ends-requires c κs = search needs
 
--- src/lib.rt:226:9
 returns-3 : tie.Need-returns-3
 unfolding delayOf
 returns-3 c p kept =
@@ -60,11 +45,9 @@ returns-3 c p kept =
     let number = delay .before .before .before .before in
     later-none _ p (pair-none _ _ _ _ (sym (number .before .before .read-field .ensures) ∙ number .number .given .1) _ _ (sym (delay .before .before .read-field2 .ensures) ∙ delay .delay .given .1) (sym (c .before .ends .ensures) ∙ not-true _ (c .if1 .taken)))
 
--- src/lib.rt:228:5
 take-delay-requires : tie.Need-take-delay-requires
 take-delay-requires c κs = search needs
 
--- src/lib.rt:216:1
 returns-4 : tie.Need-returns-4
 unfolding delayOf laterLine
 returns-4 c p kept =

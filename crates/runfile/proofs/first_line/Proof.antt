@@ -1,77 +1,57 @@
+-- `runfile::first_line` meets its contract: the letter, five fields and the line's end, then the P line's step. Assumes nothing.
 use borrow.Author.Needs.{needs}
-use native.Mathlib.Omega.{arith}
-use mathlib.Core.Path.{_≡_, refl, sym, ap, _∙_}
+use mathlib.Core.Path.{sym, _∙_}
 use borrow.Author.Tests.{not-true, not-false}
 use Rattle.runfile.specs.File.{firstLine}
 use Rattle.runfile.proofs.Forms.{row-empty, row-start, start-none-1, start-none-2, start-none-3, start-none-4, start-none-5, start-none, start-some, first-none, first-other}
 use Rattle.runfile.proofs.first_line.Statement.{statement}
 use Rattle.runfile.proofs.first_line.Tie as tie
-use Rattle.runfile.proofs.first_line.Reads as reads
-use Rattle.runfile.proofs.first_line.Lts as lts
-use Rattle.runfile.proofs.take_start.Reads as take-start-reads
-use Rattle.text.proofs.ends.Reads as ends-reads
-use Rattle.text.proofs.read_field.Reads as read-field-reads
 
--- src/lib.rt:93:9
 returns : tie.Need-returns
 returns c = first-none _ (row-empty _ (c .if1 .taken))
 
--- src/lib.rt:95:8
 shared-slice-read-if2 : tie.Need-shared-slice-read-if2
 shared-slice-read-if2 c = search needs
 
--- src/lib.rt:96:9
 returns-2 : tie.Need-returns-2
 returns-2 c = first-other _ (c .before .before .if1 .left) (c .if2 .taken)
 
--- src/lib.rt:98:31
 read-field-requires : tie.Need-read-field-requires
 read-field-requires c κs = search needs
 
--- src/lib.rt:98:23
 enum-known-n : tie.Need-enum-known-n
 enum-known-n c = search needs
 
--- src/lib.rt:99:9
 enum-told : tie.Need-enum-told
 enum-told c = search needs
 
--- src/lib.rt:99:9
 returns-3 : tie.Need-returns-3
 returns-3 c = first-none _ (row-start _ (c .before .before .before .before .before .if1 .left) (c .before .before .before .if2 .left) ∙ start-none-1 _ (sym (c .before .before .read-field .ensures) ∙ c .enum-told .given .1))
 
--- src/lib.rt:101:31
 read-field-requires-2 : tie.Need-read-field-requires-2
 read-field-requires-2 c κs = search needs
 
--- src/lib.rt:101:23
 enum-known-h : tie.Need-enum-known-h
 enum-known-h c = search needs
 
--- src/lib.rt:102:9
 enum-told-2 : tie.Need-enum-told-2
 enum-told-2 c = search needs
 
--- src/lib.rt:102:9
 returns-4 : tie.Need-returns-4
 returns-4 c =
     let n = c .before .before .before .before in
     let s = n .before .before .before in
     first-none _ (row-start _ (s .before .before .if1 .left) (s .if2 .left) ∙ start-none-2 _ _ _ (sym (n .before .before .read-field .ensures) ∙ n .n .given .1) (sym (c .before .before .read-field2 .ensures) ∙ c .enum-told2 .given .1))
 
--- src/lib.rt:104:31
 read-field-requires-3 : tie.Need-read-field-requires-3
 read-field-requires-3 c κs = search needs
 
--- src/lib.rt:104:23
 enum-known-w : tie.Need-enum-known-w
 enum-known-w c = search needs
 
--- src/lib.rt:105:9
 enum-told-3 : tie.Need-enum-told-3
 enum-told-3 c = search needs
 
--- src/lib.rt:105:9
 returns-5 : tie.Need-returns-5
 returns-5 c =
     let h = c .before .before .before .before in
@@ -79,19 +59,15 @@ returns-5 c =
     let s = n .before .before .before in
     first-none _ (row-start _ (s .before .before .if1 .left) (s .if2 .left) ∙ start-none-3 _ _ _ (sym (n .before .before .read-field .ensures) ∙ n .n .given .1) _ _ (sym (h .before .before .read-field2 .ensures) ∙ h .h .given .1) (sym (c .before .before .read-field3 .ensures) ∙ c .enum-told3 .given .1))
 
--- src/lib.rt:107:31
 read-field-requires-4 : tie.Need-read-field-requires-4
 read-field-requires-4 c κs = search needs
 
--- src/lib.rt:107:23
 enum-known-d : tie.Need-enum-known-d
 enum-known-d c = search needs
 
--- src/lib.rt:108:9
 enum-told-4 : tie.Need-enum-told-4
 enum-told-4 c = search needs
 
--- src/lib.rt:108:9
 returns-6 : tie.Need-returns-6
 returns-6 c =
     let w = c .before .before .before .before in
@@ -100,19 +76,15 @@ returns-6 c =
     let s = n .before .before .before in
     first-none _ (row-start _ (s .before .before .if1 .left) (s .if2 .left) ∙ start-none-4 _ _ _ (sym (n .before .before .read-field .ensures) ∙ n .n .given .1) _ _ (sym (h .before .before .read-field2 .ensures) ∙ h .h .given .1) _ _ (sym (w .before .before .read-field3 .ensures) ∙ w .w .given .1) (sym (c .before .before .read-field4 .ensures) ∙ c .enum-told4 .given .1))
 
--- src/lib.rt:110:33
 read-field-requires-5 : tie.Need-read-field-requires-5
 read-field-requires-5 c κs = search needs
 
--- src/lib.rt:110:23
 enum-known-end : tie.Need-enum-known-end
 enum-known-end c = search needs
 
--- src/lib.rt:111:9
 enum-told-5 : tie.Need-enum-told-5
 enum-told-5 c = search needs
 
--- src/lib.rt:111:9
 returns-7 : tie.Need-returns-7
 returns-7 c =
     let d = c .before .before .before .before in
@@ -122,11 +94,9 @@ returns-7 c =
     let s = n .before .before .before in
     first-none _ (row-start _ (s .before .before .if1 .left) (s .if2 .left) ∙ start-none-5 _ _ _ (sym (n .before .before .read-field .ensures) ∙ n .n .given .1) _ _ (sym (h .before .before .read-field2 .ensures) ∙ h .h .given .1) _ _ (sym (w .before .before .read-field3 .ensures) ∙ w .w .given .1) _ _ (sym (d .before .before .read-field4 .ensures) ∙ d .d .given .1) (sym (c .before .before .read-field5 .ensures) ∙ c .enum-told5 .given .1))
 
--- src/lib.rt:113:9
 ends-requires : tie.Need-ends-requires
 ends-requires c κs = search needs
 
--- src/lib.rt:114:9
 returns-8 : tie.Need-returns-8
 returns-8 c =
     let end = c .before .before .before in
@@ -137,11 +107,9 @@ returns-8 c =
     let s = n .before .before .before in
     first-none _ (row-start _ (s .before .before .if1 .left) (s .if2 .left) ∙ start-none _ _ _ (sym (n .before .before .read-field .ensures) ∙ n .n .given .1) _ _ (sym (h .before .before .read-field2 .ensures) ∙ h .h .given .1) _ _ (sym (w .before .before .read-field3 .ensures) ∙ w .w .given .1) _ _ (sym (d .before .before .read-field4 .ensures) ∙ d .d .given .1) _ _ (sym (end .before .before .read-field5 .ensures) ∙ end .end .given .1) (sym (c .before .ends .ensures) ∙ not-true _ (c .if3 .taken)))
 
--- src/lib.rt:116:5
 take-start-requires : tie.Need-take-start-requires
 take-start-requires c κs = search needs
 
--- src/lib.rt:89:1
 returns-9 : tie.Need-returns-9
 unfolding firstLine
 returns-9 c =

@@ -1,39 +1,28 @@
+-- `runfile::later_line` meets its contract, by the letter. Assumes nothing.
 use borrow.Author.Needs.{needs}
-use native.Mathlib.Omega.{arith}
-use mathlib.Core.Path.{_≡_, refl, sym, ap, _∙_}
+use mathlib.Core.Path.{sym, _∙_}
 use Rattle.runfile.proofs.Forms.{row-empty, row-crash, row-delay, later-none, later-other}
 use Rattle.runfile.proofs.later_line.Statement.{statement}
 use Rattle.runfile.proofs.later_line.Tie as tie
-use Rattle.runfile.proofs.later_line.Reads as reads
-use Rattle.runfile.proofs.later_line.Lts as lts
-use Rattle.runfile.proofs.crash_line.Reads as crash-line-reads
-use Rattle.runfile.proofs.delay_line.Reads as delay-line-reads
 
--- src/lib.rt:237:9
 returns : tie.Need-returns
 returns c p kept = later-none _ p (row-empty _ (c .if1 .taken))
 
--- src/lib.rt:239:18
 shared-slice-read-letter : tie.Need-shared-slice-read-letter
 shared-slice-read-letter c = search needs
 
--- src/lib.rt:241:17
 crash-line-requires : tie.Need-crash-line-requires
 crash-line-requires c κs = search needs
 
--- src/lib.rt:242:17
 delay-line-requires : tie.Need-delay-line-requires
 delay-line-requires c κs = search needs
 
--- src/lib.rt:232:1
 returns-2 : tie.Need-returns-2
 returns-2 c p kept = c .crash-line .ensures p kept ∙ sym (rw (row-crash _ (c .before .before .before .if1 .left) (c .before .match .keys1)))
 
--- src/lib.rt:232:1
 returns-3 : tie.Need-returns-3
 returns-3 c p kept = c .delay-line .ensures p kept ∙ sym (rw (row-delay _ (c .before .before .before .if1 .left) (c .before .match .keys2)))
 
--- src/lib.rt:232:1
 returns-4 : tie.Need-returns-4
 returns-4 c p kept = later-other _ p (c .before .before .if1 .left) (c .match .rest .0 .1) (c .match .rest .1)
 

@@ -1,33 +1,25 @@
+-- `runfile::put_row` meets its contract: the letter, two fields, the line feed. Assumes nothing.
 use borrow.Author.Needs.{needs}
 use native.Mathlib.Omega.{arith}
-use mathlib.Core.Path.{_≡_, refl, sym, ap, _∙_}
+use mathlib.Core.Path.{refl}
 use mathlib.Core.List.{[], _∷_, _++_}
 use Rattle.text.specs.Field.{field}
-use Rattle.runfile.proofs.Writing.{room-first, room-rest, put-both, row-parts, start-parts}
+use Rattle.runfile.proofs.Writing.{room-first, room-rest, put-both, row-parts}
 use Rattle.runfile.proofs.put_row.Statement.{statement}
 use Rattle.runfile.proofs.put_row.Tie as tie
-use Rattle.runfile.proofs.put_row.Reads as reads
-use Rattle.runfile.proofs.put_row.Lts as lts
-use Rattle.runfile.proofs.put_two.Reads as put-two-reads
-use Rattle.text.proofs.put_byte.Reads as put-byte-reads
 
--- src/lib.rt:372:9
 put-byte-requires : tie.Need-put-byte-requires
 put-byte-requires c κs = let s = c .before .before in omega (arith, room-first _ _ _ (s .args .letter ∷ []) _ (row-parts (s .args .letter) (s .args .a) (s .args .b)) (s .pre))
 
--- src/lib.rt:373:9
 put-two-requires : tie.Need-put-two-requires
 put-two-requires c κs = let f = c .before .before .before in let s = f .before .before .before in room-first _ _ _ (field (s .args .a) ++ field (s .args .b)) (10 ∷ []) refl (room-rest _ _ (row-parts _ _ _) (s .pre) (f .put-byte .ensures))
 
--- src/lib.rt:374:5
 put-byte-requires-2 : tie.Need-put-byte-requires-2
 put-byte-requires-2 c κs = let t = c .before .before .before in let f = t .before .before .before .before in let s = f .before .before .before in omega (arith, room-rest _ (10 ∷ []) refl (room-rest _ _ (row-parts _ _ _) (s .pre) (f .put-byte .ensures)) (t .put-two .ensures))
 
--- src/lib.rt:368:1
 same-length : tie.Need-same-length
 same-length c = search needs
 
--- src/lib.rt:368:1
 returns : tie.Need-returns
 returns c =
     let t = c .before .before .before .before .before .before in

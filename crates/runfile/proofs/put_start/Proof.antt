@@ -1,29 +1,22 @@
+-- `runfile::put_start` meets its contract: the letter, five fields, the line feed. Assumes nothing.
 use borrow.Author.Needs.{needs}
 use native.Mathlib.Omega.{arith}
-use mathlib.Core.Path.{_≡_, refl, sym, ap, _∙_}
+use mathlib.Core.Path.{refl}
 use mathlib.Core.List.{[], _∷_, _++_}
 use Rattle.text.specs.Field.{field}
-use Rattle.runfile.proofs.Writing.{room-first, room-rest, put-both, row-parts, start-parts}
+use Rattle.runfile.proofs.Writing.{room-first, room-rest, put-both, start-parts}
 use Rattle.runfile.proofs.put_start.Statement.{statement}
 use Rattle.runfile.proofs.put_start.Tie as tie
-use Rattle.runfile.proofs.put_start.Reads as reads
-use Rattle.runfile.proofs.put_start.Lts as lts
-use Rattle.runfile.proofs.put_two.Reads as put-two-reads
-use Rattle.text.proofs.put_byte.Reads as put-byte-reads
-use Rattle.text.proofs.put_field.Reads as put-field-reads
 
--- src/lib.rt:382:9
 put-byte-requires : tie.Need-put-byte-requires
 put-byte-requires c κs = let s = c .before .before in omega (arith, room-first _ _ _ (80 ∷ []) _ (start-parts (s .args .n) (s .args .h) (s .args .w) (s .args .d) (s .args .end)) (s .pre))
 
--- src/lib.rt:383:9
 put-two-requires : tie.Need-put-two-requires
 put-two-requires c κs =
     let f = c .before .before .before in
     let s = f .before .before .before in
     room-first _ _ _ (field (s .args .n) ++ field (s .args .h)) ((field (s .args .w) ++ field (s .args .d)) ++ (field (s .args .end) ++ (10 ∷ []))) refl (room-rest _ _ (start-parts _ _ _ _ _) (s .pre) (f .put-byte .ensures))
 
--- src/lib.rt:384:9
 put-two-requires-2 : tie.Need-put-two-requires-2
 put-two-requires-2 c κs =
     let p = c .before .before .before in
@@ -31,7 +24,6 @@ put-two-requires-2 c κs =
     let s = f .before .before .before in
     room-first _ _ _ (field (s .args .w) ++ field (s .args .d)) (field (s .args .end) ++ (10 ∷ [])) refl (room-rest _ _ refl (room-rest _ _ (start-parts _ _ _ _ _) (s .pre) (f .put-byte .ensures)) (p .put-two .ensures))
 
--- src/lib.rt:385:9
 put-field-requires : tie.Need-put-field-requires
 put-field-requires c κs =
     let q = c .before .before .before in
@@ -40,7 +32,6 @@ put-field-requires c κs =
     let s = f .before .before .before in
     room-first _ _ _ (field (s .args .end)) (10 ∷ []) refl (room-rest _ _ refl (room-rest _ _ refl (room-rest _ _ (start-parts _ _ _ _ _) (s .pre) (f .put-byte .ensures)) (p .put-two .ensures)) (q .put-two2 .ensures))
 
--- src/lib.rt:386:5
 put-byte-requires-2 : tie.Need-put-byte-requires-2
 put-byte-requires-2 c κs =
     let t = c .before .before .before in
@@ -50,11 +41,9 @@ put-byte-requires-2 c κs =
     let s = f .before .before .before in
     omega (arith, room-rest _ (10 ∷ []) refl (room-rest _ _ refl (room-rest _ _ refl (room-rest _ _ (start-parts _ _ _ _ _) (s .pre) (f .put-byte .ensures)) (p .put-two .ensures)) (q .put-two2 .ensures)) (t .put-field .ensures))
 
--- src/lib.rt:378:1
 same-length : tie.Need-same-length
 same-length c = search needs
 
--- src/lib.rt:378:1
 returns : tie.Need-returns
 returns c =
     let t = c .before .before .before .before .before .before in

@@ -1,42 +1,31 @@
+-- `runfile::read_file` meets its contract: the length, the P line, then the lines after it. Assumes nothing.
 use borrow.Author.Needs.{needs}
 use native.Mathlib.Omega.{arith}
-use mathlib.Core.Path.{_≡_, refl, sym, ap, _∙_}
+use mathlib.Core.Path.{sym, ap, _∙_}
 use lib.Seq.{length-take-le}
 use Rattle.runfile.specs.Reader.{readOf}
 use Rattle.runfile.proofs.Reading.{file-empty, file-long, file-lines, passed-first, first-stop}
 use Rattle.runfile.proofs.read_file.Statement.{statement}
 use Rattle.runfile.proofs.read_file.Tie as tie
-use Rattle.runfile.proofs.read_file.Reads as reads
-use Rattle.runfile.proofs.read_file.Lts as lts
-use Rattle.runfile.proofs.first_line.Reads as first-line-reads
-use Rattle.runfile.proofs.later_lines.Reads as later-lines-reads
-use Rattle.runfile.proofs.line_end.Reads as line-end-reads
 
--- src/lib.rt:301:9
 returns : tie.Need-returns
 returns c = file-empty _ (c .if1 .taken)
 
--- src/lib.rt:304:9
 returns-2 : tie.Need-returns-2
 returns-2 c = file-long _ (c .if2 .taken)
 
--- src/lib.rt:306:9
 line-end-requires : tie.Need-line-end-requires
 line-end-requires c κs = search needs
 
--- src/lib.rt:307:27
 slice-aggregate-first-line : tie.Need-slice-aggregate-first-line
 slice-aggregate-first-line c = sym (length-take-le _ _ (c .before .line-end .ensures .1))
 
--- src/lib.rt:307:9
 first-line-requires : tie.Need-first-line-requires
 first-line-requires c κs = search needs
 
--- src/lib.rt:309:20
 enum-known-step : tie.Need-enum-known-step
 enum-known-step c = search needs
 
--- src/lib.rt:309:30
 later-lines-requires : tie.Need-later-lines-requires
 later-lines-requires c κs =
     let f = c .before .before .before in
@@ -44,11 +33,9 @@ later-lines-requires c κs =
     let l = e .before .before in
     (e .before .if2 .left, passed-first _ _ (omega (arith, l .if1 .left)) (e .line-end .ensures .0) (e .line-end .ensures .1) _ (sym (c .before .step .given .1) ∙ f .first-line .ensures))
 
--- src/lib.rt:310:20
 enum-known-step-2 : tie.Need-enum-known-step-2
 enum-known-step-2 c = search needs
 
--- src/lib.rt:297:1
 returns-3 : tie.Need-returns-3
 returns-3 c =
     let f = c .before .before .before .before in
@@ -56,7 +43,6 @@ returns-3 c =
     let l = e .before .before in
     c .later-lines .ensures ∙ sym (ap readOf (file-lines _ (l .if1 .left) (e .before .if2 .left)))
 
--- src/lib.rt:297:1
 returns-4 : tie.Need-returns-4
 returns-4 c =
     let f = c .before .before .before in

@@ -1,58 +1,44 @@
+-- `runfile::row_at` meets its contract: two fields after the letter, and the place after the line feed. Assumes nothing.
 use borrow.Author.Needs.{needs}
 use native.Mathlib.Omega.{arith}
-use mathlib.Core.Path.{_≡_, refl, sym, ap, _∙_}
+use mathlib.Core.Path.{sym, _∙_}
 use Rattle.runfile.proofs.Places.{field-within, no-row, no-first, no-second, row-there}
 use Rattle.runfile.proofs.row_at.Statement.{statement}
 use Rattle.runfile.proofs.row_at.Tie as tie
-use Rattle.runfile.proofs.row_at.Reads as reads
-use Rattle.runfile.proofs.row_at.Lts as lts
-use Rattle.text.proofs.read_field.Reads as read-field-reads
 
--- src/lib.rt:329:9
 returns : tie.Need-returns
 returns c = sym (no-row _ _ (c .if1 .taken))
 
--- src/lib.rt:335:55
 add-read-field : tie.Need-add-read-field
 add-read-field c = search needs
 
--- src/lib.rt:335:35
 read-field-requires : tie.Need-read-field-requires
 read-field-requires c κs = search needs
 
--- src/lib.rt:335:23
 enum-known-first : tie.Need-enum-known-first
 enum-known-first c = search needs
 
--- src/lib.rt:336:9
 enum-told : tie.Need-enum-told
 enum-told c = search needs
 
--- src/lib.rt:336:9
 returns-2 : tie.Need-returns-2
 returns-2 c = sym (no-first _ _ (sym (c .before .before .read-field .ensures) ∙ c .enum-told .given .1))
 
--- src/lib.rt:342:36
 read-field-requires-2 : tie.Need-read-field-requires-2
 read-field-requires-2 c κs = search needs
 
--- src/lib.rt:342:23
 enum-known-second : tie.Need-enum-known-second
 enum-known-second c = search needs
 
--- src/lib.rt:343:9
 enum-told-2 : tie.Need-enum-told-2
 enum-told-2 c = search needs
 
--- src/lib.rt:343:9
 returns-3 : tie.Need-returns-3
 returns-3 c = let x = c .before .before .before .before in sym (no-second _ _ _ _ (sym (x .before .before .read-field .ensures) ∙ x .first .given .1) (sym (c .before .before .read-field2 .ensures) ∙ c .enum-told2 .given .1))
 
--- src/lib.rt:352:15
 add-t7 : tie.Need-add-t7
 add-t7 c = let y = c .before in omega (arith, field-within _ _ _ _ (sym (y .before .before .read-field2 .ensures) ∙ y .second .given .1))
 
--- src/lib.rt:325:1
 returns-4 : tie.Need-returns-4
 returns-4 c = let y = c .before in let x = y .before .before .before .before in sym (row-there _ _ _ _ (sym (x .before .before .read-field .ensures) ∙ x .first .given .1) _ _ (sym (y .before .before .read-field2 .ensures) ∙ y .second .given .1))
 

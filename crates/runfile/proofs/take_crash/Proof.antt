@@ -1,63 +1,46 @@
+-- `runfile::take_crash` meets its contract: one law for each answer. Assumes nothing.
 use borrow.Author.Needs.{needs}
 use native.Mathlib.Omega.{arith}
-use mathlib.Core.Path.{_≡_, refl, sym, ap, _∙_}
+use mathlib.Core.Path.{sym, _∙_}
 use borrow.Author.Tests.{not-true, not-false}
 use Rattle.text.proofs.FieldLaws.{range-bound}
 use Rattle.runfile.proofs.Steps.{crash-late, crash-tick, crash-node, crash-low, crash-twice, crash-next}
 use Rattle.runfile.proofs.take_crash.Statement.{statement}
 use Rattle.runfile.proofs.take_crash.Tie as tie
-use Rattle.runfile.proofs.take_crash.Reads as reads
-use Rattle.runfile.proofs.take_crash.Lts as lts
-use Rattle.ring.proofs.is_listed.Reads as is-listed-reads
-use Rattle.ring.proofs.with_listed.Reads as with-listed-reads
-use Rattle.runfile.proofs.follows.Reads as follows-reads
-use Rattle.text.proofs.in_range.Reads as in-range-reads
 
--- src/lib.rt:138:9
 returns : tie.Need-returns
 returns c p kept = crash-late p _ kept _ _ (c .if1 .taken)
 
--- src/lib.rt:140:32
 in-range-requires : tie.Need-in-range-requires
 in-range-requires c κs = search needs
 
--- src/lib.rt:140:24
 enum-known-tick : tie.Need-enum-known-tick
 enum-known-tick c = search needs
 
--- src/lib.rt:141:9
 enum-told : tie.Need-enum-told
 enum-told c = search needs
 
--- src/lib.rt:141:9
 returns-2 : tie.Need-returns-2
 returns-2 c p kept = crash-tick p _ kept _ _ (c .before .before .before .if1 .left) (sym (c .before .before .in-range .ensures) ∙ c .enum-told .given .1)
 
--- src/lib.rt:143:56
 sub-in-range : tie.Need-sub-in-range
 sub-in-range c = search needs
 
--- src/lib.rt:143:32
 in-range-requires-2 : tie.Need-in-range-requires-2
 in-range-requires-2 c κs = search needs
 
--- src/lib.rt:143:24
 enum-known-node : tie.Need-enum-known-node
 enum-known-node c = search needs
 
--- src/lib.rt:144:9
 enum-told-2 : tie.Need-enum-told-2
 enum-told-2 c = search needs
 
--- src/lib.rt:144:9
 returns-3 : tie.Need-returns-3
 returns-3 c p kept = crash-node p _ kept _ _ (c .before .before .before .before .before .before .before .before .if1 .left) (c .before .before .before .before .before .before .before .before .before .before .pre .0) (sym (c .before .before .in-range2 .ensures) ∙ c .enum-told2 .given .1)
 
--- src/lib.rt:146:9
 follows-requires : tie.Need-follows-requires
 follows-requires c κs = search needs
 
--- src/lib.rt:147:9
 returns-4 : tie.Need-returns-4
 returns-4 c p kept =
     let node = c .before .before .before in
@@ -65,17 +48,14 @@ returns-4 c p kept =
     let s = tick .before .before .before in
     crash-low p _ kept _ _ (s .if1 .left) (s .before .before .pre .0) _ _ (sym (tick .before .before .in-range .ensures) ∙ tick .tick .given .1) (sym (node .before .before .in-range2 .ensures) ∙ node .node .given .1) (sym (c .before .follows .ensures) ∙ not-true _ (c .if2 .taken))
 
--- src/lib.rt:149:33
 cast-is-listed : tie.Need-cast-is-listed
 cast-is-listed c =
     let node = c .before .before .before in
     omega (arith, range-bound _ 0 _ _ (sym (node .before .before .in-range2 .ensures) ∙ node .node .given .1), node .before .before .before .before .before .before .before .before .before .before .pre)
 
--- src/lib.rt:149:8
 is-listed-requires : tie.Need-is-listed-requires
 is-listed-requires c κs = search needs
 
--- src/lib.rt:150:9
 returns-5 : tie.Need-returns-5
 returns-5 c p kept =
     let node = c .before .before .before .before .before in
@@ -83,29 +63,24 @@ returns-5 c p kept =
     let s = tick .before .before .before in
     crash-twice p _ kept _ _ (s .if1 .left) (s .before .before .pre .0) _ _ (sym (tick .before .before .in-range .ensures) ∙ tick .tick .given .1) (sym (node .before .before .in-range2 .ensures) ∙ node .node .given .1) (sym (c .before .is-listed .ensures) ∙ c .if3 .taken)
 
--- src/lib.rt:158:18
 add-t13 : tie.Need-add-t13
 add-t13 c = search needs
 
--- src/lib.rt:161:15
 add-t9 : tie.Need-add-t9
 add-t9 c =
     let node = c .before .before .before .before .before .before in
     omega (arith, range-bound _ 0 _ _ (sym (node .before .before .in-range2 .ensures) ∙ node .node .given .1), node .before .before .before .before .before .before .before .before .before .before .pre)
 
--- src/lib.rt:162:42
 cast-with-listed : tie.Need-cast-with-listed
 cast-with-listed c =
     let node = c .before .before .before .before .before .before in
     omega (arith, range-bound _ 0 _ _ (sym (node .before .before .in-range2 .ensures) ∙ node .node .given .1), node .before .before .before .before .before .before .before .before .before .before .pre)
 
--- src/lib.rt:162:15
 with-listed-requires : tie.Need-with-listed-requires
 with-listed-requires c κs =
     let node = c .before .before .before .before .before .before in
     omega (arith, range-bound _ 0 _ _ (sym (node .before .before .in-range2 .ensures) ∙ node .node .given .1), node .before .before .before .before .before .before .before .before .before .before .pre)
 
--- src/lib.rt:133:1
 returns-6 : tie.Need-returns-6
 returns-6 c p kept =
     let node = c .before .before .before .before .before .before .before in

@@ -1,70 +1,56 @@
+-- `runfile::take_delay` meets its contract: one law for each answer. Assumes nothing.
 use borrow.Author.Needs.{needs}
 use native.Mathlib.Omega.{arith}
-use mathlib.Core.Path.{_≡_, refl, sym, ap, _∙_}
+use mathlib.Core.Path.{sym, _∙_}
 use Rattle.text.proofs.FieldLaws.{range-bound}
 use Rattle.runfile.proofs.Steps.{delay-number, delay-delay, delay-low, delay-many, delay-next}
 use Rattle.runfile.proofs.take_delay.Statement.{statement}
 use Rattle.runfile.proofs.take_delay.Tie as tie
-use Rattle.runfile.proofs.take_delay.Reads as reads
-use Rattle.runfile.proofs.take_delay.Lts as lts
-use Rattle.text.proofs.in_range.Reads as in-range-reads
 
--- src/lib.rt:171:34
 in-range-requires : tie.Need-in-range-requires
 in-range-requires c κs = search needs
 
--- src/lib.rt:171:24
 enum-known-number : tie.Need-enum-known-number
 enum-known-number c = search needs
 
--- src/lib.rt:172:9
 enum-told : tie.Need-enum-told
 enum-told c = search needs
 
--- src/lib.rt:172:9
 returns : tie.Need-returns
 returns c p kept = delay-number p _ kept _ _ (sym (c .before .before .in-range .ensures) ∙ c .enum-told .given .1)
 
--- src/lib.rt:174:29
 in-range-requires-2 : tie.Need-in-range-requires-2
 in-range-requires-2 c κs = search needs
 
 enum-told-2 : tie.Need-enum-told-2
 enum-told-2 c = search needs
 
--- src/lib.rt:175:9
 enum-told-3 : tie.Need-enum-told-3
 enum-told-3 c = search needs
 
--- src/lib.rt:175:9
 returns-2 : tie.Need-returns-2
 returns-2 c p kept = delay-delay p _ kept _ _ (sym (c .before .before .in-range2 .ensures) ∙ c .enum-told3 .given .1)
 
--- src/lib.rt:178:9
 returns-3 : tie.Need-returns-3
 returns-3 c p kept =
     let delay = c .before .before in
     let number = delay .before .before .before .before in
     delay-low p _ kept _ _ _ _ (sym (number .before .before .in-range .ensures) ∙ number .number .given .1) (sym (delay .before .before .in-range2 .ensures) ∙ delay .enum-told2 .given .1) (c .if1 .taken)
 
--- src/lib.rt:181:9
 returns-4 : tie.Need-returns-4
 returns-4 c p kept =
     let delay = c .before .before .before .before in
     let number = delay .before .before .before .before in
     delay-many p _ kept _ _ _ _ (sym (number .before .before .in-range .ensures) ∙ number .number .given .1) (sym (delay .before .before .in-range2 .ensures) ∙ delay .enum-told2 .given .1) (c .before .before .if1 .left) (c .if2 .taken)
 
--- src/lib.rt:190:17
 add-t8 : tie.Need-add-t8
 add-t8 c = search needs
 
--- src/lib.rt:194:17
 add-t9 : tie.Need-add-t9
 add-t9 c =
     let number = c .before .before .before .before .before .before .before .before .before in
     omega (arith, range-bound _ 0 999999 _ (sym (number .before .before .in-range .ensures) ∙ number .number .given .1))
 
--- src/lib.rt:168:1
 returns-5 : tie.Need-returns-5
 returns-5 c p kept =
     let delay = c .before .before .before .before .before in

@@ -1,102 +1,78 @@
+-- `runfile::take_start` meets its contract: one law for each answer. Assumes nothing.
 use borrow.Author.Needs.{needs}
 use native.Mathlib.Omega.{arith}
-use mathlib.Core.Path.{_≡_, refl, sym, ap, _∙_}
+use mathlib.Core.Path.{sym, _∙_}
 use Rattle.text.proofs.FieldLaws.{range-bound}
 use Rattle.runfile.proofs.Steps.{start-n, start-h, start-w, start-d, start-end, start-short, start-next}
 use Rattle.runfile.proofs.take_start.Statement.{statement}
 use Rattle.runfile.proofs.take_start.Tie as tie
-use Rattle.runfile.proofs.take_start.Reads as reads
-use Rattle.runfile.proofs.take_start.Lts as lts
-use Rattle.text.proofs.in_range.Reads as in-range-reads
 
--- src/lib.rt:55:29
 in-range-requires : tie.Need-in-range-requires
 in-range-requires c κs = search needs
 
--- src/lib.rt:55:24
 enum-known-n : tie.Need-enum-known-n
 enum-known-n c = search needs
 
--- src/lib.rt:56:9
 enum-told : tie.Need-enum-told
 enum-told c = search needs
 
--- src/lib.rt:56:9
 returns : tie.Need-returns
 returns c = start-n _ _ _ _ _ (sym (c .before .before .in-range .ensures) ∙ c .enum-told .given .1)
 
--- src/lib.rt:58:29
 in-range-requires-2 : tie.Need-in-range-requires-2
 in-range-requires-2 c κs = search needs
 
--- src/lib.rt:58:24
 enum-known-h : tie.Need-enum-known-h
 enum-known-h c = search needs
 
--- src/lib.rt:59:9
 enum-told-2 : tie.Need-enum-told-2
 enum-told-2 c = search needs
 
--- src/lib.rt:59:9
 returns-2 : tie.Need-returns-2
 returns-2 c = start-h _ _ _ _ _ (sym (c .before .before .in-range2 .ensures) ∙ c .enum-told2 .given .1)
 
--- src/lib.rt:61:29
 in-range-requires-3 : tie.Need-in-range-requires-3
 in-range-requires-3 c κs = search needs
 
--- src/lib.rt:61:24
 enum-known-w : tie.Need-enum-known-w
 enum-known-w c = search needs
 
--- src/lib.rt:62:9
 enum-told-3 : tie.Need-enum-told-3
 enum-told-3 c = search needs
 
--- src/lib.rt:62:9
 returns-3 : tie.Need-returns-3
 returns-3 c = start-w _ _ _ _ _ (sym (c .before .before .in-range3 .ensures) ∙ c .enum-told3 .given .1)
 
--- src/lib.rt:64:29
 in-range-requires-4 : tie.Need-in-range-requires-4
 in-range-requires-4 c κs = search needs
 
--- src/lib.rt:64:24
 enum-known-d : tie.Need-enum-known-d
 enum-known-d c = search needs
 
--- src/lib.rt:65:9
 enum-told-4 : tie.Need-enum-told-4
 enum-told-4 c = search needs
 
--- src/lib.rt:65:9
 returns-4 : tie.Need-returns-4
 returns-4 c = start-d _ _ _ _ _ (sym (c .before .before .in-range4 .ensures) ∙ c .enum-told4 .given .1)
 
--- src/lib.rt:67:31
 in-range-requires-5 : tie.Need-in-range-requires-5
 in-range-requires-5 c κs = search needs
 
--- src/lib.rt:67:24
 enum-known-end : tie.Need-enum-known-end
 enum-known-end c = search needs
 
--- src/lib.rt:68:9
 enum-told-5 : tie.Need-enum-told-5
 enum-told-5 c = search needs
 
--- src/lib.rt:68:9
 returns-5 : tie.Need-returns-5
 returns-5 c = start-end _ _ _ _ _ (sym (c .before .before .in-range5 .ensures) ∙ c .enum-told5 .given .1)
 
--- src/lib.rt:70:12
 add-if1 : tie.Need-add-if1
 add-if1 c =
     let d = c .before .before .before .before .before in
     let h = d .before .before .before .before .before .before .before .before in
     omega (arith, range-bound _ 1 1000 _ (sym (h .before .before .in-range2 .ensures) ∙ h .h .given .1), range-bound _ 1 255 _ (sym (d .before .before .in-range4 .ensures) ∙ d .d .given .1))
 
--- src/lib.rt:71:9
 returns-6 : tie.Need-returns-6
 returns-6 c =
     let end = c .before .before in
@@ -112,7 +88,6 @@ returns-6 c =
     (sym (end .before .before .in-range5 .ensures) ∙ end .end .given .1)
     (c .if1 .taken)
 
--- src/lib.rt:52:1
 returns-7 : tie.Need-returns-7
 returns-7 c =
     let end = c .before .before in

@@ -1,0 +1,209 @@
+-- What each call answers and leaves, at each of its returns. Assumes nothing.
+use mathlib.Core.Path.{_≡_, refl, sym, ap, _∙_}
+use mathlib.Core.Bool.{Bool, true, false, cond}
+use mathlib.Core.List.{List}
+use Prim.Native.Nat.{ℕ, _≤_, _<_}
+use native.Mathlib.Omega.{arith}
+use borrow.Author.Tests.{eq-eqb, ne-eqb, le-leb, lt-leb, eqb-true}
+use lib.Dec.{eqb}
+use lib.ListN.{length, take}
+use Rattle.ring.specs.Ring.{mostNodes, numbers, outOfRange}
+use Rattle.ring.proofs.Rows.{length-numbers}
+use Rattle.node.specs.declared.Turned.{Turned}
+use Rattle.node.specs.Node.{Turn, mostH, mostW, mostTick, mostSent, R, turned, onWatchDue, onHeartbeatDue, silent}
+use Rattle.node.proofs.Messages.{turned-count, turned-sends}
+use Rattle.node.proofs.Rules.{message-few, watch-few}
+use Rattle.host.specs.declared.Record.{Record}
+use Rattle.host.specs.Record.{recordSize, encode, decode, openable, sound}
+use Rattle.host.specs.Call.{accepted, badRecord, badTick, badMessage, shortPart, answer, tickTaken, messageTaken, subjectOf, partSize, putMessages, moved, recordAfter, partAfter, openAnswer, openedRecord, openLeaves, delivered, deliverAnswer, deliverLeaves, deliverSends, dueBy, fired, timersAnswer, timersLeaves, timersSends}
+use Rattle.host.proofs.Facts.{Kind, InRange, MessageTaken, sound-facts, tick-facts, message-facts}
+use Rattle.host.proofs.Tests.{delivered-subject}
+
+-- ---- answers
+
+pub answer-record : (a b c d : Bool) → a ≡ false → answer a b c d ≡ badRecord
+unfolding answer
+answer-record a b c d e = rw e
+
+pub answer-tick : (a b c d : Bool) → a ≡ true → b ≡ false → answer a b c d ≡ badTick
+unfolding answer
+answer-tick a b c d e f = rw (e, f)
+
+pub answer-message : (a b c d : Bool) → a ≡ true → b ≡ true → c ≡ false → answer a b c d ≡ badMessage
+unfolding answer
+answer-message a b c d e f g = rw (e, f, g)
+
+pub answer-part : (a b c d : Bool) → a ≡ true → b ≡ true → c ≡ true → d ≡ false → answer a b c d ≡ shortPart
+unfolding answer
+answer-part a b c d e f g h = rw (e, f, g, h)
+
+pub answer-accepted : (a b c d : Bool) → a ≡ true → b ≡ true → c ≡ true → d ≡ true → answer a b c d ≡ accepted
+unfolding answer
+answer-accepted a b c d e f g h = rw (e, f, g, h)
+
+-- ---- a record and a part after a call whose answer is a, where the node takes the turn u
+
+-- what a call answers, and the record and the part that it leaves
+abbrev pub Left : ℕ → List ℕ → List ℕ → ℕ → Turn → ℕ → List ℕ → List ℕ → Type 0
+Left a s part tick u a′ s′ part′ = (a′ ≡ a) × (s′ ≡ recordAfter a s tick u) × (part′ ≡ partAfter a s part u)
+
+module _ (a : ℕ) (s part : List ℕ) (tick : ℕ) (u : Turn) where
+  -- one that is refused leaves both
+  pub refused : (k : ℕ) → a ≡ k → eqb k accepted ≡ false → Left a s part tick u k s part
+  unfolding recordAfter partAfter
+  refused k e n = (sym e, rw (e, n), rw (e, n))
+
+  -- one that is accepted leaves what the turn gives
+  pub taken : (t : Turned) (r : Record) (s′ part′ : List ℕ) → a ≡ accepted → r ≡ decode s → t ≡ turned u
+      → s′ ≡ encode (moved r tick (t .node)) → part′ ≡ putMessages part (r .number) (take (t .count) (t .sent))
+      → Left a s part tick u accepted s′ part′
+  unfolding recordAfter partAfter turned
+  taken t r s′ part′ e rq tq sq pq = (
+    sym e,
+    sq ∙ rw (e, rq, tq),
+    pq ∙ ap (putMessages part (r .number)) (turned-sends t u tq) ∙ rw (e, rq),
+  )
+
+-- ---- opening
+
+module _ (s : List ℕ) (number nodes h w : ℕ) where
+  abbrev pub Opened : ℕ → List ℕ → Type 0
+  Opened a s′ = (a ≡ openAnswer s number nodes h w) × (s′ ≡ openLeaves s number nodes h w)
+
+  pub open-length : (length s ≡ recordSize → ⊥) → Opened badRecord s
+  unfolding openLeaves openAnswer
+  open-length e = rw (ne-eqb (length s) recordSize e) (refl, refl)
+
+  pub open-range : length s ≡ recordSize → openable number nodes h w ≡ false → Opened outOfRange s
+  unfolding openLeaves openAnswer
+  open-range e f = rw (eq-eqb (length s) recordSize e, f) (refl, refl)
+
+  pub open-taken : (r : Record) (s′ : List ℕ) → length s ≡ recordSize → openable number nodes h w ≡ true → r ≡ openedRecord number nodes h w → s′ ≡ encode r
+      → Opened accepted s′
+  unfolding openLeaves openAnswer
+  open-taken r s′ e f rq sq = rw (eq-eqb (length s) recordSize e, f) (refl, sq ∙ ap encode rq)
+
+-- ---- delivery
+
+-- at most seven messages
+pub delivered-few : (r : Record) (tick kind sender subject : ℕ) → InRange r → length (delivered r tick kind sender subject .sends) ≤ mostSent
+unfolding delivered
+delivered-few r tick kind sender subject f =
+    message-few (numbers 0 (r .nodes)) (rw (length-numbers) (f .openable .most)) (r .w) tick (r .number) kind sender subject (r .node)
+
+module _ (s : List ℕ) (tick kind sender subject : ℕ) (part : List ℕ) (r : Record) (rq : r ≡ decode s) where
+  abbrev pub Delivered : ℕ → List ℕ → List ℕ → Type 0
+  Delivered a s′ part′ =
+      (a ≡ deliverAnswer s tick kind sender subject part) × (s′ ≡ deliverLeaves s tick kind sender subject part)
+      × (part′ ≡ deliverSends s tick kind sender subject part)
+
+  d-tick : (v : Bool) → tickTaken r tick ≡ v → tickTaken (decode s) tick ≡ v
+  d-tick v e = rw (← rq) e
+
+  d-message : (v : Bool) → messageTaken r kind sender subject ≡ v → messageTaken (decode s) kind sender subject ≡ v
+  d-message v e = rw (← rq) e
+
+  pub deliver-tick : sound s ≡ true → tickTaken r tick ≡ false → Delivered badTick s part
+  unfolding deliverLeaves deliverSends deliverAnswer
+  deliver-tick e f = refused _ s part tick _ badTick (answer-tick _ _ _ _ e (d-tick false f)) refl
+
+  pub deliver-message : sound s ≡ true → tickTaken r tick ≡ true → messageTaken r kind sender subject ≡ false → Delivered badMessage s part
+  unfolding deliverLeaves deliverSends deliverAnswer
+  deliver-message e f g = refused _ s part tick _ badMessage (answer-message _ _ _ _ e (d-tick true f) (d-message false g)) refl
+
+  pub deliver-part : sound s ≡ true → tickTaken r tick ≡ true → messageTaken r kind sender subject ≡ true → length part < partSize → Delivered shortPart s part
+  unfolding deliverLeaves deliverSends deliverAnswer
+  deliver-part e f g h = refused _ s part tick _ shortPart (answer-part _ _ _ _ e (d-tick true f) (d-message true g) (lt-leb partSize (length part) h)) refl
+
+  pub deliver-taken : (about : ℕ) (t : Turned) (s′ part′ : List ℕ) → sound s ≡ true → tickTaken r tick ≡ true → messageTaken r kind sender subject ≡ true
+      → partSize ≤ length part → Kind kind → about ≡ subjectOf kind subject → t ≡ turned (delivered r tick kind sender about)
+      → s′ ≡ encode (moved r tick (t .node)) → part′ ≡ putMessages part (r .number) (take (t .count) (t .sent)) → Delivered accepted s′ part′
+  unfolding deliverLeaves deliverSends deliverAnswer
+  deliver-taken about t s′ part′ e f g h k aq tq sq pq =
+      taken _ s part tick _ t r s′ part′ (answer-accepted _ _ _ _ e (d-tick true f) (d-message true g) (le-leb partSize (length part) h)) rq
+      (tq ∙ ap turned (ap (delivered r tick kind sender) aq ∙ delivered-subject r tick kind sender subject k ∙ rw rq)) sq pq
+
+pub deliver-record : (s : List ℕ) (tick kind sender subject : ℕ) (part : List ℕ) → sound s ≡ false
+    → (badRecord ≡ deliverAnswer s tick kind sender subject part) × (s ≡ deliverLeaves s tick kind sender subject part)
+    × (part ≡ deliverSends s tick kind sender subject part)
+unfolding deliverLeaves deliverSends deliverAnswer
+deliver-record s tick kind sender subject part e = refused _ s part tick _ badRecord (answer-record _ _ _ _ e) refl
+
+-- ---- timers
+
+pub fired-few : (r : Record) (tick : ℕ) → InRange r → length (fired r tick .sends) ≤ mostSent
+unfolding fired onHeartbeatDue
+fired-few r tick f = go (dueBy tick (r .node .watch)) (dueBy tick (r .node .heartbeat))
+  where
+    order : List ℕ
+    order = numbers 0 (r .nodes)
+
+    go : (a b : Bool)
+        → length (cond a (onWatchDue order (r .w) tick (r .number) (r .node)) (cond b (onHeartbeatDue (r .h) tick (r .node)) (silent (r .node))) .sends) ≤ mostSent
+    go true b = watch-few order (rw (length-numbers) (f .openable .most)) (r .w) tick (r .number) (r .node)
+    go false true = omega arith
+    go false false = omega arith
+
+module _ (s : List ℕ) (tick : ℕ) (part : List ℕ) (r : Record) (rq : r ≡ decode s) where
+  abbrev pub Fired : ℕ → List ℕ → List ℕ → Type 0
+  Fired a s′ part′ = (a ≡ timersAnswer s tick part) × (s′ ≡ timersLeaves s tick part) × (part′ ≡ timersSends s tick part)
+
+  t-tick : (v : Bool) → tickTaken r tick ≡ v → tickTaken (decode s) tick ≡ v
+  t-tick v e = rw (← rq) e
+
+  pub timers-tick : sound s ≡ true → tickTaken r tick ≡ false → Fired badTick s part
+  unfolding timersLeaves timersSends timersAnswer
+  timers-tick e f = refused _ s part tick _ badTick (answer-tick _ _ _ _ e (t-tick false f)) refl
+
+  pub timers-part : sound s ≡ true → tickTaken r tick ≡ true → length part < partSize → Fired shortPart s part
+  unfolding timersLeaves timersSends timersAnswer
+  timers-part e f h = refused _ s part tick _ shortPart (answer-part _ _ _ _ e (t-tick true f) refl (lt-leb partSize (length part) h)) refl
+
+  pub timers-taken : (t : Turned) (s′ part′ : List ℕ) → sound s ≡ true → tickTaken r tick ≡ true → partSize ≤ length part → t ≡ turned (fired r tick)
+      → s′ ≡ encode (moved r tick (t .node)) → part′ ≡ putMessages part (r .number) (take (t .count) (t .sent)) → Fired accepted s′ part′
+  unfolding timersLeaves timersSends timersAnswer
+  timers-taken t s′ part′ e f h tq sq pq =
+      taken _ s part tick _ t r s′ part′ (answer-accepted _ _ _ _ e (t-tick true f) refl (le-leb partSize (length part) h)) rq
+      (tq ∙ ap turned (rw rq)) sq pq
+
+pub timers-record : (s : List ℕ) (tick : ℕ) (part : List ℕ) → sound s ≡ false
+    → (badRecord ≡ timersAnswer s tick part) × (s ≡ timersLeaves s tick part) × (part ≡ timersSends s tick part)
+unfolding timersLeaves timersSends timersAnswer
+timers-record s tick part e = refused _ s part tick _ badRecord (answer-record _ _ _ _ e) refl
+
+-- ---- what the calls below a record that is taken ask for
+
+pub sound-record : (s : List ℕ) (r : Record) → sound s ≡ true → r ≡ decode s → InRange r
+sound-record s r e rq = rw rq (sound-facts s e .fields)
+
+subject-fits : (r : Record) (kind sender subject : ℕ) → MessageTaken r kind sender subject → r .nodes ≤ mostNodes → subjectOf kind subject < mostNodes
+unfolding subjectOf
+subject-fits r kind sender subject m h = go (eqb kind R) refl
+  where
+    go : (b : Bool) → eqb kind R ≡ b → cond b subject 0 < mostNodes
+    go true e = omega (arith, m .about (eqb-true kind R e) .0)
+    go false e = omega arith
+
+module _ (s : List ℕ) (r : Record) (tick : ℕ) (e : sound s ≡ true) (rq : r ≡ decode s) (f : tickTaken r tick ≡ true) where
+  pub timer-asks : (1 ≤ r .nodes) × (r .nodes ≤ mostNodes) × (r .h ≤ mostH) × (r .w ≤ mostW) × (tick ≤ mostTick) × (r .node .emitter < mostNodes)
+  timer-asks =
+      let i = sound-record s r e rq in
+      let o = i .openable in
+      (o .some, o .most, o .h-most, o .w-most, tick-facts r tick f .1, omega (arith, i .emitter, o .most))
+
+  pub message-asks : (kind sender subject about : ℕ) → messageTaken r kind sender subject ≡ true → about ≡ subjectOf kind subject
+      → (1 ≤ r .nodes) × (r .nodes ≤ mostNodes) × (r .w ≤ mostW) × (tick ≤ mostTick) × (about < mostNodes)
+  message-asks kind sender subject about g aq =
+      let o = sound-record s r e rq .openable in
+      (o .some, o .most, o .w-most, tick-facts r tick f .1, rw aq (subject-fits r kind sender subject (message-facts r kind sender subject g) (o .most)))
+
+  pub sender-fits : (kind sender subject : ℕ) → messageTaken r kind sender subject ≡ true → sender < 256
+  sender-fits kind sender subject g =
+      omega (arith, sound-record s r e rq .openable .most, message-facts r kind sender subject g .from .0)
+
+  pub about-fits : (kind sender subject : ℕ) → messageTaken r kind sender subject ≡ true → kind ≡ R → subject < mostNodes
+  about-fits kind sender subject g q =
+      omega (arith, sound-record s r e rq .openable .most, message-facts r kind sender subject g .about q .0)
+
+pub turn-few : (t : Turned) (u : Turn) → t ≡ turned u → length (u .sends) ≤ mostSent → t .count ≤ mostSent
+turn-few t u e h = rw (turned-count t (u .node) (u .sends) e) h

@@ -1,0 +1,144 @@
+-- What is read from the bytes of a record in range is that record. Assumes nothing.
+use mathlib.Core.Path.{_≡_, refl, sym, ap, _∙_}
+use mathlib.Core.Bool.{true}
+use mathlib.Core.List.{List, [], _++_, append-assoc}
+use Prim.Native.Nat.{ℕ, _+_, _-_, _^_, _<_}
+use native.Mathlib.Nat.{lt-of-lt-of-le, pow-le-pow-right}
+use native.Mathlib.Omega.{arith}
+use borrow.Author.Tests.{eq-eqb}
+use lib.Dec.{lit<}
+use lib.ListN.{length, drop, replicate, length-append}
+use lib.Seq.{slice, drop-append-add, drop-at, take-all}
+use Rattle.fields.specs.Fields.{bytes, fieldAt, zeros}
+use Rattle.fields.proofs.Bytes.{length-bytes}
+use Rattle.fields.proofs.Fields.{field-part}
+use Rattle.fields.proofs.Zeros.{zeros-replicate}
+use Rattle.host.specs.declared.Record.{Record}
+use Rattle.host.specs.Record.{recordSize, spareFrom, numbersBytes, neighboursBytes, ticksBytes, encode, decode, sound}
+use Rattle.host.proofs.Bytes.{length-numbers, length-neighbours, length-ticks, length-encode}
+use Rattle.host.proofs.Facts.{InRange, facts-in-range}
+
+-- ---- a field after others
+
+past : (a rest : List ℕ) (n k at width : ℕ) → length a ≡ n → at ≡ n + k → fieldAt (a ++ rest) at width ≡ fieldAt rest k width
+unfolding fieldAt
+past a rest n k at width l e = rw (e, ← l, drop-append-add a rest k)
+
+after : (w x : ℕ) (rest : List ℕ) (k at width : ℕ) → at ≡ w + k → fieldAt (bytes w x ++ rest) at width ≡ fieldAt rest k width
+after w x rest k at width e = past (bytes w x) rest w k at width (length-bytes w x) e
+
+here : (w x : ℕ) (rest : List ℕ) → x < 256 ^ w → fieldAt (bytes w x ++ rest) 0 w ≡ x
+here w x rest h = field-part [] rest 0 w x refl h
+
+-- ---- the parts of a record
+
+module _ (r : Record) (f : InRange r) (rest : List ℕ) where
+  numbers-flat : numbersBytes r ++ rest ≡ bytes 1 (r .number) ++ (bytes 1 (r .nodes) ++ (bytes 2 (r .h) ++ (bytes 2 (r .w) ++ rest)))
+  unfolding numbersBytes
+  numbers-flat = simp append-assoc
+
+  number-here : fieldAt (numbersBytes r ++ rest) 0 1 ≡ r .number
+  number-here = rw numbers-flat (here 1 (r .number) _ (omega (arith, f .openable .below, f .openable .most)))
+
+  nodes-here : fieldAt (numbersBytes r ++ rest) 1 1 ≡ r .nodes
+  nodes-here = rw numbers-flat (after 1 (r .number) _ 0 1 1 refl ∙ here 1 (r .nodes) _ (omega (arith, f .openable .most)))
+
+  h-here : fieldAt (numbersBytes r ++ rest) 2 2 ≡ r .h
+  h-here =
+      rw numbers-flat
+      (after 1 (r .number) _ 1 2 2 refl ∙ after 1 (r .nodes) _ 0 1 2 refl ∙ here 2 (r .h) _ (omega (arith, f .openable .h-most)))
+
+  w-here : fieldAt (numbersBytes r ++ rest) 4 2 ≡ r .w
+  w-here =
+      rw numbers-flat
+      (after 1 (r .number) _ 3 4 2 refl ∙ after 1 (r .nodes) _ 2 3 2 refl ∙ after 2 (r .h) _ 0 2 2 refl
+      ∙ here 2 (r .w) _ (omega (arith, f .openable .w-most)))
+
+  neighbours-flat : neighboursBytes (r .node) ++ rest ≡ bytes 1 (r .node .emitter) ++ (bytes 1 (r .node .observer) ++ (bytes 8 (r .node .list) ++ rest))
+  unfolding neighboursBytes
+  neighbours-flat = simp append-assoc
+
+  emitter-here : fieldAt (neighboursBytes (r .node) ++ rest) 0 1 ≡ r .node .emitter
+  emitter-here = rw neighbours-flat (here 1 (r .node .emitter) _ (omega (arith, f .emitter, f .openable .most)))
+
+  observer-here : fieldAt (neighboursBytes (r .node) ++ rest) 1 1 ≡ r .node .observer
+  observer-here =
+      rw neighbours-flat
+      (after 1 (r .node .emitter) _ 0 1 1 refl ∙ here 1 (r .node .observer) _ (omega (arith, f .observer, f .openable .most)))
+
+  list-here : fieldAt (neighboursBytes (r .node) ++ rest) 2 8 ≡ r .node .list
+  list-here =
+      let h : r .node .list < 2 ^ 64 = lt-of-lt-of-le (f .list) (pow-le-pow-right {n = 2} (lit< tt) (f .openable .most)) in
+      rw neighbours-flat
+      (after 1 (r .node .emitter) _ 1 2 8 refl ∙ after 1 (r .node .observer) _ 0 1 8 refl ∙ here 8 (r .node .list) _ h)
+
+  ticks-flat : ticksBytes (r .last) (r .node) ++ rest ≡ bytes 4 (r .last) ++ (bytes 4 (r .node .watch) ++ (bytes 4 (r .node .heartbeat) ++ rest))
+  unfolding ticksBytes
+  ticks-flat = simp append-assoc
+
+  last-here : fieldAt (ticksBytes (r .last) (r .node) ++ rest) 0 4 ≡ r .last
+  last-here = rw ticks-flat (here 4 (r .last) _ (omega (arith, f .last)))
+
+  watch-here : fieldAt (ticksBytes (r .last) (r .node) ++ rest) 4 4 ≡ r .node .watch
+  watch-here =
+      rw ticks-flat
+      (after 4 (r .last) _ 0 4 4 refl ∙ here 4 (r .node .watch) _ (omega (arith, f .watch, f .last, f .openable .w-most)))
+
+  heartbeat-here : fieldAt (ticksBytes (r .last) (r .node) ++ rest) 8 4 ≡ r .node .heartbeat
+  heartbeat-here =
+      rw ticks-flat
+      (after 4 (r .last) _ 4 8 4 refl ∙ after 4 (r .node .watch) _ 0 4 4 refl
+      ∙ here 4 (r .node .heartbeat) _ (omega (arith, f .heartbeat, f .last, f .openable .h-most)))
+
+-- ---- the whole
+
+module _ (r : Record) where
+  abbrev spare : List ℕ
+  spare = replicate (recordSize - spareFrom) 0
+
+  in-neighbours : (k at width : ℕ) → at ≡ 6 + k
+      → fieldAt (encode r) at width ≡ fieldAt (neighboursBytes (r .node) ++ (ticksBytes (r .last) (r .node) ++ spare)) k width
+  unfolding encode
+  in-neighbours k at width e = past (numbersBytes r) _ 6 k at width (length-numbers r) e
+
+  in-ticks : (k at width : ℕ) → at ≡ 16 + k → fieldAt (encode r) at width ≡ fieldAt (ticksBytes (r .last) (r .node) ++ spare) k width
+  in-ticks k at width e =
+      in-neighbours (10 + k) at width (omega arith) ∙ past (neighboursBytes (r .node)) _ 10 k (10 + k) width (length-neighbours (r .node)) refl
+
+  pub decode-encode : InRange r → decode (encode r) ≡ r
+  unfolding decode encode
+  decode-encode f =
+      let tail : List ℕ = ticksBytes (r .last) (r .node) ++ spare in
+      rw (
+        number-here r f (neighboursBytes (r .node) ++ tail),
+        nodes-here r f (neighboursBytes (r .node) ++ tail),
+        h-here r f (neighboursBytes (r .node) ++ tail),
+        w-here r f (neighboursBytes (r .node) ++ tail),
+        in-neighbours 0 6 1 refl,
+        emitter-here r f tail,
+        in-neighbours 1 7 1 refl,
+        observer-here r f tail,
+        in-neighbours 2 8 8 refl,
+        list-here r f tail,
+        in-ticks 0 16 4 refl,
+        last-here r f spare,
+        in-ticks 4 20 4 refl,
+        watch-here r f spare,
+        in-ticks 8 24 4 refl,
+        heartbeat-here r f spare,
+      )
+
+  encode-spare : zeros (slice spareFrom recordSize (encode r)) ≡ true
+  unfolding encode
+  encode-spare =
+      let a : List ℕ = numbersBytes r ++ (neighboursBytes (r .node) ++ ticksBytes (r .last) (r .node)) in
+      let l : length a ≡ spareFrom = simp (length-append, length-numbers r, length-neighbours (r .node), length-ticks (r .last) (r .node)) in
+      let e : encode r ≡ a ++ spare = sym (append-assoc (numbersBytes r) _ spare ∙ ap (λ (l : List ℕ). numbersBytes r ++ l) (append-assoc (neighboursBytes (r .node)) (ticksBytes (r .last) (r .node)) spare)) in
+      let d : slice spareFrom recordSize (encode r) ≡ spare =
+      ap (drop spareFrom) (take-all recordSize (encode r) (omega (arith, length-encode r)) ∙ e) ∙ drop-at a spare spareFrom l in
+      rw d (zeros-replicate (recordSize - spareFrom))
+
+  -- the bytes of a record in range are those of a record that a call takes
+  pub encode-sound : InRange r → sound (encode r) ≡ true
+  unfolding sound
+  encode-sound f = rw (eq-eqb (length (encode r)) recordSize (length-encode r), encode-spare, decode-encode f) (facts-in-range r f)

@@ -1,0 +1,89 @@
+-- Ranges are kept: the record that opening leaves is one that calls take, and so is every one that accepted calls then leave.
+-- Assumes nothing.
+use mathlib.Core.Path.{_≡_, refl}
+use mathlib.Core.Bool.{Bool, true, false, cond}
+use mathlib.Core.List.{List, [], _∷_}
+use Prim.Native.Nat.{ℕ}
+use native.Mathlib.Omega.{arith}
+use borrow.Author.Tests.{eqb-true}
+use lib.Dec.{eqb, leb}
+use lib.ListN.{length}
+use Rattle.ring.specs.Ring.{outOfRange}
+use Rattle.node.specs.Node.{Turn}
+use Rattle.host.specs.Record.{recordSize, encode, decode, openable, sound}
+use Rattle.host.specs.Call.{accepted, badRecord, tickTaken, messageTaken, partSize, moved, recordAfter, openAnswer, openedRecord, openLeaves, delivered, deliverAnswer, deliverLeaves, fired, timersAnswer, timersLeaves}
+use Rattle.host.proofs.Codec.{encode-sound}
+use Rattle.host.proofs.Facts.{openable-facts, sound-facts, tick-facts, message-facts, accepted-facts}
+use Rattle.host.proofs.Turns.{opening-in-range, delivered-in-range, fired-in-range}
+
+-- ---- an accepted call
+
+pub opened-in-range : (s : List ℕ) (number nodes h w : ℕ) → openAnswer s number nodes h w ≡ accepted → sound (openLeaves s number nodes h w) ≡ true
+unfolding openLeaves openAnswer
+opened-in-range s number nodes h w e = go (eqb (length s) recordSize) (openable number nodes h w) refl e
+  where
+    go : (a b : Bool) → openable number nodes h w ≡ b → cond a (cond b accepted outOfRange) badRecord ≡ accepted
+        → sound (cond (eqb (cond a (cond b accepted outOfRange) badRecord) accepted) (encode (openedRecord number nodes h w)) s) ≡ true
+    go true true o e = encode-sound (openedRecord number nodes h w) (opening-in-range number nodes h w (openable-facts number nodes h w o))
+    go true false o e = absurd (omega arith)
+    go false b o e = absurd (omega arith)
+
+pub deliver-keeps-range : (s : List ℕ) (tick kind sender subject : ℕ) (part : List ℕ) → deliverAnswer s tick kind sender subject part ≡ accepted
+    → sound (deliverLeaves s tick kind sender subject part) ≡ true
+unfolding deliverLeaves recordAfter deliverAnswer
+deliver-keeps-range s tick kind sender subject part e =
+    let a = accepted-facts (sound s) (tickTaken (decode s) tick) (messageTaken (decode s) kind sender subject) (leb partSize (length part)) e in
+    rw e
+    (encode-sound (moved (decode s) tick (delivered (decode s) tick kind sender subject .node))
+    (delivered-in-range (decode s) (sound-facts s (a .0) .fields) tick (tick-facts (decode s) tick (a .1)) kind sender subject (message-facts (decode s) kind sender subject (a .2))))
+
+pub timers-keep-range : (s : List ℕ) (tick : ℕ) (part : List ℕ) → timersAnswer s tick part ≡ accepted → sound (timersLeaves s tick part) ≡ true
+unfolding timersLeaves recordAfter timersAnswer
+timers-keep-range s tick part e =
+    let a = accepted-facts (sound s) (tickTaken (decode s) tick) true (leb partSize (length part)) e in
+    rw e
+    (encode-sound (moved (decode s) tick (fired (decode s) tick .node))
+    (fired-in-range (decode s) (sound-facts s (a .0) .fields) tick (tick-facts (decode s) tick (a .1))))
+
+-- ---- any calls after opening
+
+-- a call with its numbers and its message part
+pub data Call : Type 0 where
+  deliver : ℕ → ℕ → ℕ → ℕ → List ℕ → Call
+  timers : ℕ → List ℕ → Call
+
+-- the record after a call
+pub after : List ℕ → Call → List ℕ
+after s (deliver tick kind sender subject part) = deliverLeaves s tick kind sender subject part
+after s (timers tick part) = timersLeaves s tick part
+
+-- the record after calls, one after another, each with the record that the last one left
+pub afterAll : List ℕ → List Call → List ℕ
+afterAll s [] = s
+afterAll s (c ∷ cs) = afterAll (after s c) cs
+
+-- a record after a call is the one before it or has been left by an accepted one
+kept : (a : ℕ) (s : List ℕ) (tick : ℕ) (u : Turn) → (a ≡ accepted → sound (recordAfter a s tick u) ≡ true) → sound s ≡ true → sound (recordAfter a s tick u) ≡ true
+unfolding recordAfter
+kept a s tick u h e = go (eqb a accepted) refl
+  where
+    go : (b : Bool) → eqb a accepted ≡ b → sound (recordAfter a s tick u) ≡ true
+    go true q = h (eqb-true a accepted q)
+    go false q = rw q e
+
+after-keeps : (s : List ℕ) (c : Call) → sound s ≡ true → sound (after s c) ≡ true
+unfolding after deliverLeaves timersLeaves
+after-keeps s (deliver tick kind sender subject part) e =
+    kept (deliverAnswer s tick kind sender subject part) s tick (delivered (decode s) tick kind sender subject) (deliver-keeps-range s tick kind sender subject part) e
+after-keeps s (timers tick part) e =
+    kept (timersAnswer s tick part) s tick (fired (decode s) tick) (timers-keep-range s tick part) e
+
+-- whatever calls follow an accepted opening, refused ones among them, the record stays one that calls take
+pub calls-keep-range : (s : List ℕ) (cs : List Call) → sound s ≡ true → sound (afterAll s cs) ≡ true
+unfolding afterAll
+calls-keep-range s [] e = e
+calls-keep-range s (c ∷ cs) e = calls-keep-range (after s c) cs (after-keeps s c e)
+
+pub opened-stays-in-range : (s : List ℕ) (number nodes h w : ℕ) (cs : List Call) → openAnswer s number nodes h w ≡ accepted
+    → sound (afterAll (openLeaves s number nodes h w) cs) ≡ true
+opened-stays-in-range s number nodes h w cs e = calls-keep-range (openLeaves s number nodes h w) cs (opened-in-range s number nodes h w e)

@@ -1,0 +1,34 @@
+-- `host::is_sound` meets its contract. Assumes nothing.
+use mathlib.Core.Path.{ap, _∙_}
+use borrow.Author.Tests.{eq-eqb, ne-eqb}
+use Rattle.host.specs.Record.{inRange, sound}
+use Rattle.host.proofs.Tests.{fails, holds}
+use borrow.Author.Needs.{needs}
+use Rattle.host.proofs.is_sound.Statement.{statement}
+use Rattle.host.proofs.is_sound.Tie as tie
+
+returns : tie.Need-returns
+unfolding sound
+returns c = rw (ne-eqb _ _ (c .if1 .taken))
+
+is-zero-requires : tie.Need-is-zero-requires
+is-zero-requires c κs = search needs
+
+returns-2 : tie.Need-returns-2
+unfolding sound
+returns-2 c = rw (eq-eqb _ _ (c .before .before .if1 .left), fails (c .before .is-zero .ensures) (c .if2 .taken))
+
+read-record-requires : tie.Need-read-record-requires
+read-record-requires c κs = search needs
+
+in-range-requires : tie.Need-in-range-requires
+in-range-requires c κs = search needs
+
+returns-3 : tie.Need-returns-3
+unfolding sound
+returns-3 c = rw (eq-eqb _ _ (c .before .before .before .before .if1 .left), holds (c .before .before .before .is-zero .ensures) (c .before .before .if2 .left)) (c .in-range .ensures ∙ ap inRange (c .before .read-record .ensures))
+
+pub is-sound-spec : {M : Type 1} → statement M
+is-sound-spec =
+    tie.close
+    (tie.spec returns is-zero-requires returns-2 read-record-requires in-range-requires returns-3)

@@ -1,0 +1,87 @@
+-- The node record of document 01, "a 64-byte node record, which also holds its own number, N, H, W and the last tick": what it
+-- holds, its bytes and the range of each field. docs/LAYOUTS.md has the same as a table. Assumes nothing.
+use mathlib.Core.Bool.{Bool, not, _&&_, _||_}
+use mathlib.Core.List.{List, _++_}
+use Prim.Native.Nat.{ℕ, _+_, _-_, _*_, _^_}
+use lib.Dec.{eqb, leb, ltb}
+use lib.ListN.{length, replicate}
+use lib.Seq.{slice}
+use Rattle.fields.specs.Fields.{bytes, fieldAt, zeros}
+use Rattle.ring.specs.Ring.{mostNodes, listed}
+use Rattle.node.specs.declared.Node.{Node}
+use Rattle.node.specs.Node.{mostH, mostW, mostTick, off, due}
+use Rattle.host.specs.declared.Record.{Record}
+
+-- ---- bytes
+
+abbrev pub recordSize : ℕ
+recordSize = 64
+
+-- the bytes from here on are spare
+abbrev pub spareFrom : ℕ
+spareFrom = 28
+
+-- the bytes of a record, each number with its lowest byte first: its own number, N, H and W
+unfoldable pub numbersBytes : Record → List ℕ
+numbersBytes r = bytes 1 (r .number) ++ (bytes 1 (r .nodes) ++ (bytes 2 (r .h) ++ bytes 2 (r .w)))
+
+-- its emitter, its observer and its dead list
+unfoldable pub neighboursBytes : Node → List ℕ
+neighboursBytes n = bytes 1 (n .emitter) ++ (bytes 1 (n .observer) ++ bytes 8 (n .list))
+
+-- its last tick and its timers
+unfoldable pub ticksBytes : ℕ → Node → List ℕ
+ticksBytes last n = bytes 4 last ++ (bytes 4 (n .watch) ++ bytes 4 (n .heartbeat))
+
+unfoldable pub encode : Record → List ℕ
+encode r =
+    numbersBytes r ++ (neighboursBytes (r .node) ++ (ticksBytes (r .last) (r .node) ++ replicate (recordSize - spareFrom) 0))
+
+-- the record in 64 bytes
+unfoldable pub decode : List ℕ → Record
+decode s = record {
+  number = fieldAt s 0 1;
+  nodes = fieldAt s 1 1;
+  h = fieldAt s 2 2;
+  w = fieldAt s 4 2;
+  last = fieldAt s 16 4;
+  node = record {
+    emitter = fieldAt s 6 1;
+    observer = fieldAt s 7 1;
+    watch = fieldAt s 20 4;
+    heartbeat = fieldAt s 24 4;
+    list = fieldAt s 8 8;
+  };
+}
+
+-- ---- ranges
+
+-- the numbers that opening takes: N "1 to 64", a number below N, "H 1 to 1,000; W 1 to 65,535"
+unfoldable pub openable : ℕ → ℕ → ℕ → ℕ → Bool
+openable number nodes h w =
+    leb 1 nodes && (leb nodes mostNodes && (ltb number nodes && (leb 1 h && (leb h mostH && (leb 1 w && leb w mostW)))))
+
+-- the emitter, the observer and the dead list are of nodes below N; out of range is "a live node that lists itself"
+unfoldable pub neighboursInRange : Record → Bool
+neighboursInRange r =
+    ltb (r .node .emitter) (r .nodes) && (ltb (r .node .observer) (r .nodes)
+    && (ltb (r .node .list) (2 ^ r .nodes) && not (listed (r .node .list) (r .number))))
+
+-- out of range is a live node that "observes itself with the watch on or sends to itself with the heartbeat on"
+unfoldable pub apart : ℕ → ℕ → ℕ → Bool
+apart timer other number = eqb timer off || not (eqb other number)
+
+-- a timer is off, or due at a tick that a rule can set: by 2 × W after the last tick for the watch, by H for the heartbeat.
+-- It may be overdue, as messages are delivered all the same
+unfoldable pub timersInRange : Record → Bool
+timersInRange r =
+    leb (r .node .watch) (due (r .last + 2 * r .w)) && (leb (r .node .heartbeat) (due (r .last + r .h))
+    && (apart (r .node .watch) (r .node .emitter) (r .number) && apart (r .node .heartbeat) (r .node .observer) (r .number)))
+
+unfoldable pub inRange : Record → Bool
+inRange r =
+    openable (r .number) (r .nodes) (r .h) (r .w) && (leb (r .last) mostTick && (neighboursInRange r && timersInRange r))
+
+-- the bytes of a record that a call takes: 64, the spare ones zero, each field in its range
+unfoldable pub sound : List ℕ → Bool
+sound s = eqb (length s) recordSize && (zeros (slice spareFrom recordSize s) && inRange (decode s))

@@ -1,0 +1,231 @@
+//! Compares the proved reader and writer of run files with the simulator's, on 01's edges, on generated files and on damaged ones.
+//!
+//! Usage: files [SEED [COUNT]]. A difference prints its seed and index and the file, and the program fails.
+
+#[path = "generate.rs"]
+mod generate;
+#[allow(dead_code)]
+#[path = "../docs/src/simulator.rs"]
+mod simulator;
+
+use generate::Random;
+use simulator::plan;
+use std::process::ExitCode;
+use std::time::Instant;
+
+/// The seed where none is given.
+const SEED: u64 = 20_261_115;
+/// How many files are generated where no count is given.
+const COUNT: u64 = 600;
+/// How many damaged copies are tried of each generated file.
+const COPIES: u64 = 8;
+/// Most bytes of an accepted file.
+const FILE_BYTES: usize = 65_536;
+/// What stands in a part before the call.
+const UNTOUCHED: u8 = 0xa5;
+/// Most L lines.
+const DELAY_ROWS: usize = 2_048;
+
+extern "C" {
+    /// A slice is lent as its address and its length.
+    fn kelbraut_file_check(file: *const u8, length: usize, line: *mut u64) -> u64;
+    fn kelbraut_file_rewrite(file: *const u8, length: usize, out: *mut u8, room: usize) -> usize;
+}
+
+/// Number and line of the refusal; 0 and 0 where the file is accepted.
+type Answer = (u64, u64);
+
+fn proved(file: &[u8]) -> Answer {
+    let mut line = u64::MAX;
+    let number = unsafe { kelbraut_file_check(file.as_ptr(), file.len(), &mut line) };
+    (number, line)
+}
+
+fn simulated(file: &[u8]) -> Answer {
+    plan::read(file).map_or_else(|refusal| (refusal.number.into(), refusal.line as u64), |_| (0, 0))
+}
+
+/// The part of this room after the file was read and written into it, and how many bytes were written.
+fn rewritten(file: &[u8], room: usize) -> (Vec<u8>, usize) {
+    let mut part = vec![UNTOUCHED; room];
+    let written = unsafe { kelbraut_file_rewrite(file.as_ptr(), file.len(), part.as_mut_ptr(), part.len()) };
+    (part, written)
+}
+
+/// An accepted file is written again, whole, and the rest of the part stays; a refused one leaves the part.
+fn writes(what: &str, file: &[u8], room: usize) -> Result<(), String> {
+    let again: &[u8] = if simulated(file) == (0, 0) && room >= FILE_BYTES { file } else { &[] };
+    let (part, written) = rewritten(file, room);
+    if written != again.len() || part[..again.len()] != *again || part[again.len()..].iter().any(|byte| *byte != UNTOUCHED) {
+        return Err(format!("{what}: {written} bytes were written of {}", file.len()));
+    }
+    Ok(())
+}
+
+fn differs(what: &str, file: &[u8], expected: Answer, answer: Answer) -> String {
+    let shown = String::from_utf8_lossy(&file[..file.len().min(400)]).into_owned();
+    format!("{what}: expected {expected:?}, got {answer:?} for {} bytes:\n{shown}", file.len())
+}
+
+/// Both readers give this answer.
+fn edge(what: &str, file: &[u8], expected: Answer) -> Result<(), String> {
+    for (whose, answer) in [("proved", proved(file)), ("simulator", simulated(file))] {
+        if answer != expected {
+            return Err(differs(&format!("{what}, {whose}"), file, expected, answer));
+        }
+    }
+    writes(what, file, FILE_BYTES + 1)?;
+    writes(what, file, FILE_BYTES - 1)
+}
+
+/// Both readers give the same answer.
+fn same(what: &str, file: &[u8]) -> Result<(), String> {
+    let (expected, answer) = (simulated(file), proved(file));
+    if answer != expected {
+        return Err(differs(what, file, expected, answer));
+    }
+    writes(what, file, FILE_BYTES)
+}
+
+/// A file with `rows` L lines, rising, and `last` after them.
+fn with_delays(rows: usize, last: &str) -> Vec<u8> {
+    let mut file = String::from("P,2,2,7,5,6\n");
+    (0..rows).for_each(|number| file += &format!("L,{number},5\n"));
+    file += last;
+    file.into_bytes()
+}
+
+/// A file of this length, whose lines are good up to the last, which has too many digits.
+fn of_length(length: usize) -> Vec<u8> {
+    let mut file = b"P,2,2,3,1,6\nC,".to_vec();
+    file.resize(length - 3, b'9');
+    file.extend_from_slice(b",1\n");
+    file
+}
+
+/// 01's edges on run files, those with no star among them.
+fn edges() -> Result<(), String> {
+    let cases: [(&str, Answer); 44] = [
+        ("", (1, 0)),
+        ("P,2,2,3,1,6\nC,3,1\n", (0, 0)),
+        ("P,1,1,2,1,5\n", (0, 0)),
+        ("P,2,2,2,1,6\n", (4, 1)),
+        ("P,02,2,3,1,6\n", (2, 1)),
+        ("P,2,2,3,1,06\n", (2, 1)),
+        ("P,0,2,3,1,06\n", (2, 1)),
+        ("P,2,2,3,1,\n", (2, 1)),
+        ("P,2,2,3,1,6", (2, 1)),
+        ("P,2,2,3,1,6\r\n", (2, 1)),
+        ("P,2,2,3,1\n", (2, 1)),
+        ("P,2,2,3,1,6,7\n", (2, 1)),
+        ("P,2,2,+3,1,6\n", (2, 1)),
+        ("P, 2,2,3,1,6\n", (2, 1)),
+        ("p,2,2,3,1,6\n", (2, 1)),
+        ("C,3,1\n", (2, 1)),
+        ("L,0,1\n", (2, 1)),
+        ("\n", (2, 1)),
+        ("P,2,2,3,1,6\n\n", (2, 2)),
+        ("P,2,2,3,1,6\nP,2,2,3,1,6\n", (2, 2)),
+        ("P,2,2,3,1,6\nQ,0,1\n", (2, 2)),
+        ("P,2,2,3,1,6\nC,3,1", (2, 2)),
+        ("P,2,2,3,1,6\nC,9,9", (2, 2)),
+        ("P,2,2,3,1,6\nL,0,1\nC,3,1\n", (2, 3)),
+        ("P,2,2,3,1,6\nL,0,1\nC,9,9\n", (2, 3)),
+        ("P,0,2,3,1,6\n", (3, 1)),
+        ("P,65,2,3,1,6\n", (3, 1)),
+        ("P,64,1000,65535,255,1000000\n", (0, 0)),
+        ("P,64,1001,65535,255,1000000\n", (3, 1)),
+        ("P,64,1000,65536,255,1000000\n", (3, 1)),
+        ("P,64,1000,65535,256,1000000\n", (3, 1)),
+        ("P,64,1000,65535,255,1000001\n", (3, 1)),
+        ("P,99999999999999999999,2,3,1,6\n", (3, 1)),
+        ("P,2,2,3,1,6\nC,7,1\n", (3, 2)),
+        ("P,2,2,3,1,6\nC,3,1\nC,2,9\n", (3, 3)),
+        ("P,2,2,3,1,6\nC,3,1\nC,3,1\n", (5, 3)),
+        ("P,2,2,3,1,6\nC,3,1\nC,3,0\n", (5, 3)),
+        ("P,2,2,3,1,6\nC,3,1\nC,4,1\n", (5, 3)),
+        ("P,2,2,7,5,6\nL,0,5\n", (0, 0)),
+        ("P,2,2,7,5,6\nL,0,0\n", (3, 2)),
+        ("P,2,2,7,5,6\nL,0,6\n", (3, 2)),
+        ("P,2,2,7,5,6\nL,999999,5\n", (0, 0)),
+        ("P,2,2,7,5,6\nL,1000000,5\n", (3, 2)),
+        ("P,2,2,7,5,6\nL,7,5\nL,7,5\n", (5, 3)),
+    ];
+    for (file, expected) in cases {
+        edge("edge", file.as_bytes(), expected)?;
+    }
+    let next = DELAY_ROWS as u64 + 2;
+    edge("2,048 L lines", &with_delays(DELAY_ROWS, ""), (0, 0))?;
+    edge("2,049 L lines", &with_delays(DELAY_ROWS, "L,2048,5\n"), (6, next))?;
+    edge("2,049th of bad form", &with_delays(DELAY_ROWS, "L,2048,5"), (2, next))?;
+    edge("2,049th out of range", &with_delays(DELAY_ROWS, "L,2048,6\n"), (3, next))?;
+    edge("2,049th not rising", &with_delays(DELAY_ROWS, "L,2047,5\n"), (5, next))?;
+    edge("65,536 bytes", &of_length(FILE_BYTES), (3, 2))?;
+    edge("65,537 bytes", &of_length(FILE_BYTES + 1), (1, 0))
+}
+
+/// A copy with one to three bytes changed, put in or taken out, or with a line put in twice or taken out.
+fn damaged(file: &[u8], random: &mut Random) -> Vec<u8> {
+    let mut copy = file.to_vec();
+    for _ in 0..random.range(1, 3) {
+        if copy.is_empty() {
+            return copy;
+        }
+        let at = random.range(0, copy.len() as u64 - 1) as usize;
+        let byte = random.pick(b"0123456789,\nPCLQ\r -");
+        let mut lines: Vec<Vec<u8>> = copy.split_inclusive(|b| *b == b'\n').map(<[u8]>::to_vec).collect();
+        let (one, other) = (random.range(0, lines.len() as u64 - 1) as usize, random.range(0, lines.len() as u64 - 1) as usize);
+        match random.range(0, 5) {
+            0 => copy[at] = byte,
+            1 => copy.insert(at, byte),
+            2 => drop(copy.remove(at)),
+            kind => {
+                match kind {
+                    3 => lines.swap(one, other),
+                    4 => lines.insert(one, lines[other].clone()),
+                    _ => drop(lines.remove(one)),
+                }
+                copy = lines.concat();
+            }
+        }
+    }
+    copy
+}
+
+fn generated(seed: u64, count: u64) -> Result<(), String> {
+    for index in 0..count {
+        let file = generate::file(seed, index);
+        let mut random = Random::new(seed, index);
+        same(&format!("seed {seed} index {index}"), &file)?;
+        for copy in 0..COPIES {
+            same(&format!("seed {seed} index {index} copy {copy}"), &damaged(&file, &mut random))?;
+        }
+    }
+    Ok(())
+}
+
+/// How long the proved reader takes for a file with as many lines as there can be: the fastest of some rounds.
+fn speed() {
+    let mut file = String::from("P,64,1000,65535,255,1000000\n");
+    (0..64).for_each(|node| file += &format!("C,1000000,{node}\n"));
+    (0..DELAY_ROWS).for_each(|row| file += &format!("L,{},255\n", 900_000 + row));
+    let fastest = (0..200).map(|_| {
+        let began = Instant::now();
+        assert_eq!(proved(file.as_bytes()), (0, 0));
+        began.elapsed()
+    });
+    println!("files: {} bytes are read in {:?}", file.len(), fastest.min().expect("a round"));
+}
+
+fn main() -> ExitCode {
+    let mut words = std::env::args().skip(1).map(|word| word.parse().expect("a number"));
+    let (seed, count) = (words.next().unwrap_or(SEED), words.next().unwrap_or(COUNT));
+    println!("files: seed {seed}, {count} generated files");
+    if let Err(difference) = edges().and_then(|()| generated(seed, count)) {
+        eprintln!("files: {difference}");
+        return ExitCode::FAILURE;
+    }
+    speed();
+    println!("files: passed");
+    ExitCode::SUCCESS
+}

@@ -1,0 +1,420 @@
+//! The three calls of a host in C, through the static library, beside a record written here from document 01's words and
+//! docs/LAYOUTS.md over the simulator's node calls. Every call must give the same answer and the same lent bytes.
+//!
+//! Usage: host [SEED]. A failure prints the call and the seed that leads to it.
+
+use simulator::limits::{MAX_NODES, MAX_PERIOD, MAX_TICK, MAX_TIMEOUT};
+use simulator::node::{Content, Node, Sends, Settings};
+use simulator::record::Record;
+
+extern "C" {
+    fn kelbraut_node_open(record: *mut u8, size: usize, number: u64, nodes: u64, h: u64, w: u64) -> u64;
+    fn kelbraut_node_deliver(
+        record: *mut u8, size: usize, tick: u64, kind: u64, sender: u64, subject: u64, part: *mut u8, part_size: usize,
+    ) -> u64;
+    fn kelbraut_node_timers(record: *mut u8, size: usize, tick: u64, part: *mut u8, part_size: usize) -> u64;
+}
+
+const RECORD: usize = 64;
+const PART: usize = 56;
+const REFUSED_RECORD: u64 = 10;
+
+#[derive(Clone, Copy, Debug)]
+enum Call {
+    Open { number: u64, nodes: u64, h: u64, w: u64 },
+    Deliver { tick: u64, kind: u64, sender: u64, subject: u64 },
+    Timers { tick: u64 },
+}
+
+/// What a call is lent: its record and its message part.
+#[derive(Clone, PartialEq, Eq, Debug)]
+struct Lent {
+    record: Vec<u8>,
+    part: Vec<u8>,
+}
+
+fn proved(call: Call, lent: &mut Lent) -> u64 {
+    let (r, rl) = (lent.record.as_mut_ptr(), lent.record.len());
+    let (p, pl) = (lent.part.as_mut_ptr(), lent.part.len());
+    unsafe {
+        match call {
+            Call::Open { number, nodes, h, w } => kelbraut_node_open(r, rl, number, nodes, h, w),
+            Call::Deliver { tick, kind, sender, subject } => {
+                kelbraut_node_deliver(r, rl, tick, kind, sender, subject, p, pl)
+            }
+            Call::Timers { tick } => kelbraut_node_timers(r, rl, tick, p, pl),
+        }
+    }
+}
+
+// ---- the record's bytes and ranges, from docs/LAYOUTS.md
+
+fn number(bytes: &[u8]) -> u64 {
+    bytes.iter().rev().fold(0, |x, b| x << 8 | u64::from(*b))
+}
+
+fn timer(bytes: &[u8]) -> Option<u32> {
+    (number(bytes) as u32).checked_sub(1)
+}
+
+/// The record in these bytes, or nothing where it is out of range.
+fn decode(bytes: &[u8]) -> Option<Record> {
+    if bytes.len() != RECORD {
+        return None;
+    }
+    let (me, nodes) = (bytes[0], bytes[1]);
+    let (h, w) = (number(&bytes[2..4]), number(&bytes[4..6]));
+    let (emitter, observer, list) = (bytes[6], bytes[7], number(&bytes[8..16]));
+    let last = number(&bytes[16..20]);
+    let (watch, heartbeat) = (timer(&bytes[20..24]), timer(&bytes[24..28]));
+    let good = (1..=MAX_NODES).contains(&u64::from(nodes))
+        && [me, emitter, observer].iter().all(|node| *node < nodes)
+        && (1..=MAX_PERIOD).contains(&h)
+        && (1..=MAX_TIMEOUT).contains(&w)
+        && last <= MAX_TICK
+        && (nodes == 64 || list >> nodes == 0)
+        && list >> me & 1 == 0
+        && watch.is_none_or(|due| emitter != me && u64::from(due) <= last + 2 * w)
+        && heartbeat.is_none_or(|due| observer != me && u64::from(due) <= last + h)
+        && bytes[28..].iter().all(|b| *b == 0);
+    good.then_some(Record {
+        settings: Settings { nodes, period: h as u32, timeout: w as u32 },
+        node: Node { number: me, alive: true, emitter, observer, watch, heartbeat, dead_list: list },
+        last_tick: last as u32,
+    })
+}
+
+fn encode(record: &Record) -> Vec<u8> {
+    let (settings, node) = (record.settings, record.node);
+    let due = |timer: Option<u32>| timer.map_or(0, |tick| tick + 1).to_le_bytes();
+    let mut bytes = vec![node.number, settings.nodes];
+    bytes.extend((settings.period as u16).to_le_bytes());
+    bytes.extend((settings.timeout as u16).to_le_bytes());
+    bytes.extend([node.emitter, node.observer]);
+    bytes.extend(node.dead_list.to_le_bytes());
+    bytes.extend(record.last_tick.to_le_bytes());
+    bytes.extend(due(node.watch));
+    bytes.extend(due(node.heartbeat));
+    bytes.resize(RECORD, 0);
+    bytes
+}
+
+/// The 8 bytes of a message: kind, receiver, sender, subject, four zeros.
+fn message(sender: u8, receiver: u8, content: Content) -> [u8; 8] {
+    let (kind, subject) = match content {
+        Content::Heartbeat => (b'H', 0),
+        Content::NewObserver => (b'O', 0),
+        Content::Report { subject } => (b'R', subject),
+    };
+    [kind, receiver, sender, subject, 0, 0, 0, 0]
+}
+
+/// A rule that is wrong, though natural.
+#[derive(Clone, Copy, PartialEq, Eq, Debug)]
+enum Wrong {
+    No,
+    RenewedByAnyone,
+    ShortAfterMoving,
+    LastTickLost,
+}
+
+/// The same call by the record above.
+fn expected(call: Call, lent: &mut Lent, wrong: Wrong) -> u64 {
+    if let Call::Open { number, nodes, h, w } = call {
+        if lent.record.len() != RECORD {
+            return REFUSED_RECORD;
+        }
+        return match Record::open(number, nodes, h, w) {
+            Ok(record) => {
+                lent.record = encode(&record);
+                0
+            }
+            Err(refused) => u64::from(refused),
+        };
+    }
+    let Some(mut record) = decode(&lent.record) else { return REFUSED_RECORD };
+    let before = record;
+    let sends = match call {
+        Call::Deliver { tick, kind, sender, subject } => record.deliver(tick, kind, sender, subject, lent.part.len()),
+        Call::Timers { tick } => record.do_timer(tick, lent.part.len()),
+        Call::Open { .. } => unreachable!(),
+    };
+    let sends = match sends {
+        Ok(sends) => sends,
+        Err(refused) => return u64::from(refused),
+    };
+    spoil(call, before, &mut record, wrong);
+    leave(lent, &record, &sends);
+    0
+}
+
+fn spoil(call: Call, before: Record, record: &mut Record, wrong: Wrong) {
+    match (wrong, call) {
+        (Wrong::RenewedByAnyone, Call::Deliver { tick, kind, .. }) if kind == u64::from(b'H') => {
+            record.node.watch = Some(tick as u32 + record.settings.timeout);
+        }
+        (Wrong::ShortAfterMoving, Call::Timers { tick }) if before.node.emitter != record.node.emitter => {
+            record.node.watch = record.node.watch.map(|_| tick as u32 + record.settings.timeout);
+        }
+        (Wrong::LastTickLost, _) => record.last_tick = before.last_tick,
+        _ => {}
+    }
+}
+
+fn leave(lent: &mut Lent, record: &Record, sends: &Sends) {
+    lent.record = encode(record);
+    lent.part[..PART].fill(0);
+    for (place, sent) in sends.as_slice().iter().enumerate() {
+        lent.part[place * 8..place * 8 + 8].copy_from_slice(&message(record.node.number, sent.receiver, sent.content));
+    }
+}
+
+// ---- a source of random numbers (splitmix64), and the comparison
+
+struct Random(u64);
+
+impl Random {
+    fn next(&mut self) -> u64 {
+        self.0 = self.0.wrapping_add(0x9e37_79b9_7f4a_7c15);
+        let x = (self.0 ^ self.0 >> 30).wrapping_mul(0xbf58_476d_1ce4_e5b9);
+        let x = (x ^ x >> 27).wrapping_mul(0x94d0_49bb_1331_11eb);
+        x ^ x >> 31
+    }
+
+    fn below(&mut self, bound: u64) -> u64 {
+        self.next() % bound
+    }
+
+    fn one_in(&mut self, count: u64) -> bool {
+        self.below(count) == 0
+    }
+
+    fn pick<T: Copy>(&mut self, from: &[T]) -> T {
+        from[self.below(from.len() as u64) as usize]
+    }
+
+    fn bytes(&mut self, count: usize) -> Vec<u8> {
+        (0..count).map(|_| self.next() as u8).collect()
+    }
+}
+
+struct Compared {
+    calls: u64,
+    accepted: u64,
+    differences: u64,
+    wrong: Wrong,
+}
+
+impl Compared {
+    fn new(wrong: Wrong) -> Compared {
+        Compared { calls: 0, accepted: 0, differences: 0, wrong }
+    }
+
+    /// Makes the call both ways; the lent bytes are then those that the proved call left.
+    fn call(&mut self, call: Call, lent: &mut Lent) -> u64 {
+        let before = lent.clone();
+        let mut other = lent.clone();
+        let answer = proved(call, lent);
+        let wanted = expected(call, &mut other, self.wrong);
+        self.calls += 1;
+        self.accepted += u64::from(answer == 0);
+        if answer == wanted && *lent == other {
+            assert!(answer == 0 || *lent == before);
+        } else if self.wrong == Wrong::No {
+            panic!("{call:?} on {before:?}\nanswers {answer}, not {wanted}, and leaves\n{lent:?}, not\n{other:?}");
+        } else {
+            self.differences += 1;
+        }
+        answer
+    }
+}
+
+fn lent(record: &[u8], part: Vec<u8>) -> Lent {
+    Lent { record: record.to_vec(), part }
+}
+
+// ---- random sequences of calls on the records of one ring
+
+struct Ring {
+    records: Vec<Vec<u8>>,
+    in_flight: Vec<[u8; 8]>,
+    tick: u64,
+    h: u64,
+    w: u64,
+}
+
+impl Ring {
+    fn open(compared: &mut Compared, random: &mut Random) -> Ring {
+        let nodes = random.pick(&[1, 2, 3, 5, 8, 16, 33, 63, 64]);
+        let h = random.pick(&[1, 2, 7, 40, 1_000]);
+        let w = random.pick(&[1, 3, 20, 300, 65_535]);
+        let records = (0..nodes)
+            .map(|number| {
+                let mut lent = lent(&random.bytes(RECORD), Vec::new());
+                assert_eq!(compared.call(Call::Open { number, nodes, h, w }, &mut lent), 0);
+                lent.record
+            })
+            .collect();
+        Ring { records, in_flight: Vec::new(), tick: 0, h, w }
+    }
+
+    fn next_tick(&mut self, random: &mut Random) -> u64 {
+        if random.one_in(20) {
+            return random.pick(&[0, 999_999, 1_000_000, 1_000_001, u64::MAX, 1 << 32 | self.tick, self.tick / 2]);
+        }
+        let step = random.pick(&[0, 0, 1, 2, self.h, self.w, 2 * self.w]);
+        self.tick = (self.tick + random.below(step + 1)).min(MAX_TICK);
+        self.tick
+    }
+
+    fn next_call(&mut self, random: &mut Random) -> (usize, Call) {
+        let nodes = self.records.len() as u64;
+        let tick = self.next_tick(random);
+        if !self.in_flight.is_empty() && random.one_in(2) {
+            let m = self.in_flight.swap_remove(random.below(self.in_flight.len() as u64) as usize);
+            let [kind, to, sender, subject] = [m[0], m[1], m[2], m[3]].map(u64::from);
+            return (to as usize, Call::Deliver { tick, kind, sender, subject });
+        }
+        let node = random.below(nodes);
+        if random.one_in(2) {
+            return (node as usize, Call::Timers { tick });
+        }
+        let odd = [nodes, 64, 255, 256, 256 + node, u64::MAX];
+        let kind = if random.one_in(12) { random.next() >> random.below(64) } else { u64::from(random.pick(b"HOR")) };
+        let sender = if random.one_in(12) { random.pick(&odd) } else { random.below(nodes) };
+        let subject = if random.one_in(6) { random.pick(&odd) } else { random.below(nodes) };
+        (node as usize, Call::Deliver { tick, kind, sender, subject })
+    }
+}
+
+/// One ring, some hundred calls.
+fn sequence(compared: &mut Compared, seed: u64) {
+    let mut random = Random(seed);
+    let mut ring = Ring::open(compared, &mut random);
+    for _ in 0..400 {
+        let (node, call) = ring.next_call(&mut random);
+        let size = if random.one_in(10) { random.below(120) as usize } else { PART };
+        let mut lent = lent(&ring.records[node], random.bytes(size));
+        if compared.call(call, &mut lent) == 0 {
+            assert!(decode(&lent.record).is_some());
+            let sent = lent.part[..PART].chunks(8).take_while(|m| m[0] != 0);
+            ring.in_flight.extend(sent.map(|m| <[u8; 8]>::try_from(m).unwrap()));
+            ring.in_flight.truncate(200);
+        }
+        ring.records[node] = lent.record;
+    }
+}
+
+/// A wrong rule must be told from the right one by the same sequences.
+fn tells(wrong: Wrong, seed: u64) {
+    let mut compared = Compared::new(wrong);
+    for i in 0..40 {
+        sequence(&mut compared, seed + i);
+    }
+    assert!(compared.differences > 0, "{wrong:?} is not told from the right rule");
+}
+
+// ---- records, lengths, ticks, messages and parts one by one
+
+/// Records of many kinds, reached by calls.
+fn reached(compared: &mut Compared, seed: u64) -> Vec<Vec<u8>> {
+    let mut random = Random(seed);
+    let mut records = Vec::new();
+    for (number, nodes, h, w) in [(0, 1, 1, 1), (1, 2, 3, 5), (2, 5, 1_000, 65_535), (63, 64, 4, 12), (7, 40, 2, 9)] {
+        let mut now = lent(&[0; RECORD], vec![0; PART]);
+        compared.call(Call::Open { number, nodes, h, w }, &mut now);
+        records.push(now.record.clone());
+        let mut tick = 0;
+        for _ in 0..6 {
+            tick += random.below(2 * w + 2);
+            let other = (number + 1 + random.below(nodes)) % nodes;
+            let kind = u64::from(random.pick(b"HOR"));
+            compared.call(Call::Deliver { tick, kind, sender: other, subject: other }, &mut now);
+            compared.call(Call::Timers { tick }, &mut now);
+            records.push(now.record.clone());
+        }
+    }
+    records
+}
+
+fn damaged_records(compared: &mut Compared, records: &[Vec<u8>]) {
+    for record in records {
+        let last = number(&record[16..20]);
+        for place in 0..RECORD {
+            for value in 0..=255 {
+                let mut damaged = record.clone();
+                damaged[place] = value;
+                let sender = u64::from(damaged[6]);
+                compared.call(Call::Timers { tick: last }, &mut lent(&damaged, vec![9; PART]));
+                let call = Call::Deliver { tick: last + 1, kind: u64::from(b'H'), sender, subject: 0 };
+                compared.call(call, &mut lent(&damaged, vec![9; PART]));
+            }
+        }
+    }
+}
+
+fn lengths(compared: &mut Compared, records: &[Vec<u8>]) {
+    for record in records {
+        for size in 0..=130 {
+            let mut bytes = record.clone();
+            bytes.resize(size, 0);
+            for part in [0, 55, 56, 57] {
+                let mut other = lent(&bytes, vec![7; part]);
+                compared.call(Call::Open { number: 1, nodes: 3, h: 1, w: 1 }, &mut other.clone());
+                compared.call(Call::Open { number: 3, nodes: 3, h: 1, w: 1 }, &mut other.clone());
+                compared.call(Call::Timers { tick: MAX_TICK }, &mut other.clone());
+                compared.call(Call::Deliver { tick: MAX_TICK, kind: 79, sender: 0, subject: 0 }, &mut other);
+            }
+        }
+        for part in 0..=80 {
+            compared.call(Call::Timers { tick: MAX_TICK }, &mut lent(record, vec![7; part]));
+            compared.call(Call::Timers { tick: 0 }, &mut lent(record, vec![7; part]));
+        }
+    }
+}
+
+fn numbers(compared: &mut Compared, records: &[Vec<u8>]) {
+    let edges: Vec<u64> =
+        (0..=66).chain([71, 72, 73, 78, 79, 80, 81, 82, 83, 255, 256, 328, 999, 1_000, 1_001, 65_535, 65_536, u64::MAX]).collect();
+    for &a in &edges {
+        for &b in &edges {
+            compared.call(Call::Open { number: a, nodes: b, h: 5, w: 5 }, &mut lent(&[1; RECORD], Vec::new()));
+            compared.call(Call::Open { number: 0, nodes: 9, h: a, w: b }, &mut lent(&[1; RECORD], Vec::new()));
+        }
+    }
+    for record in records {
+        let last = number(&record[16..20]);
+        let ticks = [0, last.wrapping_sub(1), last, last + 1, MAX_TICK, MAX_TICK + 1, 1 << 32 | last, u64::MAX];
+        for tick in ticks {
+            for &kind in &[72, 79, 82] {
+                for &sender in &edges {
+                    let call = Call::Deliver { tick, kind, sender, subject: sender.wrapping_add(1) & 63 };
+                    compared.call(call, &mut lent(record, vec![3; PART + 1]));
+                    let call = Call::Deliver { tick, kind, sender: 0, subject: sender };
+                    compared.call(call, &mut lent(record, vec![3; PART + 1]));
+                }
+            }
+            for &kind in &edges {
+                compared.call(Call::Deliver { tick, kind, sender: 0, subject: 1 }, &mut lent(record, vec![3; PART]));
+            }
+            compared.call(Call::Timers { tick }, &mut lent(record, vec![3; PART]));
+        }
+    }
+}
+
+fn main() {
+    let seed = std::env::args().nth(1).map_or(20_261_115, |s| s.parse().expect("a seed is a number"));
+    println!("host: seed {seed}");
+    let mut compared = Compared::new(Wrong::No);
+    for i in 0..600 {
+        sequence(&mut compared, seed + i);
+    }
+    let records = reached(&mut compared, seed);
+    damaged_records(&mut compared, &records);
+    lengths(&mut compared, &records);
+    numbers(&mut compared, &records);
+    for wrong in [Wrong::RenewedByAnyone, Wrong::ShortAfterMoving, Wrong::LastTickLost] {
+        tells(wrong, seed);
+    }
+    println!("host: {} calls alike, {} of them accepted; wrong rules told apart", compared.calls, compared.accepted);
+}
