@@ -9,7 +9,7 @@ use mathlib.Core.List.{List}
 use lib.Dec.{eqb, leb, ltb}
 use lib.ListN.{length, take}
 use Rattle.ring.proofs.Rows.{length-numbers}
-use Rattle.ring.proofs.TableLaws.{take-numbers}
+use Rattle.ring.proofs.Rows.{take-numbers}
 use lib.Pow.{pow-pos}
 use Rattle.ring.specs.Ring.{mostNodes, numbers}
 use Rattle.node.specs.Node.{H, O, R, onMessage}
