@@ -78,7 +78,8 @@ static inline uint64_t kelbraut_dead_list(const uint8_t record[KELBRAUT_RECORD])
 
 /*
  * The messages that an accepted call sends stand one after another from the start of the message part, 8 bytes each, in
- * the order of sending. A place whose kind is 0 is unused, and so are those after it.
+ * the order of sending. A place whose kind is 0 is unused, and so are those after it. The receiver's record, opened with
+ * the same number of nodes, never refuses such a message by 11.
  */
 static inline uint8_t kelbraut_kind(const uint8_t message[KELBRAUT_MESSAGE]) {
     return message[0];

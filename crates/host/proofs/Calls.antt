@@ -15,7 +15,7 @@ use Rattle.node.proofs.Messages.{turned-count, turned-sends}
 use Rattle.node.proofs.Rules.{message-few, watch-few}
 use Rattle.host.specs.declared.Record.{Record}
 use Rattle.host.specs.Record.{recordSize, encode, decode, openable, sound}
-use Rattle.host.specs.Call.{accepted, badRecord, badTick, badMessage, shortPart, answer, tickTaken, messageTaken, subjectOf, partSize, putMessages, moved, recordAfter, partAfter, openAnswer, openedRecord, openLeaves, delivered, deliverAnswer, deliverLeaves, deliverSends, dueBy, fired, timersAnswer, timersLeaves, timersSends}
+use Rattle.host.specs.Call.{accepted, badRecord, badTick, badMessage, shortPart, answer, tickTaken, messageTaken, partSize, putMessages, moved, recordAfter, partAfter, openAnswer, openedRecord, openLeaves, delivered, deliverAnswer, deliverLeaves, deliverSends, dueBy, fired, timersAnswer, timersLeaves, timersSends}
 use Rattle.host.proofs.Facts.{Kind, InRange, MessageTaken, sound-facts, tick-facts, message-facts}
 use Rattle.host.proofs.Tests.{delivered-subject}
 
@@ -116,7 +116,7 @@ module _ (s : List ℕ) (tick kind sender subject : ℕ) (part : List ℕ) (r : 
   deliver-part e f g h = refused _ s part tick _ shortPart (answer-part _ _ _ _ e (d-tick true f) (d-message true g) (lt-leb partSize (length part) h)) refl
 
   pub deliver-taken : (about : ℕ) (t : Turned) (s′ part′ : List ℕ) → sound s ≡ true → tickTaken r tick ≡ true → messageTaken r kind sender subject ≡ true
-      → partSize ≤ length part → Kind kind → about ≡ subjectOf kind subject → t ≡ turned (delivered r tick kind sender about)
+      → partSize ≤ length part → Kind kind → about ≡ cond (eqb kind R) subject 0 → t ≡ turned (delivered r tick kind sender about)
       → s′ ≡ encode (moved r tick (t .node)) → part′ ≡ putMessages part (r .number) (take (t .count) (t .sent)) → Delivered accepted s′ part′
   unfolding deliverLeaves deliverSends deliverAnswer
   deliver-taken about t s′ part′ e f g h k aq tq sq pq =
@@ -176,8 +176,7 @@ timers-record s tick part e = refused _ s part tick _ badRecord (answer-record _
 pub sound-record : (s : List ℕ) (r : Record) → sound s ≡ true → r ≡ decode s → InRange r
 sound-record s r e rq = rw rq (sound-facts s e .fields)
 
-subject-fits : (r : Record) (kind sender subject : ℕ) → MessageTaken r kind sender subject → r .nodes ≤ mostNodes → subjectOf kind subject < mostNodes
-unfolding subjectOf
+subject-fits : (r : Record) (kind sender subject : ℕ) → MessageTaken r kind sender subject → r .nodes ≤ mostNodes → cond (eqb kind R) subject 0 < mostNodes
 subject-fits r kind sender subject m h = go (eqb kind R) refl
   where
     go : (b : Bool) → eqb kind R ≡ b → cond b subject 0 < mostNodes
@@ -191,7 +190,7 @@ module _ (s : List ℕ) (r : Record) (tick : ℕ) (e : sound s ≡ true) (rq : r
       let o = i .openable in
       (o .some, o .most, o .h-most, o .w-most, tick-facts r tick f .1, omega (arith, i .emitter, o .most))
 
-  pub message-asks : (kind sender subject about : ℕ) → messageTaken r kind sender subject ≡ true → about ≡ subjectOf kind subject
+  pub message-asks : (kind sender subject about : ℕ) → messageTaken r kind sender subject ≡ true → about ≡ cond (eqb kind R) subject 0
       → (1 ≤ r .nodes) × (r .nodes ≤ mostNodes) × (r .w ≤ mostW) × (tick ≤ mostTick) × (about < mostNodes)
   message-asks kind sender subject about g aq =
       let o = sound-record s r e rq .openable in

@@ -6,3 +6,4 @@ pub mod Calls
 pub mod Codec
 pub mod Turns
 pub mod Range
+pub mod Sent

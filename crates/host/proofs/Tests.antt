@@ -1,6 +1,6 @@
 -- What the code's tests answer is what the definitions say. Assumes nothing.
 use mathlib.Core.Path.{_≡_, refl, sym, ap, _∙_}
-use mathlib.Core.Bool.{Bool, true, false, not, _&&_, _||_}
+use mathlib.Core.Bool.{Bool, true, false, cond, not, _&&_, _||_}
 use Prim.Native.Nat.{ℕ, suc, _+_, _-_, _^_, _≤_, _<_}
 use native.Mathlib.Numerals.{add-one}
 use native.Mathlib.Omega.{arith}
@@ -14,7 +14,7 @@ use lib.Pow.{pow-pos}
 use Rattle.ring.specs.Ring.{mostNodes, numbers}
 use Rattle.node.specs.Node.{H, O, R, onMessage}
 use Rattle.host.specs.declared.Record.{Record}
-use Rattle.host.specs.Call.{otherNode, messageTaken, subjectOf, delivered, dueBy}
+use Rattle.host.specs.Call.{otherNode, messageTaken, delivered, dueBy}
 use Rattle.host.proofs.Facts.{Kind, heartbeat, observer, report}
 
 -- a call's answer that was tested
@@ -88,8 +88,8 @@ module _ (r : Record) (kind sender subject : ℕ) where
 
 -- only a report's subject counts
 pub delivered-subject : (r : Record) (tick kind sender subject : ℕ) → Kind kind
-    → delivered r tick kind sender (subjectOf kind subject) ≡ delivered r tick kind sender subject
-unfolding delivered subjectOf onMessage
+    → delivered r tick kind sender (cond (eqb kind R) subject 0) ≡ delivered r tick kind sender subject
+unfolding delivered onMessage
 delivered-subject r tick kind sender subject heartbeat = refl
 delivered-subject r tick kind sender subject observer = refl
 delivered-subject r tick kind sender subject report = refl

@@ -106,6 +106,15 @@ opening-in-range number nodes h w o = go (ltb 1 (length (numbers 0 nodes))) refl
 
 -- ---- a turn
 
+-- a list with another node than the record's own
+pub lists : (r : Record) → InRange r → (k : ℕ) → (k ≡ r .number → ⊥) → listed (listing (r .node .list) k) (r .number) ≡ false
+lists r f k h = rw (listed-listing (r .node .list) k (r .number), ne-eqb k (r .number) h) (f .unlisted)
+
+-- a timer that is due is on
+pub on-due : (tick timer : ℕ) → dueBy tick timer ≡ true → timer ≡ 0 → ⊥
+unfolding dueBy
+on-due tick timer e z = omega (arith, ltb-true 0 timer (both (ltb 0 timer) _ e .0))
+
 module _ (r : Record) (f : InRange r) (tick : ℕ) (t : (r .last ≤ tick) × (tick ≤ mostTick)) where
   abbrev order : List ℕ
   order = numbers 0 (r .nodes)
@@ -125,10 +134,6 @@ module _ (r : Record) (f : InRange r) (tick : ℕ) (t : (r .last ≤ tick) × (t
     observes = f .observes;
     sends = f .sends;
   }
-
-  -- a list with another node than the record's own
-  lists : (k : ℕ) → (k ≡ r .number → ⊥) → listed (listing (r .node .list) k) (r .number) ≡ false
-  lists k h = rw (listed-listing (r .node .list) k (r .number), ne-eqb k (r .number) h) (f .unlisted)
 
   on-heartbeat : (from : ℕ) → (from ≡ r .number → ⊥) → InRange (moved r tick (onHeartbeat (r .w) tick from (r .node) .node))
   unfolding onHeartbeat moved
@@ -180,7 +185,7 @@ module _ (r : Record) (f : InRange r) (tick : ℕ) (t : (r .last ≤ tick) × (t
         emitter = f .emitter;
         observer = f .observer;
         list = listing-lt (r .nodes) (r .node .list) subject (f .list) l;
-        unlisted = lists subject h;
+        unlisted = lists r f subject h;
         watch = omega (arith, f .watch, t .0);
         heartbeat = omega (arith, f .heartbeat, t .0);
         observes = f .observes;
@@ -216,7 +221,7 @@ module _ (r : Record) (f : InRange r) (tick : ℕ) (t : (r .last ≤ tick) × (t
       within = listing-lt (r .nodes) (r .node .list) (r .node .emitter) (f .list) (f .emitter)
 
       self : listed d (r .number) ≡ false
-      self = lists (r .node .emitter) (apart-on (r .node .watch) (r .node .emitter) (r .number) (f .observes) on)
+      self = lists r f (r .node .emitter) (apart-on (r .node .watch) (r .node .emitter) (r .number) (f .observes) on)
 
       go : (b : Bool) → eqb e (r .number) ≡ b
           → InRange (moved r tick (cond b (silent (alone (r .number) d)) (record {
@@ -259,12 +264,9 @@ module _ (r : Record) (f : InRange r) (tick : ℕ) (t : (r .last ≤ tick) × (t
       go k report a = on-report subject (a refl .0) (a refl .1)
 
   pub fired-in-range : InRange (moved r tick (fired r tick .node))
-  unfolding fired dueBy
-  fired-in-range = go (dueBy tick (r .node .watch)) (dueBy tick (r .node .heartbeat)) (on (r .node .watch)) (on (r .node .heartbeat))
+  unfolding fired
+  fired-in-range = go (dueBy tick (r .node .watch)) (dueBy tick (r .node .heartbeat)) (on-due tick (r .node .watch)) (on-due tick (r .node .heartbeat))
     where
-      on : (timer : ℕ) → dueBy tick timer ≡ true → timer ≡ 0 → ⊥
-      on timer e z = omega (arith, ltb-true 0 timer (both (ltb 0 timer) _ e .0))
-
       go : (a b : Bool) → (a ≡ true → r .node .watch ≡ 0 → ⊥) → (b ≡ true → r .node .heartbeat ≡ 0 → ⊥)
           → InRange (moved r tick (cond a (onWatchDue order (r .w) tick (r .number) (r .node)) (cond b (onHeartbeatDue (r .h) tick (r .node)) (silent (r .node))) .node))
       go true b h g = on-watch-due (h refl)

@@ -48,10 +48,6 @@ unfoldable pub messageTaken : Record → ℕ → ℕ → ℕ → Bool
 messageTaken r kind sender subject =
     (eqb kind H || (eqb kind O || eqb kind R)) && (otherNode r sender && (not (eqb kind R) || otherNode r subject))
 
--- the subject of a message, which only R has
-unfoldable pub subjectOf : ℕ → ℕ → ℕ
-subjectOf kind subject = cond (eqb kind R) subject 0
-
 -- ---- messages: "at most seven of 8 bytes, are put into the first 56 bytes of a lent part, unused ones zero"
 
 abbrev pub messageSize : ℕ

@@ -4,13 +4,15 @@ use node::Message;
 use node::Node;
 use node::Turned;
 ghost use mathlib.Core.Path.{_≡_};
+ghost use mathlib.Core.Bool.{cond};
 ghost use Prim.Native.Nat.{_+_, _≤_, _<_};
+ghost use lib.Dec.{eqb};
 ghost use lib.ListN.{length, take};
 ghost use lib.Seq.{sets};
 ghost use Rattle.ring.specs.Ring.{mostNodes};
 ghost use Rattle.node.specs.Node.{mostH, mostW, mostTick, mostSent, turned, R};
 ghost use Rattle.host.specs.Record.{recordSize, encode, numbersBytes, neighboursBytes, ticksBytes, decode, openable, neighboursInRange, apart, timersInRange, inRange, sound};
-ghost use Rattle.host.specs.Call.{tickTaken, otherNode, messageTaken, messageSize, partSize, subjectOf, messageBytes, putMessages, moved, openAnswer, openedRecord, openLeaves, delivered, deliverAnswer, deliverLeaves, deliverSends, dueBy, fired, timersAnswer, timersLeaves, timersSends};
+ghost use Rattle.host.specs.Call.{tickTaken, otherNode, messageTaken, messageSize, partSize, messageBytes, putMessages, moved, openAnswer, openedRecord, openLeaves, delivered, deliverAnswer, deliverLeaves, deliverSends, dueBy, fired, timersAnswer, timersLeaves, timersSends};
 
 // A record: its node's number, N, H, W, the last tick and the node.
 pub struct Record {
@@ -323,7 +325,7 @@ fn message_turn(r: Record, tick: u32, kind: u8, sender: u8, subject: u8) -> Turn
 // The subject of a message, which only R has.
 fn subject_of(kind: u64, subject: u64) -> u8
     requires { ⌜ (kind ≡ R → subject < mostNodes) ⌝ }
-    ensures { λ r. ⌜ r ≡ subjectOf kind subject ⌝ }
+    ensures { λ r. ⌜ r ≡ cond (eqb kind R) subject 0 ⌝ }
 {
     if kind != 82 {
         return 0;
