@@ -2,13 +2,13 @@
 use mathlib.Core.Path.{_≡_, sym, _∙_}
 use mathlib.Core.Bool.{Bool, true, false, cond, _||_}
 use mathlib.Core.List.{List, [], _∷_}
-use Prim.Native.Nat.{ℕ, zero, suc, _+_, _*_, _≤_, _<_}
+use Prim.Native.Nat.{ℕ, suc, _+_, _*_, _≤_, _<_}
 use native.Mathlib.Numerals.{add-one}
 use native.Mathlib.Omega.{arith}
 use borrow.Author.Tests.{eq-eqb, ne-eqb, lt-ltb, le-ltb}
 use lib.Dec.{eqb}
 use lib.ListN.{length}
-use Rattle.ring.specs.Ring.{mostNodes, listed, listing, place, ahead, back, next, targets}
+use Rattle.ring.specs.Ring.{mostNodes, listed, listing, place, back, next, targets}
 use Rattle.node.specs.declared.Node.{Node}
 use Rattle.node.specs.Node.{mostSent, reports, H, O, message, silent, sending, alone, withObserver, withWatch, withHeartbeat, withList, turned, relayed, opening, onHeartbeat, onObserver, onReport, onHeartbeatDue, onWatchDue, onMessage}
 use Rattle.ring.proofs.Counts.{length-targets, jumps-count-le}
@@ -16,24 +16,15 @@ use Rattle.node.proofs.Messages.{length-reports, relayed-turned}
 
 -- ---- opening
 
-pub place-le : (order : List ℕ) (i : ℕ) → place order i ≤ length order
-unfolding place
-place-le [] i = omega arith
-place-le (x ∷ xs) i = go (eqb x i) (place-le xs i)
-  where
-    go : (b : Bool) → place xs i ≤ length xs → cond b zero (suc (place xs i)) ≤ suc (length xs)
-    go true h = omega arith
-    go false h = omega arith
-
 module _ (order : List ℕ) (h w me : ℕ) where
   pub opening-alone : length order ≤ 1 → opening order h w me ≡ alone me 0
   unfolding opening
   opening-alone l = rw (le-ltb 1 (length order) l)
 
-  pub opening-joined : 1 < length order → (p e o : ℕ) → p ≡ place order me → e ≡ back order 0 p → o ≡ ahead order 0 (p + 1) 0
+  pub opening-joined : 1 < length order → (p e o : ℕ) → p ≡ place order me → e ≡ back order 0 p → o ≡ next order 0 p
       → opening order h w me ≡ record { emitter = e; observer = o; watch = w + 1; heartbeat = h + 1; list = 0 }
-  unfolding opening next ahead
-  opening-joined l p e o pq eq oq = rw (lt-ltb 1 (length order) l, eq, oq, pq, add-one (place order me), add-one w, add-one h)
+  unfolding opening
+  opening-joined l p e o pq eq oq = rw (lt-ltb 1 (length order) l, eq, oq, pq, add-one w, add-one h)
 
 -- ---- messages
 

@@ -132,7 +132,7 @@ pub fn opened(order: &[u8], h: u32, w: u32, me: u8) -> Node
     }
     let p = ring::place_of(order, me);
     let emitter = ring::find_back(order, 0, p);
-    let observer = ring::find_ahead(order, 0, p + 1, 0);
+    let observer = ring::find_next(order, 0, p);
     Node {
         emitter,
         observer,

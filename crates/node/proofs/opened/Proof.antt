@@ -1,7 +1,6 @@
 -- `node::opened` meets its contract. Assumes nothing.
 use mathlib.Core.Path.{sym, _∙_}
-use Rattle.node.proofs.Rules.{place-le, opening-alone, opening-joined}
-use native.Mathlib.Omega.{arith}
+use Rattle.node.proofs.Rules.{opening-alone, opening-joined}
 use borrow.Author.Needs.{needs}
 use Rattle.node.proofs.opened.Statement.{statement}
 use Rattle.node.proofs.opened.Tie as tie
@@ -18,11 +17,8 @@ place-of-requires c κs = search needs
 find-back-requires : tie.Need-find-back-requires
 find-back-requires c κs = search needs
 
-add-find-ahead : tie.Need-add-find-ahead
-add-find-ahead c = omega (arith, place-le (c .before .before .before .before .args .order .now) (c .before .before .before .before .args .me))
-
-find-ahead-requires : tie.Need-find-ahead-requires
-find-ahead-requires c κs = search needs
+find-next-requires : tie.Need-find-next-requires
+find-next-requires c κs = search needs
 
 add-t10 : tie.Need-add-t10
 add-t10 c = search needs
@@ -31,7 +27,7 @@ add-t11 : tie.Need-add-t11
 add-t11 c = search needs
 
 returns-2 : tie.Need-returns-2
-returns-2 c = sym (opening-joined _ _ _ _ (c .before .before .before .if1 .left) _ _ _ (c .before .before .place-of .ensures) (c .before .find-back .ensures) (c .find-ahead .ensures))
+returns-2 c = sym (opening-joined _ _ _ _ (c .before .before .before .if1 .left) _ _ _ (c .before .before .place-of .ensures) (c .before .find-back .ensures) (c .find-next .ensures))
 
 pub opened-spec : {M : Type 1} → statement M
 opened-spec =
@@ -41,8 +37,7 @@ opened-spec =
     returns
     place-of-requires
     find-back-requires
-    add-find-ahead
-    find-ahead-requires
+    find-next-requires
     add-t10
     add-t11
     returns-2)
