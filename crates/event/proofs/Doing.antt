@@ -1,0 +1,413 @@
+-- Each event, as the code does it: the turn that its node takes fits the store, and what is left is what the definitions say. Assumes
+-- nothing.
+use Prim.Native.Nat.{ℕ, zero, suc, _+_, _-_, _*_, _^_, _≤_, _<_}
+use mathlib.Core.Path.{_≡_, refl, sym, ap, ap₂, subst, _∙_}
+use mathlib.Core.Logic.{_⊎_, inl, inr, _≢_}
+use mathlib.Core.Bool.{Bool, true, false, cond, not, true≢false}
+use mathlib.Core.List.{List, [], _∷_, _++_, List·Memᴰ, List·Memᴰ·not-nil, List·Memᴰ·head, List·Memᴰ·tail}
+use mathlib.Core.Option.{Option, none, some}
+use native.Mathlib.Nat.{pow-le-pow-right}
+use native.Mathlib.Omega.{arith}
+use borrow.Author.Tests.{eq-eqb, ne-eqb}
+use lib.Dec.{eqb, lit<}
+use lib.ListN.{length, getD, take, drop, set, length-append, length-replicate, replicate}
+use Rattle.ring.specs.Ring.{numbers, listed}
+use Rattle.ring.proofs.Rows.{take-numbers, length-numbers}
+use Rattle.node.specs.declared.Node.{Node}
+use Rattle.node.specs.declared.Message.{Message}
+use Rattle.node.specs.declared.Turned.{Turned}
+use Rattle.node.specs.Node.{Turn, R, mostSent, mostTick, silent, places, turned, onMessage, onWatchDue, onHeartbeatDue}
+use Rattle.logline.specs.declared.Line.{Line}
+use Rattle.runfile.specs.Plan.{Plan, mostNodes, mostH, mostW, planTest}
+use Rattle.model.specs.Platform.{mostInFlight, InFlight, State, Event, Entry, crash, message, watch, heartbeat, alive, crashedList, nextEvent, nodeOf, messageAt, taken, without, received, apply, Outcome, did, refused, ended, tried, try, left}
+use Rattle.model.specs.Range.{Known, NodeRange, FlightRange, Plain, Accepted, Sound, rowAt}
+use Rattle.model.specs.Lines.{line, C, W, S, X, otherOf, messageLine, lineOf, lastLine}
+use Rattle.model.proofs.NextEvent.{Chosen}
+use Rattle.model.proofs.SettledNode.{crashed-listed}
+use Rattle.model.proofs.RulesInRange.{Sendable, Standing, Took, watch-took, beat-took}
+use Rattle.model.proofs.RangesKept.{at-mem, standing, received-took, not-early}
+use Rattle.store.specs.declared.Flight.{Flight}
+use Rattle.store.specs.Store.{Fits, Held, encode, planIn, stateIn, flying, withTick, crashed, withoutMessage}
+use Rattle.store.proofs.Store.{plan-encode, state-encode, held-encode}
+use Rattle.store.proofs.States.{tick-fits, take-fits}
+use Rattle.event.specs.declared.Happened.{Happened}
+use Rattle.event.specs.declared.Happened.the-variants.{Did, Ended, Refused}
+use Rattle.event.specs.declared.Next.{Next}
+use Rattle.event.specs.declared.Next.the-variants.{Crash, Message as Delivery, Watch, Heartbeat, Nothing}
+use Rattle.event.specs.Event.{SmallNode, SmallMessage, Turns, entry, nextAt, nextOf, happened, turnOf, flown}
+use Rattle.event.specs.Ready.{Ready}
+use Rattle.event.proofs.Fitting.{ranges}
+use Rattle.event.proofs.Readiness.{mostReached, ready-accepted, ready-sound, ready-next}
+use Rattle.event.proofs.Searching.{dead-of, live-of}
+use Rattle.event.proofs.Turning.{node-taken, chosen-of, try-did, turn-refused, turn-did, refused-answer, did-answer, watch-few, received-few, beat-few}
+
+-- ---- the ring in number order
+
+module _ (all : List ℕ) (n : ℕ) (e : all ≡ numbers 0 mostNodes) (h : n ≤ mostNodes) where
+  pub ring-order : take n all ≡ numbers 0 n
+  ring-order = ap (take n) e ∙ take-numbers n mostNodes 0 h
+
+  pub ring-size : n ≡ length (take n all)
+  ring-size = sym (ap length ring-order ∙ length-numbers n 0)
+
+-- ---- a turn whose numbers fit
+
+small-node : (p : Plan) → planTest p ≡ true → (t : ℕ) → t ≤ mostTick → (a : Node) → NodeRange (p .n) (p .h) (p .w) t a → SmallNode a
+small-node p good t tick a r =
+    let l = ranges p good in
+    record {
+      emitter = omega (arith, r .emitter, l .n-high);
+      observer = omega (arith, r .observer, l .n-high);
+      watch = omega (arith, r .watch, l .w-high);
+      heartbeat = omega (arith, r .heartbeat, l .h-high);
+      list = omega (arith, r .list, pow-le-pow-right {n = 2} (lit< tt) (l .n-high));
+    }
+
+small-kind : (k : ℕ) → Known k → k < 256
+small-kind k (inl e) = omega arith
+small-kind k (inr (inl e)) = omega arith
+small-kind k (inr (inr e)) = omega arith
+
+getD-in : (ms ys : List Message) (z : Message) (j : ℕ) → j < length ms → List·Memᴰ (getD (ms ++ ys) j z) ms
+getD-in [] ys z j h = absurd (omega arith)
+getD-in (m ∷ ms) ys z zero h = List·Memᴰ·head refl
+getD-in (m ∷ ms) ys z (suc j) h = List·Memᴰ·tail (getD-in ms ys z j (omega arith))
+
+length-places : (ms : List Message) → length ms ≤ mostSent → length (places ms) ≡ mostSent
+unfolding places
+length-places ms h = rw (length-append, length-replicate) (omega arith)
+
+-- a turn of the rules, of which the code has u
+turns-of : (b : List ℕ) (t x : ℕ) (u : Turned) (v : Turn) → u ≡ turned v → Held b → planTest (planIn b) ≡ true → t ≤ mostTick → x < planIn b .n → length (v .sends) ≤ mostSent
+    → length (stateIn b .flight) + u .count ≤ mostInFlight → stateIn b .next ≤ mostReached → SmallNode (v .node) → ((m : Message) → List·Memᴰ m (v .sends) → SmallMessage m) → Turns b t x u
+unfolding turned places
+turns-of b t x u v is held plan tick place few room next node small =
+    let k : u .count ≡ length (v .sends) = ap (λ (w : Turned). w .count) is in
+    record {
+      held = held;
+      plan = plan;
+      tick = tick;
+      place = place;
+      full = ap (λ (w : Turned). length (w .sent)) is ∙ length-places (v .sends) few;
+      few = omega arith;
+      room = room;
+      number = omega (arith, next);
+      node = rw is node;
+      sends = λ z j h. rw is (small _ (getD-in (v .sends) _ z j (omega (arith, h))));
+    }
+
+module _ (b : List ℕ) (r : Ready b) (t : ℕ) (ev : Event) (next : nextEvent (planIn b) (stateIn b) ≡ some (entry t ev)) where
+  abbrev p : Plan
+  p = planIn b
+
+  abbrev s : State
+  s = stateIn b
+
+  abbrev pl : Plain (planIn b)
+  pl = ready-accepted b r .plain
+
+  abbrev so : Sound (planIn b) (stateIn b)
+  so = ready-sound b r
+
+  at-end : t ≤ planIn b .end
+  at-end = (chosen-of (planIn b) (stateIn b) t ev next pl) .0
+
+  chosen : Chosen (planIn b) pl (stateIn b) t ev
+  chosen = (chosen-of (planIn b) (stateIn b) t ev next pl) .1
+
+  pub event-tick : t ≤ mostTick
+  event-tick = omega (arith, at-end, pl .end≤)
+
+  not-past : stateIn b .last ≤ t
+  not-past = not-early (planIn b) pl (stateIn b) so t ev chosen
+
+  pub ring-few : length (planIn b .order) ≤ mostNodes
+  ring-few = rw (pl .order .size) (pl .n≤)
+
+  took-node : (x : ℕ) (v : Turn) → Took (planIn b .n) (planIn b .order) (pl .order) (planIn b .h) (planIn b .w) t x v → SmallNode (v .node)
+  took-node x v k = small-node (planIn b) (r .plan) t event-tick (v .node) (k .node .fields)
+
+  took-message : (x : ℕ) (v : Turn) → Took (planIn b .n) (planIn b .order) (pl .order) (planIn b .h) (planIn b .w) t x v → (m : Message) → List·Memᴰ m (v .sends) → SmallMessage m
+  took-message x v k m h =
+      let q : Sendable (planIn b .n) (planIn b .order) (pl .order) x m = k .sends m h in
+      record { kind = small-kind (m .kind) (q .kind); to = omega (arith, q .to, pl .n≤); subject = omega (arith, q .subject, pl .n≤) }
+
+-- ---- a watch
+
+module _ (b : List ℕ) (r : Ready b) (t x : ℕ) (next : nextEvent (planIn b) (stateIn b) ≡ some (entry t (watch x))) where
+  pub watch-place : x < planIn b .n
+  unfolding Chosen
+  watch-place = rw (ready-sound b r .nodes) at (chosen b r t (watch x) next .0)
+
+  watch-taken : Took (planIn b .n) (planIn b .order) (pl b r t (watch x) next .order) (planIn b .h) (planIn b .w) t x (onWatchDue (planIn b .order) (planIn b .w) t x (nodeOf (stateIn b) x))
+  unfolding Chosen
+  watch-taken =
+      let ch = chosen b r t (watch x) next in
+      let q = ready-accepted b r .plain in
+      let st : Standing (planIn b .n) (planIn b .order) (q .order) (planIn b .h) (planIn b .w) t x (nodeOf (stateIn b) x) = standing (planIn b) q (stateIn b) (ready-sound b r) t (not-past b r t (watch x) next) (at-end b r t (watch x) next) x watch-place (ch .1) (suc t) (suc t) (ch .3) in
+      watch-took (planIn b .n) (planIn b .order) (q .order) (planIn b .h) (planIn b .w) t x watch-place (nodeOf (stateIn b) x) st (q .n≤) (st .apart .observes (λ z. on (nodeOf (stateIn b) x .watch) z (ch .2)))
+    where
+      on : (v : ℕ) → v ≡ 0 → v ≡ suc t → ⊥
+      on v a e = omega arith
+
+  module _ (u : Turned) (is : u ≡ turned (onWatchDue (planIn b .order) (planIn b .w) t x (nodeOf (stateIn b) x))) where
+    pub watch-count : u .count ≤ mostSent
+    unfolding turned
+    watch-count = rw is (watch-few (planIn b .order) (ring-few b r t (watch x) next) (planIn b .w) t x (nodeOf (stateIn b) x))
+
+    pub watch-turns : length (stateIn b .flight) + u .count ≤ mostInFlight → Turns b t x u
+    watch-turns h = turns-of b t x u _ is (r .held) (r .plan) (event-tick b r t (watch x) next) watch-place (watch-few (planIn b .order) (ring-few b r t (watch x) next) (planIn b .w) t x (nodeOf (stateIn b) x)) h (ready-next b r) (took-node b r t (watch x) next x _ watch-taken) (took-message b r t (watch x) next x _ watch-taken)
+
+    watch-by : apply (planIn b) (stateIn b) t (watch x) ≡ taken (planIn b) (stateIn b) t x (stateIn b .flight) (onWatchDue (planIn b .order) (planIn b .w) t x (nodeOf (stateIn b) x))
+    unfolding apply
+    watch-by = refl
+
+    pub watch-refused : mostInFlight < length (stateIn b .flight) + u .count → (_≡_ {A = Happened} Refused (happened (planIn b) (stateIn b) (try (planIn b) (stateIn b)))) × (b ≡ encode (planIn b) (left (stateIn b) (try (planIn b) (stateIn b))))
+    watch-refused h = refused-answer (planIn b) (stateIn b) b (r .held .canonical) (turn-refused (planIn b) (stateIn b) t (watch x) next x (stateIn b .flight) u _ is watch-by h)
+
+    pub watch-done : (b' : List ℕ) (a : Node) → a ≡ nodeOf (stateIn b) x → length (stateIn b .flight) + u .count ≤ mostInFlight → b' ≡ encode (planIn b) (taken (planIn b) (stateIn b) t x (stateIn b .flight) (turnOf u))
+        → (Did (line W t x (a .emitter) (u .node .list)) ≡ happened (planIn b) (stateIn b) (try (planIn b) (stateIn b))) × (b' ≡ encode (planIn b) (left (stateIn b) (try (planIn b) (stateIn b))))
+    unfolding lineOf turnOf
+    watch-done b' a ae h e = did-answer (planIn b) (stateIn b) b' _ _ _ (turn-did (planIn b) (stateIn b) t (watch x) next x (stateIn b .flight) u _ is watch-by h) e
+        (ap₂ (λ (n m : Node). line W t x (n .emitter) (m .list)) ae (sym (node-taken (planIn b) t x (stateIn b) (stateIn b .flight) (turnOf u) (rw (ready-sound b r .nodes) watch-place))))
+
+-- ---- a heartbeat
+
+module _ (b : List ℕ) (r : Ready b) (t x : ℕ) (next : nextEvent (planIn b) (stateIn b) ≡ some (entry t (heartbeat x))) where
+  pub beat-place : x < planIn b .n
+  unfolding Chosen
+  beat-place = rw (ready-sound b r .nodes) at (chosen b r t (heartbeat x) next .0)
+
+  beat-taken : Took (planIn b .n) (planIn b .order) (pl b r t (heartbeat x) next .order) (planIn b .h) (planIn b .w) t x (onHeartbeatDue (planIn b .h) t (nodeOf (stateIn b) x))
+  unfolding Chosen
+  beat-taken =
+      let ch = chosen b r t (heartbeat x) next in
+      let q = ready-accepted b r .plain in
+      let st : Standing (planIn b .n) (planIn b .order) (q .order) (planIn b .h) (planIn b .w) t x (nodeOf (stateIn b) x) = standing (planIn b) q (stateIn b) (ready-sound b r) t (not-past b r t (heartbeat x) next) (at-end b r t (heartbeat x) next) x beat-place (ch .1) (suc t) (suc t) (ch .3) in
+      beat-took (planIn b .n) (planIn b .order) (q .order) (planIn b .h) (planIn b .w) t x beat-place (nodeOf (stateIn b) x) st (q .n≤) (λ z. on (nodeOf (stateIn b) x .heartbeat) z (ch .2))
+    where
+      on : (v : ℕ) → v ≡ 0 → v ≡ suc t → ⊥
+      on v a e = omega arith
+
+  module _ (u : Turned) (is : u ≡ turned (onHeartbeatDue (planIn b .h) t (nodeOf (stateIn b) x))) where
+    pub beat-count : u .count ≤ mostSent
+    unfolding turned
+    beat-count = rw is (beat-few (planIn b .h) t (nodeOf (stateIn b) x))
+
+    pub beat-turns : length (stateIn b .flight) + u .count ≤ mostInFlight → Turns b t x u
+    beat-turns h = turns-of b t x u _ is (r .held) (r .plan) (event-tick b r t (heartbeat x) next) beat-place (beat-few (planIn b .h) t (nodeOf (stateIn b) x)) h (ready-next b r) (took-node b r t (heartbeat x) next x _ beat-taken) (took-message b r t (heartbeat x) next x _ beat-taken)
+
+    beat-by : apply (planIn b) (stateIn b) t (heartbeat x) ≡ taken (planIn b) (stateIn b) t x (stateIn b .flight) (onHeartbeatDue (planIn b .h) t (nodeOf (stateIn b) x))
+    unfolding apply
+    beat-by = refl
+
+    pub beat-refused : mostInFlight < length (stateIn b .flight) + u .count → (_≡_ {A = Happened} Refused (happened (planIn b) (stateIn b) (try (planIn b) (stateIn b)))) × (b ≡ encode (planIn b) (left (stateIn b) (try (planIn b) (stateIn b))))
+    beat-refused h = refused-answer (planIn b) (stateIn b) b (r .held .canonical) (turn-refused (planIn b) (stateIn b) t (heartbeat x) next x (stateIn b .flight) u _ is beat-by h)
+
+    pub beat-done : (b' : List ℕ) (a : Node) → a ≡ nodeOf (stateIn b) x → length (stateIn b .flight) + u .count ≤ mostInFlight → b' ≡ encode (planIn b) (taken (planIn b) (stateIn b) t x (stateIn b .flight) (turnOf u))
+        → (Did (line S t x (a .observer) (u .node .list)) ≡ happened (planIn b) (stateIn b) (try (planIn b) (stateIn b))) × (b' ≡ encode (planIn b) (left (stateIn b) (try (planIn b) (stateIn b))))
+    unfolding lineOf turnOf
+    beat-done b' a ae h e = did-answer (planIn b) (stateIn b) b' _ _ _ (turn-did (planIn b) (stateIn b) t (heartbeat x) next x (stateIn b .flight) u _ is beat-by h) e
+        (ap₂ (λ (n m : Node). line S t x (n .observer) (m .list)) ae (sym (node-taken (planIn b) t x (stateIn b) (stateIn b .flight) (turnOf u) (rw (ready-sound b r .nodes) beat-place))))
+
+-- ---- a crash
+
+module _ (b : List ℕ) (r : Ready b) (t k : ℕ) (next : nextEvent (planIn b) (stateIn b) ≡ some (entry t (crash k))) where
+  pub crash-place : k < planIn b .n
+  unfolding Chosen
+  crash-place = let ch = chosen b r t (crash k) next in rw (← ch .2) (ready-accepted b r .plain .node (stateIn b .done) (ch .0))
+
+  ticked : Fits (planIn b) (withTick (stateIn b) t)
+  ticked = tick-fits (planIn b) (stateIn b) (r .held .fits) t (omega (arith, event-tick b r t (crash k) next))
+
+  module _ (c : List ℕ) (e : c ≡ encode (planIn b) (withTick (stateIn b) t)) where
+    pub crash-held : Held c
+    crash-held = rw e (held-encode (planIn b) (withTick (stateIn b) t) ticked)
+
+    pub crash-done : (b' : List ℕ) (a : Node) → a ≡ nodeOf (stateIn b) k → b' ≡ encode (planIn c) (crashed (stateIn c))
+        → (Did (line C t k k (a .list)) ≡ happened (planIn b) (stateIn b) (try (planIn b) (stateIn b))) × (b' ≡ encode (planIn b) (left (stateIn b) (try (planIn b) (stateIn b))))
+    unfolding lineOf apply withTick crashed
+    crash-done b' a ae q = did-answer (planIn b) (stateIn b) b' _ _ _ (try-did (planIn b) (stateIn b) t (crash k) next (ready-sound b r .few))
+        (q ∙ ap₂ (λ (p : Plan) (s : State). encode p (crashed s)) (ap planIn e ∙ plan-encode (planIn b) (withTick (stateIn b) t) ticked) (ap stateIn e ∙ state-encode (planIn b) (withTick (stateIn b) t) ticked))
+        (ap (λ (n : Node). line C t k k (n .list)) ae)
+
+-- ---- a message
+
+-- one message less is in flight
+length-less : (i : ℕ) (ms : List InFlight) → i < length ms → suc (length (without i ms)) ≡ length ms
+unfolding without
+length-less i [] h = absurd (omega arith)
+length-less zero (m ∷ ms) h = refl
+length-less (suc i) (m ∷ ms) h = ap suc (length-less i ms (omega arith))
+
+module _ (b : List ℕ) (r : Ready b) (t i : ℕ) (next : nextEvent (planIn b) (stateIn b) ≡ some (entry t (message i))) where
+  pub message-here : i < length (stateIn b .flight)
+  unfolding Chosen
+  message-here = chosen b r t (message i) next .0
+
+  abbrev M : InFlight
+  M = messageAt (stateIn b) i
+
+  flight-range : FlightRange (planIn b) (stateIn b .last) M
+  flight-range = ready-sound b r .flying M (at-mem (stateIn b .flight) i message-here)
+
+  module _ (f : Flight) (fe : f ≡ flying M) where
+    same-to : f .to ≡ M .to
+    same-to = ap (λ (g : Flight). g .to) fe
+
+    pub message-place : f .to < planIn b .n
+    message-place = rw same-to (flight-range .to)
+
+    pub message-subject : f .subject < mostNodes
+    message-subject = omega (arith, ap (λ (g : Flight). g .subject) fe, flight-range .subject, ready-accepted b r .plain .n≤)
+
+    -- the test of the crashed list
+    module _ (dead : ℕ) (l : Bool) (de : dead ≡ crashedList (planIn b) (stateIn b .done)) (le : l ≡ listed dead (f .to)) where
+      listed-is : listed (crashedList (planIn b) (stateIn b .done)) (M .to) ≡ l
+      listed-is = sym (le ∙ ap₂ listed de same-to)
+
+      pub message-dropped : l ≡ true → (a : Node) → a ≡ nodeOf (stateIn b) (f .to) → turned (silent a) ≡ turned (received (planIn b) (stateIn b) t M)
+      unfolding received
+      message-dropped h a ae = ap turned (ap silent (ae ∙ ap (nodeOf (stateIn b)) same-to) ∙ sym (ap (λ (c : Bool). cond c (onMessage (planIn b .order) (planIn b .w) t (M .to) (M .kind) (M .from) (M .subject) (nodeOf (stateIn b) (M .to))) (silent (nodeOf (stateIn b) (M .to)))) (dead-of (planIn b) (ready-accepted b r) (stateIn b .done) (M .to) (listed-is ∙ h))))
+
+      pub message-delivered : l ≡ false → (a : Node) → a ≡ nodeOf (stateIn b) (f .to) → (order : List ℕ) → order ≡ planIn b .order → (w : ℕ) → w ≡ planIn b .w
+          → turned (onMessage order w t (f .to) (f .kind) (f .from) (f .subject) a) ≡ turned (received (planIn b) (stateIn b) t M)
+      unfolding received
+      message-delivered h a ae order oe w we =
+          ap turned (ap₂ (λ (o : List ℕ) (v : ℕ). onMessage o v t (f .to) (f .kind) (f .from) (f .subject) a) oe we
+          ∙ ap (onMessage (planIn b .order) (planIn b .w) t (f .to) (f .kind) (f .from) (f .subject)) ae
+          ∙ ap (λ (g : Flight). onMessage (planIn b .order) (planIn b .w) t (g .to) (g .kind) (g .from) (g .subject) (nodeOf (stateIn b) (g .to))) fe
+          ∙ sym (ap (λ (c : Bool). cond c (onMessage (planIn b .order) (planIn b .w) t (M .to) (M .kind) (M .from) (M .subject) (nodeOf (stateIn b) (M .to))) (silent (nodeOf (stateIn b) (M .to)))) (live-of (planIn b) (ready-accepted b r) (stateIn b .done) (M .to) (listed-is ∙ h))))
+
+      not-dropped : not l ≡ alive (planIn b) (stateIn b .done) (M .to)
+      not-dropped = go l (alive (planIn b) (stateIn b .done) (M .to)) (sym listed-is ∙ crashed-listed (planIn b) (ready-accepted b r) (stateIn b .done) (M .to))
+        where
+          go : (x y : Bool) → x ≡ not y → not x ≡ y
+          go x true e = rw e
+          go x false e = rw e
+
+    -- the turn
+    received-small : SmallNode ((received (planIn b) (stateIn b) t M) .node) × ((m : Message) → List·Memᴰ m ((received (planIn b) (stateIn b) t M) .sends) → SmallMessage m)
+    unfolding received Chosen
+    received-small = go (alive (planIn b) (stateIn b .done) (M .to)) refl
+      where
+        q : Plain (planIn b)
+        q = ready-accepted b r .plain
+
+        go : (c : Bool) → alive (planIn b) (stateIn b .done) (M .to) ≡ c
+            → SmallNode ((cond c (onMessage (planIn b .order) (planIn b .w) t (M .to) (M .kind) (M .from) (M .subject) (nodeOf (stateIn b) (M .to))) (silent (nodeOf (stateIn b) (M .to)))) .node)
+            × ((m : Message) → List·Memᴰ m ((cond c (onMessage (planIn b .order) (planIn b .w) t (M .to) (M .kind) (M .from) (M .subject) (nodeOf (stateIn b) (M .to))) (silent (nodeOf (stateIn b) (M .to)))) .sends) → SmallMessage m)
+        go true e =
+            let k : Took (planIn b .n) (planIn b .order) (ready-accepted b r .plain .order) (planIn b .h) (planIn b .w) t (M .to) (onMessage (planIn b .order) (planIn b .w) t (M .to) (M .kind) (M .from) (M .subject) (nodeOf (stateIn b) (M .to))) =
+            received-took (planIn b) (ready-accepted b r .plain) (stateIn b) (ready-sound b r) t (not-past b r t (message i) next) (at-end b r t (message i) next) M (at-mem (stateIn b .flight) i message-here) e (suc t) t (chosen b r t (message i) next .2) in
+            (took-node b r t (message i) next (M .to) _ k, took-message b r t (message i) next (M .to) _ k)
+        go false e = (
+          small-node (planIn b) (r .plan) (stateIn b .last) (omega (arith, not-past b r t (message i) next, event-tick b r t (message i) next)) (nodeOf (stateIn b) (M .to)) (ready-sound b r .fields (M .to) (flight-range .to)),
+          λ m h. absurd (List·Memᴰ·not-nil h),
+        )
+
+    module _ (u : Turned) (is : u ≡ turned (received (planIn b) (stateIn b) t M)) where
+      few : length ((received (planIn b) (stateIn b) t M) .sends) ≤ mostSent
+      few = received-few (planIn b) (ring-few b r t (message i) next) (stateIn b) t M
+
+      pub message-count : u .count ≤ mostSent
+      unfolding turned
+      message-count = rw is few
+
+      message-by : apply (planIn b) (stateIn b) t (message i) ≡ taken (planIn b) (stateIn b) t (M .to) (without i (stateIn b .flight)) (received (planIn b) (stateIn b) t M)
+      unfolding apply
+      message-by = refl
+
+      pub message-refused : mostInFlight < length (stateIn b .flight) - 1 + u .count → (_≡_ {A = Happened} Refused (happened (planIn b) (stateIn b) (try (planIn b) (stateIn b)))) × (b ≡ encode (planIn b) (left (stateIn b) (try (planIn b) (stateIn b))))
+      message-refused h = refused-answer (planIn b) (stateIn b) b (r .held .canonical) (turn-refused (planIn b) (stateIn b) t (message i) next (M .to) (without i (stateIn b .flight)) u _ is message-by (omega (arith, h, length-less i (stateIn b .flight) message-here)))
+
+      module _ (room : length (stateIn b .flight) - 1 + u .count ≤ mostInFlight) (c : List ℕ) (e : c ≡ encode (planIn b) (withoutMessage (stateIn b) i)) where
+        rest-fits : Fits (planIn b) (withoutMessage (stateIn b) i)
+        rest-fits = take-fits (planIn b) (stateIn b) (r .held .fits) i message-here
+
+        rest-plan : planIn c ≡ planIn b
+        rest-plan = ap planIn e ∙ plan-encode (planIn b) (withoutMessage (stateIn b) i) rest-fits
+
+        rest-state : stateIn c ≡ withoutMessage (stateIn b) i
+        rest-state = ap stateIn e ∙ state-encode (planIn b) (withoutMessage (stateIn b) i) rest-fits
+
+        rest-room : length (without i (stateIn b .flight)) + u .count ≤ mostInFlight
+        rest-room = omega (arith, room, length-less i (stateIn b .flight) message-here)
+
+        pub message-turns : Turns c t (f .to) u
+        unfolding withoutMessage
+        message-turns = turns-of c t (f .to) u _ is (rw e (held-encode (planIn b) (withoutMessage (stateIn b) i) rest-fits)) (ap planTest rest-plan ∙ r .plan) (event-tick b r t (message i) next) (rw rest-plan message-place) few (rw rest-state rest-room) (rw rest-state (ready-next b r)) (received-small .0) (received-small .1)
+
+        pub message-done : (b' : List ℕ) → b' ≡ encode (planIn c) (taken (planIn c) (stateIn c) t (f .to) (stateIn c .flight) (turnOf u)) → (dead : ℕ) (l : Bool) → dead ≡ crashedList (planIn b) (stateIn b .done) → l ≡ listed dead (f .to)
+            → (x : Line) → x ≡ messageLine t (flown f) (not l) (u .node .list)
+            → (Did x ≡ happened (planIn b) (stateIn b) (try (planIn b) (stateIn b))) × (b' ≡ encode (planIn b) (left (stateIn b) (try (planIn b) (stateIn b))))
+        unfolding lineOf turnOf taken withoutMessage
+        message-done b' q dead l de le x xe = did-answer (planIn b) (stateIn b) b' _ _ _ (turn-did (planIn b) (stateIn b) t (message i) next (M .to) (without i (stateIn b .flight)) u _ is message-by rest-room)
+            (q ∙ ap₂ (λ (p : Plan) (s : State). encode p (taken p s t (f .to) (s .flight) (turnOf u))) rest-plan rest-state ∙ ap (λ (k : ℕ). encode (planIn b) (taken (planIn b) (stateIn b) t k (without i (stateIn b .flight)) (turnOf u))) same-to)
+            (xe
+            ∙ ap₂ (λ (g : InFlight) (y : Bool). messageLine t g y (u .node .list)) (ap flown fe) (not-dropped dead l de le)
+            ∙ ap (λ (n : Node). messageLine t M (alive (planIn b) (stateIn b .done) (M .to)) (n .list)) (sym (node-taken (planIn b) t (M .to) (stateIn b) (without i (stateIn b .flight)) (turnOf u) (rw (ready-sound b r .nodes) (flight-range .to)))))
+
+-- ---- a message's line
+
+module _ (t : ℕ) (m : Flight) (dropped : Bool) (d : ℕ) where
+  pub line-dropped : dropped ≡ true → line X t (m .to) (m .from) d ≡ messageLine t (flown m) (not dropped) d
+  unfolding messageLine
+  line-dropped e = rw e
+
+  pub line-report : dropped ≡ false → m .kind ≡ R → line R t (m .to) (m .subject) d ≡ messageLine t (flown m) (not dropped) d
+  unfolding messageLine otherOf
+  line-report e h = rw (e, h)
+
+  pub line-other : dropped ≡ false → m .kind ≢ R → line (m .kind) t (m .to) (m .from) d ≡ messageLine t (flown m) (not dropped) d
+  unfolding messageLine otherOf
+  line-other e h = rw (e, ne-eqb (m .kind) R h)
+
+-- ---- the event that the search answers
+
+unfoldable Is : Option Entry → Next → Type 0
+Is o (Crash t k) = o ≡ some (entry t (crash k))
+Is o (Delivery t i) = o ≡ some (entry t (message i))
+Is o (Watch t x) = o ≡ some (entry t (watch x))
+Is o (Heartbeat t x) = o ≡ some (entry t (heartbeat x))
+Is o Nothing = o ≡ none
+
+is-next : (o : Option Entry) → Is o (nextOf o)
+unfolding Is nextOf nextAt
+is-next none = refl
+is-next (some e) = go (e .tick) (e .event)
+  where
+    go : (t : ℕ) (ev : Event) → Is (some (entry t ev)) (nextAt t ev)
+    go t (crash k) = refl
+    go t (message i) = refl
+    go t (watch x) = refl
+    go t (heartbeat x) = refl
+
+module _ (o : Option Entry) (n : Next) (e : n ≡ nextOf o) where
+  told : (m : Next) → n ≡ m → Is o m
+  told m q = subst (Is o) (sym e ∙ q) (is-next o)
+
+  pub next-crash : (t k : ℕ) → n ≡ Crash t k → o ≡ some (entry t (crash k))
+  unfolding Is
+  next-crash t k q = told (Crash t k) q
+
+  pub next-message : (t i : ℕ) → n ≡ Delivery t i → o ≡ some (entry t (message i))
+  unfolding Is
+  next-message t i q = told (Delivery t i) q
+
+  pub next-watch : (t x : ℕ) → n ≡ Watch t x → o ≡ some (entry t (watch x))
+  unfolding Is
+  next-watch t x q = told (Watch t x) q
+
+  pub next-heartbeat : (t x : ℕ) → n ≡ Heartbeat t x → o ≡ some (entry t (heartbeat x))
+  unfolding Is
+  next-heartbeat t x q = told (Heartbeat t x) q
+
+  pub next-nothing : n ≡ Nothing → o ≡ none
+  unfolding Is
+  next-nothing q = told Nothing q
+
+-- none is left
+pub ended-answer : (p : Plan) (s : State) (b : List ℕ) → b ≡ encode p s → nextEvent p s ≡ none → (l : Line) → l ≡ lastLine p s → (Ended l ≡ happened p s (try p s)) × (b ≡ encode p (left s (try p s)))
+unfolding happened left try tried
+ended-answer p s b e h l q = rw h (ap Ended q, e)

@@ -1,0 +1,5 @@
+pub mod Fitting
+pub mod Readiness
+pub mod Searching
+pub mod Turning
+pub mod Doing

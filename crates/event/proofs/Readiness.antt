@@ -1,0 +1,112 @@
+-- Which stores are ready for an event, what that gives, and that an event leaves a store ready. Assumes nothing.
+use Prim.Native.Nat.{ℕ, zero, suc, _+_, _*_, _^_, _≤_, _<_}
+use mathlib.Core.Path.{_≡_, refl, sym, ap, _∙_}
+use mathlib.Core.Bool.{Bool, true, _&&_}
+use mathlib.Core.List.{List}
+use native.Mathlib.Omega.{arith}
+use borrow.Author.Tests.{eqb-true}
+use lib.Dec.{eqb}
+use lib.ListN.{length, getD}
+use Rattle.ring.specs.Ring.{numbers}
+use Rattle.runfile.specs.Plan.{Plan, mostNodes, mostEnd, planTest}
+use Rattle.runfile.proofs.Grown.{Ranges}
+use Rattle.model.specs.Platform.{State, start, try, left, steps, after}
+use Rattle.model.specs.Range.{mostNext, Plain, Accepted, Sound, InRange, storeTest}
+use Rattle.model.proofs.Bools.{and-split}
+use Rattle.model.proofs.Plans.{accepted, number-order}
+use Rattle.model.proofs.Tests.{test-store}
+use Rattle.model.proofs.RangesKept.{start-range, steps-range}
+use Rattle.model.proofs.NextNumber.{perTick, next-bound}
+use Rattle.model.proofs.Calls.{steps-add}
+use Rattle.store.specs.Columns.{roomTest, unusedTest}
+use Rattle.store.specs.Store.{storeSize, columns, encode, planIn, stateIn, Sized, Fits, Held, storeInRange}
+use Rattle.store.proofs.Store.{plan-encode, state-encode, held-encode, held-read}
+use Rattle.event.specs.Ready.{Ready}
+use Rattle.event.proofs.Fitting.{ranges, sound-fits}
+
+-- what a store's readers ask for
+pub held-sized : (b : List ℕ) → Held b → Sized b
+held-sized b h = record { size = h .size; counts = h .fits .counts }
+
+-- ---- what a ready store has
+
+-- the most that the next number of a ready store is
+abbrev pub mostReached : ℕ
+mostReached = mostNext + perTick * (mostEnd + 1)
+
+module _ (b : List ℕ) (r : Ready b) where
+  pub ready-accepted : Accepted (planIn b)
+  ready-accepted = accepted (planIn b) (r .held .fits .order) (r .plan)
+
+  pub ready-sound : Sound (planIn b) (stateIn b)
+  ready-sound = rw (r .is) (steps-range (planIn b) (ready-accepted .plain) (r .tries) (r .from) (r .inRange .sound))
+
+  pub ready-next : stateIn b .next ≤ mostReached
+  ready-next = rw (r .is) (bound (next-bound (planIn b) (ready-accepted .plain) mostNext (r .from) (r .inRange .sound) (r .inRange .cap) (r .tries)) (ready-accepted .plain .end≤))
+    where
+      bound : {a c : ℕ} → a ≤ mostNext + perTick * (c + 1) → c ≤ mostEnd → a ≤ mostReached
+      bound h e = omega arith
+
+-- ---- which stores are ready
+
+module _ (p : Plan) (order : p .order ≡ numbers 0 (p .n)) (good : planTest p ≡ true) (s : State) (r : InRange p s) where
+  abbrev plain : Plain p
+  plain = accepted p order good .plain
+
+  -- what k tries leave of a state in range fits the store
+  pub steps-fit : (k : ℕ) → Fits p (steps p k s)
+  steps-fit k =
+      sound-fits p good (steps p k s) (steps-range p plain k s (r .sound))
+      (room (next-bound p plain mostNext s (r .sound) (r .cap) k) (plain .end≤)) order
+    where
+      room : {a c : ℕ} → a ≤ mostNext + perTick * (c + 1) → c ≤ mostEnd → a < 256 ^ 8
+      room h e = omega arith
+
+  -- and is ready
+  pub steps-ready : (k : ℕ) → Ready (encode p (steps p k s))
+  steps-ready k =
+      let f : Fits p (steps p k s) = steps-fit k in
+      let pe : planIn (encode p (steps p k s)) ≡ p = plan-encode p (steps p k s) f in
+      let se : stateIn (encode p (steps p k s)) ≡ steps p k s = state-encode p (steps p k s) f in
+      record { held = held-encode p (steps p k s) f; plan = rw pe good; from = s; inRange = rw pe r; tries = k; is = rw (pe, se) }
+
+-- a store just opened
+pub opened-ready : (p : Plan) → p .order ≡ numbers 0 (p .n) → planTest p ≡ true → Ready (encode p (start p))
+unfolding steps start
+opened-ready p order good = steps-ready p order good (start p) (record { sound = start-range p (accepted p order good .plain); cap = omega arith }) 0
+
+-- a store that passes number 7
+pub tested-ready : (b : List ℕ) → ((i : ℕ) → getD b i 0 < 256) → storeInRange b ≡ true → Ready b
+unfolding storeInRange storeTest steps
+tested-ready b byte h =
+    let l = and-split (eqb (length b) storeSize) _ h in
+    let c = and-split (roomTest (columns (planIn b) (stateIn b))) _ (l .1) in
+    let t = and-split (storeTest (planIn b) (stateIn b)) (unusedTest b (columns (planIn b) (stateIn b))) (c .1) in
+    let v : Held b = held-read b byte (eqb-true (length b) storeSize (l .0)) (c .0) (t .1) in
+    record {
+      held = v;
+      plan = (and-split (planTest (planIn b)) _ (t .0)) .0;
+      from = stateIn b;
+      inRange = (test-store (planIn b) (stateIn b) (number-order (planIn b) (v .fits .order)) (t .0)) .1;
+      tries = 0;
+      is = refl;
+    }
+
+-- what an event leaves
+pub left-ready : (b b' : List ℕ) → Ready b → b' ≡ encode (planIn b) (left (stateIn b) (try (planIn b) (stateIn b))) → Ready b'
+unfolding steps
+left-ready b b' r e = rw (e, next) (steps-ready (planIn b) (r .held .fits .order) (r .plan) (r .from) (r .inRange) (r .tries + 1))
+  where
+    next : left (stateIn b) (try (planIn b) (stateIn b)) ≡ steps (planIn b) (r .tries + 1) (r .from)
+    next = ap (λ (s : State). left s (try (planIn b) s)) (r .is) ∙ sym (steps-add (planIn b) (r .tries) 1 (r .from))
+
+-- and what it leaves holds the same plan and the state after it
+pub left-holds : (b b' : List ℕ) → Ready b → b' ≡ encode (planIn b) (left (stateIn b) (try (planIn b) (stateIn b))) → (planIn b' ≡ planIn b) × (stateIn b' ≡ left (stateIn b) (try (planIn b) (stateIn b)))
+unfolding steps
+left-holds b b' r e = rw e (plan-encode (planIn b) _ fits, state-encode (planIn b) _ fits)
+  where
+    next : left (stateIn b) (try (planIn b) (stateIn b)) ≡ steps (planIn b) (r .tries + 1) (r .from)
+    next = ap (λ (s : State). left s (try (planIn b) s)) (r .is) ∙ sym (steps-add (planIn b) (r .tries) 1 (r .from))
+
+    fits : Fits (planIn b) (left (stateIn b) (try (planIn b) (stateIn b)))
+    fits = rw next (steps-fit (planIn b) (r .held .fits .order) (r .plan) (r .from) (r .inRange) (r .tries + 1))

@@ -1,0 +1,298 @@
+-- What a turn of a node writes, and what each event leaves. Assumes nothing.
+use Prim.Native.Nat.{ℕ, zero, suc, _+_, _-_, _*_, _^_, _≤_, _<_}
+use mathlib.Core.Path.{_≡_, refl, sym, ap, ap₂, _∙_}
+use mathlib.Core.Logic.{_⊎_, inl, inr, _≢_}
+use mathlib.Core.Bool.{Bool, true, false, cond, not, _||_}
+use mathlib.Core.List.{List, [], _∷_, _++_, append-nil, append-assoc}
+use mathlib.Core.Option.{Option, none, some}
+use native.Mathlib.Nat.{add-zero}
+use native.Mathlib.Numerals.{add-one}
+use native.Mathlib.Omega.{arith}
+use borrow.Author.Tests.{le-leb, lt-leb}
+use lib.Dec.{eqb, leb}
+use lib.ListN.{length, getD, take, drop, set, length-append, length-take, length-map}
+use lib.Seq.{getD-set-same}
+use Rattle.ring.specs.Ring.{listed, listing, place, back, targets}
+use Rattle.ring.proofs.Counts.{targets-few}
+use Rattle.node.specs.declared.Node.{Node}
+use Rattle.node.specs.declared.Message.{Message}
+use Rattle.node.specs.declared.Turned.{Turned}
+use Rattle.node.specs.Node.{Turn, H, O, mostSent, due, silent, alone, reports, places, turned, onHeartbeat, onObserver, onReport, onMessage, onWatchDue, onHeartbeatDue}
+use Rattle.logline.specs.declared.Line.{Line}
+use Rattle.runfile.specs.Plan.{Plan, mostNodes, planTest}
+use Rattle.model.specs.Platform.{mostInFlight, InFlight, State, Event, Entry, crash, message, watch, heartbeat, alive, delayOf, nextEvent, numbered, nodeOf, messageAt, noMessage, taken, without, received, apply, fits, Outcome, did, ended, refused, tried, try, left}
+use Rattle.model.specs.Range.{Plain, Accepted, Sound}
+use Rattle.model.proofs.NextEvent.{Chosen, Best, best}
+use Rattle.model.specs.Lines.{lineOf}
+use Rattle.model.proofs.Plans.{accepted}
+use Rattle.model.proofs.RangesKept.{delay-ok}
+use Rattle.store.specs.Store.{Fits, Held, encode, planIn, stateIn, sent, withTick, withNode}
+use Rattle.store.proofs.Store.{plan-encode, state-encode, held-encode}
+use Rattle.store.proofs.States.{tick-fits, node-fits, send-fits}
+use Rattle.event.specs.declared.Happened.{Happened}
+use Rattle.event.specs.declared.Happened.the-variants.{Did, Refused}
+use Rattle.event.specs.Event.{SmallMessage, Turns, entry, happened, sending, turnOf}
+use Rattle.event.proofs.Fitting.{ranges}
+
+-- ---- messages sent one after another
+
+module _ (p : Plan) (t x : ℕ) where
+  abbrev sentAs : ℕ → Message → InFlight
+  sentAs k m = record { number = k; kind = m .kind; from = x; to = m .to; subject = m .subject; due = t + delayOf p k }
+
+  numbered-more : (ms : List Message) (k i : ℕ) (z : Message) → i < length ms → numbered p t x k (take (suc i) ms) ≡ numbered p t x k (take i ms) ++ (sentAs (k + i) (getD ms i z) ∷ [])
+  unfolding numbered
+  numbered-more [] k i z h = absurd (omega arith)
+  numbered-more (m ∷ ms) k zero z h = rw add-zero
+  numbered-more (m ∷ ms) k (suc i) z h = let e : suc k + i ≡ k + suc i = omega arith in ap (λ (l : List InFlight). sentAs k m ∷ l) (rw e at (numbered-more ms (suc k) i z (omega arith)))
+
+  pub length-numbered : (ms : List Message) (k : ℕ) → length (numbered p t x k ms) ≡ length ms
+  unfolding numbered
+  length-numbered [] k = refl
+  length-numbered (m ∷ ms) k = ap suc (length-numbered ms (suc k))
+
+  pub sending-none : (s : State) (ms : List Message) → sending p s t x (take 0 ms) ≡ s
+  unfolding sending numbered
+  sending-none s ms = rw (append-nil, add-zero)
+
+  pub sending-more : (s : State) (ms : List Message) (i : ℕ) (z : Message) → i < length ms
+      → sending p s t x (take (i + 1) ms) ≡ sent (sending p s t x (take i ms)) ((getD ms i z) .kind) x ((getD ms i z) .to) ((getD ms i z) .subject) (t + delayOf p (sending p s t x (take i ms) .next))
+  unfolding sending sent
+  sending-more s ms i z h =
+      let a : length (take i ms) ≡ i = omega (arith, length-take i ms) in
+      let b : length (take (suc i) ms) ≡ suc i = omega (arith, length-take (suc i) ms) in
+      let e : s .next + suc i ≡ suc (s .next + i) = omega arith in
+      rw (add-one i, a, b, e, numbered-more ms (s .next) i z h, append-assoc)
+
+  -- a turn in three parts: the tick, the node, the messages
+  pub turn-parts : (s : State) (u : Turned) → sending p (withNode (withTick s t) x (u .node)) t x (take (u .count) (u .sent)) ≡ taken p s t x (s .flight) (turnOf u)
+  unfolding sending withNode withTick taken turnOf
+  turn-parts s u = refl
+
+  length-taken : (s : State) (rest : List InFlight) (v : Turn) → length ((taken p s t x rest v) .flight) ≡ length rest + length (v .sends)
+  unfolding taken
+  length-taken s rest v = length-append rest (numbered p t x (s .next) (v .sends)) ∙ ap (λ (k : ℕ). length rest + k) (length-numbered (v .sends) (s .next))
+
+  pub node-taken : (s : State) (rest : List InFlight) (v : Turn) → x < length (s .nodes) → nodeOf (taken p s t x rest v) x ≡ v .node
+  unfolding taken
+  node-taken s rest v h = getD-set-same (s .nodes) x (v .node) (alone x 0) h
+
+-- the code hands over the rule's turn
+take-all : {A : Type 0} (xs ys : List A) → take (length xs) (xs ++ ys) ≡ xs
+take-all [] ys = refl
+take-all (x ∷ xs) ys = ap (λ (l : List _). x ∷ l) (take-all xs ys)
+
+pub turn-back : (v : Turn) → turnOf (turned v) ≡ v
+unfolding turnOf turned places
+turn-back v = ap (λ (ms : List Message). record { node = v .node; sends = ms }) (take-all (v .sends) _)
+
+-- ---- an event that is next
+
+module _ (p : Plan) (s : State) (t : ℕ) (ev : Event) (next : nextEvent p s ≡ some (entry t ev)) where
+  pub chosen-of : (pl : Plain p) → (t ≤ p .end) × Chosen p pl s t ev
+  unfolding Best
+  chosen-of pl = rw next at (best p pl s)
+
+  pub try-did : length ((apply p s t ev) .flight) ≤ mostInFlight → try p s ≡ did (entry t ev) (apply p s t ev)
+  unfolding try tried fits
+  try-did h = rw next (ap (λ (b : Bool). cond b (did (entry t ev) (apply p s t ev)) refused) (le-leb _ mostInFlight h))
+
+  pub try-refused : mostInFlight < length ((apply p s t ev) .flight) → try p s ≡ refused
+  unfolding try tried fits
+  try-refused h = rw next (ap (λ (b : Bool). cond b (did (entry t ev) (apply p s t ev)) refused) (lt-leb _ mostInFlight h))
+
+  -- a turn of node x, of which the code has u
+  module _ (x : ℕ) (rest : List InFlight) (u : Turned) (v : Turn) (is : u ≡ turned v) (by : apply p s t ev ≡ taken p s t x rest v) where
+    size : length ((apply p s t ev) .flight) ≡ length rest + u .count
+    unfolding turned
+    size = ap (λ (w : State). length (w .flight)) by ∙ length-taken p t x s rest v ∙ ap (λ (w : Turned). length rest + w .count) (sym is)
+
+    same-turn : turnOf u ≡ v
+    same-turn = ap turnOf is ∙ turn-back v
+
+    pub turn-refused : mostInFlight < length rest + u .count → try p s ≡ refused
+    turn-refused h = try-refused (rw size h)
+
+    pub turn-did : length rest + u .count ≤ mostInFlight → try p s ≡ did (entry t ev) (taken p s t x rest (turnOf u))
+    turn-did h = try-did (rw size h) ∙ ap (did (entry t ev)) (by ∙ ap (taken p s t x rest) (sym same-turn))
+
+-- ---- answers
+
+pub refused-answer : (p : Plan) (s : State) (b : List ℕ) → b ≡ encode p s → try p s ≡ refused → (_≡_ {A = Happened} Refused (happened p s (try p s))) × (b ≡ encode p (left s (try p s)))
+unfolding happened left
+refused-answer p s b e h = rw h (refl, e)
+
+pub did-answer : (p : Plan) (s : State) (b : List ℕ) (l : Line) (e : Entry) (s' : State) → try p s ≡ did e s' → b ≡ encode p s' → l ≡ lineOf p s s' (e .tick) (e .event) → (Did l ≡ happened p s (try p s)) × (b ≡ encode p (left s (try p s)))
+unfolding happened left
+did-answer p s b l e s' h q k = rw h (ap Did k, q)
+
+-- ---- how many messages a turn sends
+
+module _ (order : List ℕ) (few : length order ≤ mostNodes) where
+  reports-few : (k d x : ℕ) → length (reports k (targets order d x)) ≤ 6
+  unfolding reports
+  reports-few k d x = rw length-map (targets-few order d x few)
+
+  pub watch-few : (w t x : ℕ) (n : Node) → length ((onWatchDue order w t x n) .sends) ≤ mostSent
+  unfolding onWatchDue
+  watch-few w t x n = go (eqb (back order (listing (n .list) (n .emitter)) (place order (n .emitter))) x)
+    where
+      go : (c : Bool) → length ((cond c (silent (alone x (listing (n .list) (n .emitter)))) (record {
+        node = record { emitter = back order (listing (n .list) (n .emitter)) (place order (n .emitter)); observer = n .observer; watch = due (t + 2 * w); heartbeat = n .heartbeat; list = listing (n .list) (n .emitter) };
+        sends = record { kind = O; to = back order (listing (n .list) (n .emitter)) (place order (n .emitter)); subject = 0 } ∷ reports (n .emitter) (targets order (listing (n .list) (n .emitter)) (place order x));
+      })) .sends) ≤ mostSent
+      go true = omega arith
+      go false = omega (arith, reports-few (n .emitter) (listing (n .list) (n .emitter)) (place order x))
+
+  report-few : (x k : ℕ) (n : Node) → length ((onReport order x k n) .sends) ≤ mostSent
+  unfolding onReport
+  report-few x k n = go (listed (n .list) k || eqb k x)
+    where
+      go : (c : Bool) → length ((cond c (silent n) (record {
+        node = record { emitter = n .emitter; observer = n .observer; watch = n .watch; heartbeat = n .heartbeat; list = listing (n .list) k };
+        sends = reports k (targets order (listing (n .list) k) (place order x));
+      })) .sends) ≤ mostSent
+      go true = omega arith
+      go false = omega (arith, reports-few k (listing (n .list) k) (place order x))
+
+  message-few : (w t x kind from subject : ℕ) (n : Node) → length ((onMessage order w t x kind from subject n) .sends) ≤ mostSent
+  unfolding onMessage onHeartbeat onObserver
+  message-few w t x kind from subject n = go (eqb kind H) (eqb kind O)
+    where
+      go : (c d : Bool) → length ((cond c (onHeartbeat w t from n) (cond d (onObserver t from n) (onReport order x subject n))) .sends) ≤ mostSent
+      go true d = omega arith
+      go false true = omega arith
+      go false false = report-few x subject n
+
+pub received-few : (p : Plan) → length (p .order) ≤ mostNodes → (s : State) (t : ℕ) (m : InFlight) → length ((received p s t m) .sends) ≤ mostSent
+unfolding received
+received-few p few s t m = go (alive p (s .done) (m .to))
+  where
+    go : (c : Bool) → length ((cond c (onMessage (p .order) (p .w) t (m .to) (m .kind) (m .from) (m .subject) (nodeOf s (m .to))) (silent (nodeOf s (m .to)))) .sends) ≤ mostSent
+    go true = message-few (p .order) few (p .w) t (m .to) (m .kind) (m .from) (m .subject) (nodeOf s (m .to))
+    go false = omega arith
+
+pub beat-few : (h t : ℕ) (n : Node) → length ((onHeartbeatDue h t n) .sends) ≤ mostSent
+unfolding onHeartbeatDue
+beat-few h t n = omega arith
+
+-- ---- sending, step by step
+
+-- the bytes after the first i messages of ms are sent, from the store b₀
+pub record Sending (b₀ : List ℕ) (t x : ℕ) (ms : List Message) (i : ℕ) (b : List ℕ) : Type 0 where
+  pub is : b ≡ encode (planIn b₀) (sending (planIn b₀) (stateIn b₀) t x (take i ms))
+  pub fits : Fits (planIn b₀) (sending (planIn b₀) (stateIn b₀) t x (take i ms))
+
+module _ (b₀ : List ℕ) (t x : ℕ) (u : Turned) where
+  abbrev At : ℕ → State
+  At i = sending (planIn b₀) (stateIn b₀) t x (take i (u .sent))
+
+  pub sending-starts : Held b₀ → Sending b₀ t x (u .sent) 0 b₀
+  sending-starts h = record { is = rw (sending-none (planIn b₀) t x (stateIn b₀) (u .sent)) (h .canonical); fits = rw (sending-none (planIn b₀) t x (stateIn b₀) (u .sent)) (h .fits) }
+
+  module _ (r : Turns b₀ t x u) (i : ℕ) (b : List ℕ) (h : Sending b₀ t x (u .sent) i b) where
+    pub sending-held : Held b
+    sending-held = rw (h .is) (held-encode (planIn b₀) (At i) (h .fits))
+
+    sending-plan : planIn b ≡ planIn b₀
+    sending-plan = ap planIn (h .is) ∙ plan-encode (planIn b₀) (At i) (h .fits)
+
+    sending-state : stateIn b ≡ At i
+    sending-state = ap stateIn (h .is) ∙ state-encode (planIn b₀) (At i) (h .fits)
+
+    pub sending-test : planTest (planIn b) ≡ true
+    sending-test = ap planTest sending-plan ∙ r .plan
+
+    plain : Plain (planIn b₀)
+    plain = accepted (planIn b₀) (r .held .fits .order) (r .plan) .plain
+
+    pub sending-delay : (number : ℕ) → delayOf (planIn b) number ≤ 255
+    sending-delay number = omega (arith, (delay-ok (planIn b) (rw sending-plan plain) number) .1, ranges (planIn b) sending-test .d-high)
+
+    module _ (less : i < u .count) where
+      counted : length (take i (u .sent)) ≡ i
+      counted = omega (arith, length-take i (u .sent), r .few, r .full)
+
+      pub sending-room : length (stateIn b .flight) < mostInFlight
+      unfolding sending
+      sending-room = rw (sending-state, length-append, length-numbered, counted) (omega (arith, r .room))
+
+      pub sending-number : stateIn b .next + 1 < 256 ^ 8
+      unfolding sending
+      sending-number = rw (sending-state, counted) (omega (arith, r .number))
+
+      pub sending-next : (z m : Message) → m ≡ getD (u .sent) i z → (d : ℕ) → d ≡ delayOf (planIn b) (stateIn b .next) → (b' : List ℕ)
+          → b' ≡ encode (planIn b) (sent (stateIn b) (m .kind) x (m .to) (m .subject) (t + d)) → Sending b₀ t x (u .sent) (i + 1) b'
+      sending-next z m is d de b' e = record { is = e ∙ ap₂ encode sending-plan same; fits = rw (← same) fits' }
+        where
+          same : sent (stateIn b) (m .kind) x (m .to) (m .subject) (t + d) ≡ At (i + 1)
+          same = ap (λ (u : ℕ). sent (stateIn b) (m .kind) x (m .to) (m .subject) (t + u)) de
+              ∙ ap₂ (λ (q : Plan) (s : State). sent s (m .kind) x (m .to) (m .subject) (t + delayOf q (s .next))) sending-plan sending-state
+              ∙ ap (λ (u : Message). sent (At i) (u .kind) x (u .to) (u .subject) (t + delayOf (planIn b₀) (At i .next))) is
+              ∙ sym (sending-more (planIn b₀) t x (stateIn b₀) (u .sent) i z (omega (arith, r .few, r .full)))
+
+          small : SmallMessage m
+          small = rw is (r .sends z i less)
+
+          tick : t + d < 256 ^ 4
+          tick = rw de (omega (arith, r .tick, sending-delay (stateIn b .next)))
+
+          fits' : Fits (planIn b₀) (sent (stateIn b) (m .kind) x (m .to) (m .subject) (t + d))
+          fits' = send-fits (planIn b₀) (stateIn b) (rw sending-state (h .fits)) (m .kind) x (m .to) (m .subject) (t + d) sending-room sending-number (small .kind) (omega (arith, r .place, plain .n≤)) (small .to) (small .subject) tick
+
+-- the whole of it
+pub sending-all : (b₀ : List ℕ) (t x : ℕ) (ms : List Message) (i k : ℕ) (b : List ℕ) → i ≤ k → k ≤ i → Sending b₀ t x ms i b → b ≡ encode (planIn b₀) (sending (planIn b₀) (stateIn b₀) t x (take k ms))
+sending-all b₀ t x ms i k b a c h = let e : i ≡ k = omega arith in h .is ∙ ap (λ (j : ℕ). encode (planIn b₀) (sending (planIn b₀) (stateIn b₀) t x (take j ms))) e
+
+-- ---- a turn's parts on a store
+
+module _ (b : List ℕ) (t x : ℕ) (u : Turned) (r : Turns b t x u) where
+  -- after the tick is set
+  abbrev Ticked : State
+  Ticked = withTick (stateIn b) t
+
+  tick-fit : Fits (planIn b) Ticked
+  tick-fit = tick-fits (planIn b) (stateIn b) (r .held .fits) t (omega (arith, r .tick))
+
+  -- and after the node is
+  abbrev Moved : State
+  Moved = withNode (withTick (stateIn b) t) x (u .node)
+
+  module _ (c : List ℕ) (e : c ≡ encode (planIn b) Ticked) where
+    pub tick-held : Held c
+    tick-held = rw e (held-encode (planIn b) Ticked tick-fit)
+
+    pub tick-place : x < planIn c .n
+    tick-place = rw (e, plan-encode (planIn b) Ticked tick-fit) (r .place)
+
+    module _ (d : List ℕ) (k : d ≡ encode (planIn c) (withNode (stateIn c) x (u .node))) where
+      moved-is : d ≡ encode (planIn b) Moved
+      moved-is = k ∙ ap₂ (λ (p : Plan) (s : State). encode p (withNode s x (u .node))) (ap planIn e ∙ plan-encode (planIn b) Ticked tick-fit) (ap stateIn e ∙ state-encode (planIn b) Ticked tick-fit)
+
+      moved-fit : Fits (planIn b) Moved
+      unfolding withTick
+      moved-fit = node-fits (planIn b) Ticked tick-fit x (u .node) (rw (r .held .fits .nodes) (r .place)) (record { emitter = r .node .emitter; observer = r .node .observer; watch = r .node .watch; heartbeat = r .node .heartbeat; list = r .node .list })
+
+      moved-plan : planIn d ≡ planIn b
+      moved-plan = ap planIn moved-is ∙ plan-encode (planIn b) Moved moved-fit
+
+      moved-state : stateIn d ≡ Moved
+      moved-state = ap stateIn moved-is ∙ state-encode (planIn b) Moved moved-fit
+
+      pub moved-turns : Turns d t x u
+      unfolding withNode withTick
+      moved-turns = record {
+        held = rw moved-is (held-encode (planIn b) Moved moved-fit);
+        plan = ap planTest moved-plan ∙ r .plan;
+        tick = r .tick;
+        place = rw moved-plan (r .place);
+        full = r .full;
+        few = r .few;
+        room = rw moved-state (r .room);
+        number = rw moved-state (r .number);
+        node = r .node;
+        sends = r .sends;
+      }
+
+      pub turn-taken : (f : List ℕ) → f ≡ encode (planIn d) (sending (planIn d) (stateIn d) t x (take (u .count) (u .sent))) → f ≡ encode (planIn b) (taken (planIn b) (stateIn b) t x (stateIn b .flight) (turnOf u))
+      turn-taken f q = q ∙ ap₂ (λ (p : Plan) (s : State). encode p (sending p s t x (take (u .count) (u .sent)))) moved-plan moved-state ∙ ap (encode (planIn b)) (turn-parts (planIn b) t x (stateIn b) u)

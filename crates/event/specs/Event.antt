@@ -1,0 +1,90 @@
+-- What the code answers of an event: the next one, and what became of a try. Document 01's 'The next event is the first of these, in the
+-- earliest tick that has one' and 'A step does one event, answers it and writes its line, or answers done'. Assumes nothing.
+use mathlib.Core.Bool.{true}
+use mathlib.Core.List.{List, _++_}
+use mathlib.Core.Option.{Option, none, some}
+use mathlib.Core.Path.{_≡_}
+use Prim.Native.Nat.{ℕ, _+_, _^_, _≤_, _<_}
+use lib.ListN.{length, getD, take}
+use Rattle.node.specs.declared.Message.{Message}
+use Rattle.node.specs.declared.Node.{Node}
+use Rattle.node.specs.declared.Turned.{Turned}
+use Rattle.node.specs.Node.{Turn, mostSent, mostTick}
+use Rattle.runfile.specs.Plan.{Plan, planTest}
+use Rattle.model.specs.Platform.{InFlight, State, Event, Entry, Outcome, crash, message, watch, heartbeat, did, ended, refused, mostInFlight, numbered}
+use Rattle.model.specs.Lines.{lineOf, lastLine}
+use Rattle.store.specs.Store.{Held, planIn, stateIn}
+use Rattle.store.specs.declared.Flight.{Flight}
+use Rattle.event.specs.declared.Next.{Next}
+use Rattle.event.specs.declared.Next.the-variants.{Crash, Message as Delivery, Watch, Heartbeat, Nothing}
+use Rattle.event.specs.declared.Happened.{Happened}
+use Rattle.event.specs.declared.Happened.the-variants.{Did, Ended, Refused}
+
+-- ---- the next event
+
+abbrev pub entry : ℕ → Event → Entry
+entry t e = record { tick = t; event = e }
+
+-- an event at tick t
+unfoldable pub nextAt : ℕ → Event → Next
+nextAt t (crash k) = Crash t k
+nextAt t (message i) = Delivery t i
+nextAt t (watch x) = Watch t x
+nextAt t (heartbeat x) = Heartbeat t x
+
+unfoldable pub nextOf : Option Entry → Next
+nextOf none = Nothing
+nextOf (some e) = nextAt (e .tick) (e .event)
+
+-- ---- what became of a try: the event's line, the last line where none is left, or number 8
+
+unfoldable pub happened : Plan → State → Outcome → Happened
+happened p s (did e s') = Did (lineOf p s s' (e .tick) (e .event))
+happened p s ended = Ended (lastLine p s)
+happened p s refused = Refused
+
+-- ---- a turn as the code hands it over
+
+unfoldable pub turnOf : Turned → Turn
+turnOf u = record { node = u .node; sends = take (u .count) (u .sent) }
+
+-- node x sends messages at tick t: they join those in flight, numbered from the next number on
+unfoldable pub sending : Plan → State → ℕ → ℕ → List Message → State
+sending p s t x ms = record {
+  done = s .done;
+  last = s .last;
+  next = s .next + length ms;
+  nodes = s .nodes;
+  flight = s .flight ++ numbered p t x (s .next) ms;
+}
+
+-- a node whose numbers fit their fields
+pub record SmallNode (a : Node) : Type 0 where
+  pub emitter : a .emitter < 256
+  pub observer : a .observer < 256
+  pub watch : a .watch < 256 ^ 4
+  pub heartbeat : a .heartbeat < 256 ^ 4
+  pub list : a .list < 256 ^ 8
+
+-- a message whose numbers fit their fields
+pub record SmallMessage (m : Message) : Type 0 where
+  pub kind : m .kind < 256
+  pub to : m .to < 256
+  pub subject : m .subject < 256
+
+-- node x of a store may take the turn u at tick t: its numbers fit their fields, and the limits hold after it
+pub record Turns (b : List ℕ) (t x : ℕ) (u : Turned) : Type 0 where
+  pub held : Held b
+  pub plan : planTest (planIn b) ≡ true
+  pub tick : t ≤ mostTick
+  pub place : x < planIn b .n
+  pub full : length (u .sent) ≡ mostSent
+  pub few : u .count ≤ mostSent
+  pub room : length (stateIn b .flight) + u .count ≤ mostInFlight
+  pub number : stateIn b .next + u .count < 256 ^ 8
+  pub node : SmallNode (u .node)
+  pub sends : (z : Message) (j : ℕ) → j < u .count → SmallMessage (getD (u .sent) j z)
+
+-- a message in flight as the code answers it
+abbrev pub flown : Flight → InFlight
+flown f = record { number = f .number; kind = f .kind; from = f .from; to = f .to; subject = f .subject; due = f .due }

@@ -1,0 +1,4 @@
+-- In reading order.
+pub mod Event
+pub mod Search
+pub mod Ready

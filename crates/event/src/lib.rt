@@ -1,0 +1,42 @@
+// One event of the platform, done in place on the bytes of a store. It asks for a store that opening, steps and runs lead to, and makes
+// no test of the whole store.
+mod search; // search.rt: the next event
+mod turn; // turn.rt: what an event writes
+
+use logline::Line;
+ghost use mathlib.Core.Path.{_≡_};
+ghost use Rattle.model.specs.Platform.{try, left};
+ghost use Rattle.store.specs.Store.{encode, planIn, stateIn};
+ghost use Rattle.event.specs.Event.{happened};
+ghost use Rattle.event.specs.Ready.{Ready};
+
+// The next event: its tick, and the node that crashes, the place of the message, or the node whose timer it is.
+pub enum Next {
+    Crash(u32, u8),
+    Message(u32, usize),
+    Watch(u32, usize),
+    Heartbeat(u32, usize),
+    Nothing,
+}
+
+// What became of a try: an event was done, and this is its line; none is left up to the end tick, and this is the last line; or more
+// than 2,048 messages would be in flight.
+pub enum Happened {
+    Did(Line),
+    Ended(Line),
+    Refused,
+}
+
+// The next event is done, if there is one.
+pub fn do_event(s: &mut [u8]) -> Happened
+    requires { ⌜ Ready (now s) ⌝ }
+    ensures { λ r. ⌜ (r ≡ happened (planIn (now (s .entry))) (stateIn (now (s .entry))) (try (planIn (now (s .entry))) (stateIn (now (s .entry))))) × (now (s .exit) ≡ encode (planIn (now (s .entry))) (left (stateIn (now (s .entry))) (try (planIn (now (s .entry))) (stateIn (now (s .entry)))))) ⌝ }
+{
+    match search::next_event(s) {
+        Next::Crash(t, k) => turn::do_crash(s, t, k),
+        Next::Message(t, i) => turn::do_message(s, t, i),
+        Next::Watch(t, x) => turn::do_watch(s, t, x),
+        Next::Heartbeat(t, x) => turn::do_heartbeat(s, t, x),
+        Next::Nothing => Happened::Ended(search::last_line(s)),
+    }
+}

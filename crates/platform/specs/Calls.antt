@@ -1,0 +1,133 @@
+-- The four public calls: opening, step, run and the run-file writer, as document 01's 'The platform' and 'Where a call is turned down'
+-- state them. Each definition gives, for every input, the answer and every byte that was lent for writing. A call that is refused leaves
+-- what it was lent, but for a run's earlier events. Assumes nothing.
+use mathlib.Core.Bool.{Bool, cond}
+use mathlib.Core.List.{List, [], _∷_, _++_}
+use Prim.Native.Nat.{ℕ}
+use lib.Dec.{eqb, ltb}
+use lib.ListN.{length}
+use Rattle.text.specs.Put.{put}
+use Rattle.logline.specs.declared.Line.{Line}
+use Rattle.logline.specs.Line.{lineText}
+use Rattle.runfile.specs.Plan.{Plan, planText}
+use Rattle.runfile.specs.File.{Answer, accepted, fileOf, refused as turnedDown}
+use Rattle.model.specs.Platform.{State, Outcome, did, ended, refused, start, try, steps, eventCount, runAnswer, spent, finished, overfull, lineRoom, Answer as Ending}
+use Rattle.model.specs.Lines.{lineOf, eventLines, lastLine}
+use Rattle.store.specs.Store.{storeSize, encode, planIn, stateIn, storeInRange}
+use Rattle.platform.specs.declared.Opened.{Opened}
+use Rattle.platform.specs.declared.Opened.the-variants.{Ready, Refused as Unopened}
+use Rattle.platform.specs.declared.Stepped.{Stepped}
+use Rattle.platform.specs.declared.Stepped.the-variants.{Did, Done, Refused as Unstepped}
+use Rattle.platform.specs.declared.Ran.{Ran}
+use Rattle.platform.specs.declared.Ran.the-variants.{Done as Finished, Spent, Refused as Unrun}
+use Rattle.platform.specs.declared.Wrote.{Wrote}
+use Rattle.platform.specs.declared.Wrote.the-variants.{Bytes, Refused as Unwritten}
+
+-- ---- the numbers of the refusals; a file's are 1 to 6
+
+-- 'store: other length, a field out of range, or an unused byte not zero'
+abbrev pub badStore : ℕ
+badStore = 7
+
+-- 'event: more than 2,048 in flight after it'
+abbrev pub tooMany : ℕ
+tooMany = 8
+
+-- 'log, file or message part: under 40 bytes for a line, .. under 65,536 for a run file'
+abbrev pub shortPart : ℕ
+shortPart = 9
+
+abbrev pub fileRoom : ℕ
+fileRoom = 65536
+
+-- ---- opening
+
+pub record AfterOpen : Type 0 where
+  pub answer : Opened
+  pub store : List ℕ
+
+-- 'opening tests only its length'; 7 has no line
+unfoldable pub openPlan : Plan → List ℕ → AfterOpen
+openPlan p store =
+    cond (eqb (length store) storeSize)
+    (record { answer = Ready; store = encode p (start p) })
+    (record { answer = Unopened badStore 0; store = store })
+
+-- the file is tried before the store
+unfoldable pub openAnswer : Answer → List ℕ → AfterOpen
+openAnswer (turnedDown number line) store = record { answer = Unopened number line; store = store }
+openAnswer (accepted p) store = openPlan p store
+
+unfoldable pub openFile : List ℕ → List ℕ → AfterOpen
+openFile file store = openAnswer (fileOf file) store
+
+-- ---- step
+
+pub record AfterStep : Type 0 where
+  pub answer : Stepped
+  pub store : List ℕ
+  pub log : List ℕ
+
+-- lines one after another
+unfoldable pub linesText : List Line → List ℕ
+linesText [] = []
+linesText (l ∷ ls) = lineText l ++ linesText ls
+
+-- 'A step does one event, answers it and writes its line, or answers done, leaves the store and writes the last line when none is left
+-- up to the end tick. The log part after the line is unchanged.'
+unfoldable pub stepOutcome : Plan → State → Outcome → List ℕ → List ℕ → AfterStep
+stepOutcome p s (did e s') store log =
+    let text : List ℕ = linesText (eventLines p s s' e) in
+    record { answer = Did (lineOf p s s' (e .tick) (e .event)) (length text); store = encode p s'; log = put log 0 text }
+stepOutcome p s ended store log =
+    let text : List ℕ = lineText (lastLine p s) in
+    record { answer = Done (lastLine p s) (length text); store = store; log = put log 0 text }
+stepOutcome p s refused store log = record { answer = Unstepped tooMany; store = store; log = log }
+
+-- 7, then 9, then 8
+unfoldable pub step : List ℕ → List ℕ → AfterStep
+step store log =
+    cond (storeInRange store)
+    (cond (ltb (length log) lineRoom)
+    (record { answer = Unstepped shortPart; store = store; log = log })
+    (stepOutcome (planIn store) (stateIn store) (try (planIn store) (stateIn store)) store log))
+    (record { answer = Unstepped badStore; store = store; log = log })
+
+-- ---- run
+
+pub record AfterRun : Type 0 where
+  pub answer : Ran
+  pub store : List ℕ
+
+-- 'answers done or spent, with the events it did'; 'At a refused event it answers 8 with the events done'
+unfoldable pub ran : Ending → ℕ → Ran
+ran finished events = Finished events
+ran spent events = Spent events
+ran overfull events = Unrun tooMany events
+
+-- the store after the budget's events, or after those before the first that is not done
+unfoldable pub runState : Plan → State → ℕ → AfterRun
+runState p s budget = record { answer = ran (runAnswer p budget s) (eventCount p budget s); store = encode p (steps p budget s) }
+
+-- 7 comes with no events
+unfoldable pub run : List ℕ → ℕ → AfterRun
+run store budget =
+    cond (storeInRange store)
+    (runState (planIn store) (stateIn store) budget)
+    (record { answer = Unrun badStore 0; store = store })
+
+-- ---- the run-file writer
+
+pub record AfterWrite : Type 0 where
+  pub answer : Wrote
+  pub out : List ℕ
+
+-- 'puts a store's P, C and L lines into a lent part and leaves the rest of that part'; 7, then 9
+unfoldable pub writeFile : List ℕ → List ℕ → AfterWrite
+writeFile store out =
+    let text : List ℕ = planText (planIn store) in
+    cond (storeInRange store)
+    (cond (ltb (length out) fileRoom)
+    (record { answer = Unwritten shortPart; out = out })
+    (record { answer = Bytes (length text); out = put out 0 text }))
+    (record { answer = Unwritten badStore; out = out })

@@ -1,0 +1,5 @@
+-- In reading order.
+pub mod Calls
+pub mod Demand3
+pub mod Filling
+pub mod Writing

@@ -1,0 +1,227 @@
+-- The bytes that each change of a state leaves. Assumes nothing.
+use Prim.Native.Nat.{ℕ, zero, suc, _+_, _-_, _*_, _≤_, _<_, _^_}
+use mathlib.Core.Path.{_≡_, refl, sym, ap, _∙_}
+use mathlib.Core.List.{List, [], _∷_, _++_, map, map-append}
+use native.Mathlib.Nat.{one-mul}
+use native.Mathlib.Numerals.{add-one}
+use native.Mathlib.Omega.{arith}
+use lib.Dec.{lit<}
+use lib.ListN.{length, take, drop, getD, set, length-map, length-set, length-append}
+use Rattle.fields.specs.Fields.{putAt}
+use Rattle.node.specs.declared.Node.{Node}
+use Rattle.runfile.specs.Plan.{Plan, Crash, Delay}
+use Rattle.model.specs.Platform.{State, InFlight, mostInFlight}
+use Rattle.model.specs.Platform as model
+use Rattle.store.specs.Gap.{without}
+use Rattle.store.specs.Columns.{Field, Column, cellPut, cellOut, bytesOf}
+use Rattle.store.specs.Store.{storeSize, crashesDone, lastTick, nextNumber, messageCount, emitters, observers, watches, heartbeats, deadLists, messageNumbers, messageDues, messageKinds, messageSenders, messageReceivers, messageSubjects, columns, encode, planIn, stateIn, Fits, Held, withNode, withTick, crashed, withoutMessage, sent}
+use Rattle.store.proofs.Columns.{columnOf, putIn, addIn, takeIn, length-without}
+use Rattle.store.proofs.Changes.{Change, put, add, out, onBytes, onColumns, Admit, AdmitAll, Small, AllSmall, bytesAfter, columnsAfter, changes-bytes, changes-fit}
+use Rattle.store.proofs.Store.{laid, fits-of}
+
+-- a node's numbers fit their fields, as the types of the code's node say
+pub record NodeFits (a : Node) : Type 0 where
+  pub emitter : a .emitter < 256
+  pub observer : a .observer < 256
+  pub watch : a .watch < 256 ^ 4
+  pub heartbeat : a .heartbeat < 256 ^ 4
+  pub list : a .list < 256 ^ 8
+
+-- ---- a field of rows of which one is changed
+
+module _ {A : Type 0} (f : A → ℕ) where
+  pub map-set : (l : List A) (i : ℕ) (a : A) → map f (set l i a) ≡ set (map f l) i (f a)
+  map-set [] i a = refl
+  map-set (x ∷ l) zero a = refl
+  map-set (x ∷ l) (suc i) a = ap (λ (r : List ℕ). f x ∷ r) (map-set l i a)
+
+  map-take : (i : ℕ) (l : List A) → map f (take i l) ≡ take i (map f l)
+  map-take zero l = refl
+  map-take (suc i) [] = refl
+  map-take (suc i) (x ∷ l) = ap (λ (r : List ℕ). f x ∷ r) (map-take i l)
+
+  map-drop : (i : ℕ) (l : List A) → map f (drop i l) ≡ drop i (map f l)
+  map-drop zero l = refl
+  map-drop (suc i) [] = refl
+  map-drop (suc i) (x ∷ l) = map-drop i l
+
+  pub map-without : (i : ℕ) (l : List A) → map f (without i l) ≡ without i (map f l)
+  unfolding without
+  map-without i l = map-append f (take i l) (drop (suc i) l) ∙ rw (map-take i l, map-drop (suc i) l)
+
+module _ (p : Plan) (s : State) where
+  -- the tick of the last event
+  abbrev pub tickPuts : ℕ → List Change
+  tickPuts t = put lastTick 0 t ∷ []
+
+  tick-admit : (t : ℕ) → AdmitAll (tickPuts t) (columns p s)
+  unfolding columns columnOf AdmitAll Admit
+  tick-admit t = (((lit< tt, refl), lit< tt), tt)
+
+  tick-columns : (t : ℕ) → columnsAfter (tickPuts t) (columns p s) ≡ columns p (withTick s t)
+  unfolding columns columnOf columnsAfter onColumns putIn withTick
+  tick-columns t = refl
+
+  -- one crash row more is done
+  abbrev pub crashPuts : List Change
+  crashPuts = put crashesDone 0 (s .done + 1) ∷ []
+
+  crash-admit : AdmitAll crashPuts (columns p s)
+  unfolding columns columnOf AdmitAll Admit
+  crash-admit = (((lit< tt, refl), lit< tt), tt)
+
+  crash-columns : columnsAfter crashPuts (columns p s) ≡ columns p (crashed s)
+  unfolding columns columnOf columnsAfter onColumns putIn crashed
+  crash-columns = rw (add-one (s .done))
+
+  -- a node's fields at its place
+  abbrev pub nodePuts : ℕ → Node → List Change
+  nodePuts i a = put emitters i (a .emitter) ∷ put observers i (a .observer) ∷ put watches i (a .watch) ∷ put heartbeats i (a .heartbeat) ∷ put deadLists i (a .list) ∷ []
+
+  node-admit : (i : ℕ) (a : Node) → i < length (s .nodes) → AdmitAll (nodePuts i a) (columns p s)
+  unfolding columns columnOf AdmitAll Admit onColumns putIn
+  node-admit i a h =
+      let n : (g : Node → ℕ) → i < length (map g (s .nodes)) = λ g. rw (length-map (s .nodes) g) h in
+      (((lit< tt, refl), n (λ x. x .emitter)), (((lit< tt, refl), n (λ x. x .observer)), (((lit< tt, refl), n (λ x. x .watch)), (((lit< tt, refl), n (λ x. x .heartbeat)), (((lit< tt, refl), n (λ x. x .list)), tt)))))
+
+  node-columns : (i : ℕ) (a : Node) → columnsAfter (nodePuts i a) (columns p s) ≡ columns p (withNode s i a)
+  unfolding columns columnOf columnsAfter onColumns putIn withNode
+  node-columns i a =
+      rw (map-set (λ (x : Node). x .emitter), map-set (λ (x : Node). x .observer), map-set (λ (x : Node). x .watch), map-set (λ (x : Node). x .heartbeat), map-set (λ (x : Node). x .list))
+
+  -- a message after the last of those in flight, with the next number
+  abbrev pub sendPuts : ℕ → ℕ → ℕ → ℕ → ℕ → List Change
+  sendPuts kind from to subject due =
+      let n : ℕ = length (s .flight) in
+      add messageNumbers n (s .next) ∷ add messageDues n due ∷ add messageKinds n kind ∷ add messageSenders n from ∷ add messageReceivers n to ∷ add messageSubjects n subject ∷ put nextNumber 0 (s .next + 1) ∷ put messageCount 0 (n + 1) ∷ []
+
+  send-admit : (kind from to subject due : ℕ) → length (s .flight) < mostInFlight → AdmitAll (sendPuts kind from to subject due) (columns p s)
+  unfolding columns columnOf AdmitAll Admit onColumns putIn addIn
+  send-admit kind from to subject due h =
+      let n : (g : InFlight → ℕ) → length (s .flight) ≡ length (map g (s .flight)) = λ g. sym (length-map (s .flight) g) in
+      (((lit< tt, refl), n (λ x. x .number), h), (((lit< tt, refl), n (λ x. x .due), h), (((lit< tt, refl), n (λ x. x .kind), h), (((lit< tt, refl), n (λ x. x .from), h), (((lit< tt, refl), n (λ x. x .to), h), (((lit< tt, refl), n (λ x. x .subject), h), (((lit< tt, refl), lit< tt), (((lit< tt, refl), lit< tt), tt))))))))
+
+  send-columns : (kind from to subject due : ℕ)
+      → columnsAfter (sendPuts kind from to subject due) (columns p s) ≡ columns p (sent s kind from to subject due)
+  unfolding columns columnOf columnsAfter onColumns putIn addIn sent
+  send-columns kind from to subject due =
+      let m : InFlight = record { number = s .next; kind = kind; from = from; to = to; subject = subject; due = due } in
+      let e : (g : InFlight → ℕ) → map g (s .flight ++ (m ∷ [])) ≡ map g (s .flight) ++ (g m ∷ []) = λ g. map-append g (s .flight) (m ∷ []) in
+      rw (e (λ x. x .number), e (λ x. x .due), e (λ x. x .kind), e (λ x. x .from), e (λ x. x .to), e (λ x. x .subject), length-append (s .flight) (m ∷ []), add-one (s .next))
+
+  -- the message at place i out, and those after it down
+  abbrev pub takePuts : ℕ → List Change
+  takePuts i =
+      let n : ℕ = length (s .flight) in
+      out messageNumbers i n ∷ out messageDues i n ∷ out messageKinds i n ∷ out messageSenders i n ∷ out messageReceivers i n ∷ out messageSubjects i n ∷ put messageCount 0 (n - 1) ∷ []
+
+  take-admit : (i : ℕ) → i < length (s .flight) → AdmitAll (takePuts i) (columns p s)
+  unfolding columns columnOf AdmitAll Admit onColumns putIn takeIn
+  take-admit i h =
+      let n : (g : InFlight → ℕ) → length (s .flight) ≡ length (map g (s .flight)) = λ g. sym (length-map (s .flight) g) in
+      (((lit< tt, refl), n (λ x. x .number), h), (((lit< tt, refl), n (λ x. x .due), h), (((lit< tt, refl), n (λ x. x .kind), h), (((lit< tt, refl), n (λ x. x .from), h), (((lit< tt, refl), n (λ x. x .to), h), (((lit< tt, refl), n (λ x. x .subject), h), (((lit< tt, refl), lit< tt), tt)))))))
+
+  take-columns : (i : ℕ) → i < length (s .flight) → columnsAfter (takePuts i) (columns p s) ≡ columns p (withoutMessage s i)
+  unfolding columns columnOf columnsAfter onColumns putIn takeIn withoutMessage model.without without
+  take-columns i h =
+      let e : (g : InFlight → ℕ) → map g (without i (s .flight)) ≡ without i (map g (s .flight)) = λ g. map-without g i (s .flight) in
+      let l : length (without i (s .flight)) ≡ length (s .flight) - 1 = omega (arith, length-without i (s .flight) h) in
+      rw (e (λ x. x .number), e (λ x. x .due), e (λ x. x .kind), e (λ x. x .from), e (λ x. x .to), e (λ x. x .subject), l)
+
+  -- ---- of a plan and a state that a store can hold
+
+  module _ (f : Fits p s) where
+    after : (chs : List Change) (s′ : State) → AdmitAll chs (columns p s) → columnsAfter chs (columns p s) ≡ columns p s′
+        → bytesAfter chs (encode p s) ≡ encode p s′
+    unfolding encode
+    after chs s′ a e = changes-bytes chs (columns p s) (laid p s f) a ∙ ap bytesOf e
+
+    fits-after : (chs : List Change) (s′ : State) → AdmitAll chs (columns p s) → AllSmall chs → columnsAfter chs (columns p s) ≡ columns p s′
+        → length (s′ .nodes) ≡ length (s .nodes) → Fits p s′
+    fits-after chs s′ a k e n =
+        fits-of p s′ (f .order) (n ∙ f .nodes) (rw (← e) (changes-fit chs (columns p s) (f .columns) a k))
+
+    pub tick-bytes : (t : ℕ) → bytesAfter (tickPuts t) (encode p s) ≡ encode p (withTick s t)
+    tick-bytes t = after (tickPuts t) (withTick s t) (tick-admit t) (tick-columns t)
+
+    pub tick-fits : (t : ℕ) → t < 256 ^ 4 → Fits p (withTick s t)
+    unfolding withTick AllSmall Small
+    tick-fits t h = fits-after (tickPuts t) (withTick s t) (tick-admit t) (h, tt) (tick-columns t) refl
+
+    pub crash-bytes : bytesAfter crashPuts (encode p s) ≡ encode p (crashed s)
+    crash-bytes = after crashPuts (crashed s) crash-admit crash-columns
+
+    pub crash-fits : s .done + 1 < 256 ^ 1 → Fits p (crashed s)
+    unfolding crashed AllSmall Small
+    crash-fits h = fits-after crashPuts (crashed s) crash-admit (h, tt) crash-columns refl
+
+    pub node-bytes : (i : ℕ) (a : Node) → i < length (s .nodes) → bytesAfter (nodePuts i a) (encode p s) ≡ encode p (withNode s i a)
+    node-bytes i a h = after (nodePuts i a) (withNode s i a) (node-admit i a h) (node-columns i a)
+
+    pub node-fits : (i : ℕ) (a : Node) → i < length (s .nodes) → NodeFits a → Fits p (withNode s i a)
+    unfolding withNode AllSmall Small
+    node-fits i a h k =
+        fits-after (nodePuts i a) (withNode s i a) (node-admit i a h) (k .emitter, (k .observer, (k .watch, (k .heartbeat, (k .list, tt)))))
+        (node-columns i a) (length-set (s .nodes) i a)
+
+    pub send-bytes : (kind from to subject due : ℕ) → length (s .flight) < mostInFlight
+        → bytesAfter (sendPuts kind from to subject due) (encode p s) ≡ encode p (sent s kind from to subject due)
+    send-bytes kind from to subject due h =
+        after (sendPuts kind from to subject due) (sent s kind from to subject due) (send-admit kind from to subject due h) (send-columns kind from to subject due)
+
+    pub send-fits : (kind from to subject due : ℕ) → length (s .flight) < mostInFlight → s .next + 1 < 256 ^ 8 → kind < 256 → from < 256 → to < 256 → subject < 256 → due < 256 ^ 4
+        → Fits p (sent s kind from to subject due)
+    unfolding sent AllSmall Small
+    send-fits kind from to subject due h n k1 k2 k3 k4 k5 =
+        fits-after (sendPuts kind from to subject due) (sent s kind from to subject due) (send-admit kind from to subject due h)
+        (omega arith, (k5, (k1, (k2, (k3, (k4, (n, (omega arith, tt)))))))) (send-columns kind from to subject due) refl
+
+    pub take-bytes : (i : ℕ) → i < length (s .flight) → bytesAfter (takePuts i) (encode p s) ≡ encode p (withoutMessage s i)
+    take-bytes i h = after (takePuts i) (withoutMessage s i) (take-admit i h) (take-columns i h)
+
+    pub take-fits : (i : ℕ) → i < length (s .flight) → Fits p (withoutMessage s i)
+    unfolding withoutMessage AllSmall Small
+    take-fits i h =
+        fits-after (takePuts i) (withoutMessage s i) (take-admit i h) (tt, (tt, (tt, (tt, (tt, (tt, (omega arith, tt))))))) (take-columns i h) refl
+
+-- ---- the same of a store's bytes, as the code puts its numbers
+
+module _ (b : List ℕ) (v : Held b) where
+  abbrev p : Plan
+  p = planIn b
+
+  abbrev s : State
+  s = stateIn b
+
+  -- changes of a store are changes of the encoding of what it holds
+  of-held : (chs : List Change) (s′ : State) → bytesAfter chs (encode p s) ≡ encode p s′ → bytesAfter chs b ≡ encode p s′
+  of-held chs s′ e = ap (bytesAfter chs) (v .canonical) ∙ e
+
+  pub put-tick : (t : ℕ) → putAt b (lastTick .at) 4 t ≡ encode p (withTick s t)
+  unfolding bytesAfter onBytes
+  put-tick t = of-held (tickPuts p s t) (withTick s t) (tick-bytes p s (v .fits) t)
+
+  pub put-crash : putAt b (crashesDone .at) 1 (s .done + 1) ≡ encode p (crashed s)
+  unfolding bytesAfter onBytes
+  put-crash = of-held (crashPuts p s) (crashed s) (crash-bytes p s (v .fits))
+
+  pub put-node : (i : ℕ) (a : Node) → i < p .n
+      → putAt (putAt (putAt (putAt (putAt b (emitters .at + i) 1 (a .emitter)) (observers .at + i) 1 (a .observer)) (watches .at + 4 * i) 4 (a .watch)) (heartbeats .at + 4 * i) 4 (a .heartbeat)) (deadLists .at + 8 * i) 8 (a .list)
+      ≡ encode p (withNode s i a)
+  unfolding bytesAfter onBytes
+  put-node i a h =
+      ap (λ (k : ℕ). putAt (putAt (putAt (putAt (putAt b (emitters .at + k) 1 (a .emitter)) (observers .at + k) 1 (a .observer)) (watches .at + 4 * i) 4 (a .watch)) (heartbeats .at + 4 * i) 4 (a .heartbeat)) (deadLists .at + 8 * i) 8 (a .list)) (sym (one-mul i))
+      ∙ of-held (nodePuts p s i a) (withNode s i a) (node-bytes p s (v .fits) i a (rw (v .fits .nodes) h))
+
+  pub put-send : (kind from to subject due n number : ℕ) → n ≡ length (s .flight) → number ≡ s .next → n < mostInFlight
+      → cellPut (cellPut (cellPut (cellPut (cellPut (cellPut (cellPut (cellPut b messageNumbers n number) messageDues n due) messageKinds n kind) messageSenders n from) messageReceivers n to) messageSubjects n subject) nextNumber 0 (number + 1)) messageCount 0 (n + 1)
+      ≡ encode p (sent s kind from to subject due)
+  unfolding bytesAfter onBytes
+  put-send kind from to subject due n number e k h =
+      rw (e, k) (of-held (sendPuts p s kind from to subject due) (sent s kind from to subject due) (send-bytes p s (v .fits) kind from to subject due (rw (← e) h)))
+
+  pub put-take : (i n : ℕ) → n ≡ length (s .flight) → i < n
+      → cellPut (cellOut (cellOut (cellOut (cellOut (cellOut (cellOut b messageNumbers i n) messageDues i n) messageKinds i n) messageSenders i n) messageReceivers i n) messageSubjects i n) messageCount 0 (n - 1)
+      ≡ encode p (withoutMessage s i)
+  unfolding bytesAfter onBytes
+  put-take i n e h = rw e (of-held (takePuts p s i) (withoutMessage s i) (take-bytes p s (v .fits) i (rw (← e) h)))

@@ -1,0 +1,19 @@
+-- `store::plan::crashes_done` meets its contract. Assumes nothing.
+use Rattle.store.specs.Store.{stateIn}
+use native.Mathlib.Omega.{arith}
+use borrow.Author.Needs.{needs}
+use Rattle.store.proofs.plan.crashes_done.Statement.{statement}
+use Rattle.store.proofs.plan.crashes_done.Tie as tie
+
+get1-requires : tie.Need-get1-requires
+get1-requires c κs = search needs
+
+cast-result : tie.Need-cast-result
+cast-result c = search needs
+
+returns : tie.Need-returns
+unfolding stateIn
+returns c = search needs
+
+pub crashes-done-spec : {M : Type 1} → statement M
+crashes-done-spec = tie.close (tie.spec get1-requires cast-result returns)

@@ -1,0 +1,157 @@
+// The messages in flight, rising by number: nothing else touches their places.
+use crate::Flight;
+use crate::cells;
+use crate::plan;
+ghost use mathlib.Core.Path.{_≡_};
+ghost use Prim.Native.Nat.{_+_, _*_, _^_, _<_, _≤_};
+ghost use lib.ListN.{length};
+ghost use Rattle.model.specs.Platform.{messageAt, mostInFlight};
+ghost use Rattle.store.specs.Columns.{cellPut, cellOut};
+ghost use Rattle.store.specs.Gap.{moved, closed};
+ghost use Rattle.store.specs.Store.{Sized, Held, storeSize, encode, planIn, stateIn, flying, withoutMessage, sent, messageNumbers, messageDues, messageKinds, messageSenders, messageReceivers, messageSubjects};
+
+const NEXT_NUMBER: usize = 16;
+
+const MESSAGE_COUNT: usize = 26;
+
+const NUMBERS: usize = 12352;
+
+const DUES: usize = 28736;
+
+const KINDS: usize = 36928;
+
+const SENDERS: usize = 38976;
+
+const RECEIVERS: usize = 41024;
+
+const SUBJECTS: usize = 43072;
+
+// How many messages are in flight.
+pub fn message_count(s: &[u8]) -> usize
+    requires { ⌜ length (now s) ≡ storeSize ⌝ }
+    ensures { λ r. ⌜ r ≡ length (stateIn (now (s .entry)) .flight) ⌝ }
+{
+    cells::get2(s, MESSAGE_COUNT) as usize
+}
+
+// The message at a place.
+pub fn message_at(s: &[u8], i: usize) -> Flight
+    requires { ⌜ Sized (now s) ⌝ }
+    requires { ⌜ i < length (stateIn (now s) .flight) ⌝ }
+    ensures { λ r. ⌜ r ≡ flying (messageAt (stateIn (now (s .entry))) i) ⌝ }
+{
+    let number = fields::get(s, NUMBERS + 8 * i, 8);
+    let due = cells::get4(s, DUES + 4 * i);
+    let kind = cells::get1(s, KINDS + i);
+    let from = cells::get1(s, SENDERS + i);
+    let to = cells::get1(s, RECEIVERS + i);
+    let subject = cells::get1(s, SUBJECTS + i);
+    Flight {
+        number,
+        due,
+        kind,
+        from,
+        to,
+        subject,
+    }
+}
+
+// When the message at a place is due.
+pub fn due_at(s: &[u8], i: usize) -> u32
+    requires { ⌜ Sized (now s) ⌝ }
+    requires { ⌜ i < length (stateIn (now s) .flight) ⌝ }
+    ensures { λ r. ⌜ r ≡ messageAt (stateIn (now (s .entry))) i .due ⌝ }
+{
+    cells::get4(s, DUES + 4 * i)
+}
+
+// What stands from a + by up to e moves down to a.
+fn move_down(s: &mut [u8], a: usize, by: usize, e: usize)
+    requires { ⌜ (a + by ≤ e) × (e ≤ length (now s)) ⌝ }
+    ensures { λ _. ⌜ now (s .exit) ≡ moved (now (s .entry)) a by e ⌝ }
+{
+    let mut i = a;
+    let mut j = a + by;
+    while j < e {
+        let b = s[j];
+        s[i] = b;
+        i += 1;
+        j += 1;
+    }
+}
+
+// The number at place i of n is taken out of the column of numbers of w bytes that starts at `at`.
+fn close_gap(s: &mut [u8], at: usize, w: usize, i: usize, n: usize)
+    requires { ⌜ (i < n) × (n ≤ mostInFlight) × (w ≤ 8) × (at + w * n ≤ length (now s)) × (length (now s) ≡ storeSize) ⌝ }
+    ensures { λ _. ⌜ now (s .exit) ≡ closed (now (s .entry)) (at + w * i) w (at + w * n) ⌝ }
+{
+    let e = at + w * n;
+    move_down(s, at + w * i, w, e);
+    fields::clear(s, e - w, e);
+}
+
+// The message at place i of n leaves the columns of numbers and dues.
+fn close_times(s: &mut [u8], i: usize, n: usize)
+    requires { ⌜ (i < n) × (n ≤ mostInFlight) × (length (now s) ≡ storeSize) ⌝ }
+    ensures { λ _. ⌜ now (s .exit) ≡ cellOut (cellOut (now (s .entry)) messageNumbers i n) messageDues i n ⌝ }
+{
+    close_gap(s, NUMBERS, 8, i, n);
+    close_gap(s, DUES, 4, i, n);
+}
+
+// The message at place i of n leaves the columns of kinds, senders, receivers and subjects.
+fn close_routes(s: &mut [u8], i: usize, n: usize)
+    requires { ⌜ (i < n) × (n ≤ mostInFlight) × (length (now s) ≡ storeSize) ⌝ }
+    ensures { λ _. ⌜ now (s .exit) ≡ cellOut (cellOut (cellOut (cellOut (now (s .entry)) messageKinds i n) messageSenders i n) messageReceivers i n) messageSubjects i n ⌝ }
+{
+    close_gap(s, KINDS, 1, i, n);
+    close_gap(s, SENDERS, 1, i, n);
+    close_gap(s, RECEIVERS, 1, i, n);
+    close_gap(s, SUBJECTS, 1, i, n);
+}
+
+// The message at a place is taken out, and those after it move down.
+pub fn take_message(s: &mut [u8], i: usize)
+    requires { ⌜ Held (now s) ⌝ }
+    requires { ⌜ i < length (stateIn (now s) .flight) ⌝ }
+    ensures { λ _. ⌜ now (s .exit) ≡ encode (planIn (now (s .entry))) (withoutMessage (stateIn (now (s .entry))) i) ⌝ }
+{
+    let n = message_count(s);
+    close_times(s, i, n);
+    close_routes(s, i, n);
+    fields::put(s, MESSAGE_COUNT, 2, (n - 1) as u64);
+}
+
+// A message's number and due, put at place n.
+fn put_times(s: &mut [u8], n: usize, number: u64, due: u32)
+    requires { ⌜ (n < mostInFlight) × (length (now s) ≡ storeSize) ⌝ }
+    ensures { λ _. ⌜ now (s .exit) ≡ cellPut (cellPut (now (s .entry)) messageNumbers n number) messageDues n due ⌝ }
+{
+    fields::put(s, NUMBERS + 8 * n, 8, number);
+    fields::put(s, DUES + 4 * n, 4, due as u64);
+}
+
+// A message's kind, sender, receiver and subject, put at place n.
+fn put_route(s: &mut [u8], n: usize, kind: u8, from: u8, to: u8, subject: u8)
+    requires { ⌜ (n < mostInFlight) × (length (now s) ≡ storeSize) ⌝ }
+    ensures { λ _. ⌜ now (s .exit) ≡ cellPut (cellPut (cellPut (cellPut (now (s .entry)) messageKinds n kind) messageSenders n from) messageReceivers n to) messageSubjects n subject ⌝ }
+{
+    fields::put(s, KINDS + 1 * n, 1, kind as u64);
+    fields::put(s, SENDERS + 1 * n, 1, from as u64);
+    fields::put(s, RECEIVERS + 1 * n, 1, to as u64);
+    fields::put(s, SUBJECTS + 1 * n, 1, subject as u64);
+}
+
+// A message is put after the last, with the next number.
+pub fn send(s: &mut [u8], kind: u8, from: u8, to: u8, subject: u8, due: u32)
+    requires { ⌜ Held (now s) ⌝ }
+    requires { ⌜ (length (stateIn (now s) .flight) < mostInFlight) × (stateIn (now s) .next + 1 < 256 ^ 8) ⌝ }
+    ensures { λ _. ⌜ now (s .exit) ≡ encode (planIn (now (s .entry))) (sent (stateIn (now (s .entry))) kind from to subject due) ⌝ }
+{
+    let n = message_count(s);
+    let number = plan::next_number(s);
+    put_times(s, n, number, due);
+    put_route(s, n, kind, from, to, subject);
+    fields::put(s, NEXT_NUMBER, 8, number + 1);
+    fields::put(s, MESSAGE_COUNT, 2, (n + 1) as u64);
+}
