@@ -1,20 +1,20 @@
 /*
- * The ring failure detector's node, for a host in C.
+ * The ring failure detector, for programs in C. There are two parts; a program may use either or both:
  *
- * A node is a record of 64 bytes that the host lends to each call. The host keeps the record, brings the messages to
- * their receivers and knows the tick, a count that never goes back. Nothing else is kept anywhere: the calls have no
- * state of their own, allocate nothing and always return.
+ *     a node         one node of the ring, in the field              link with libhost.a
+ *     a rehearsal    a whole ring with planned crashes and delays    link with libplanner.a
  *
- * To run a node:
+ * Up to 64 nodes stand in a ring. Each sends heartbeats to the node after it, its observer, and watches the node before
+ * it, its emitter. A node that hears nothing from its emitter for the time-out puts it on its dead list, watches the next
+ * node back, and tells the others by reports. A rehearsed node does what a node in the field does. Time is counted in
+ * ticks.
  *
- *     uint8_t node[KELBRAUT_RECORD], sent[KELBRAUT_MESSAGES];
- *     kelbraut_node_open(node, sizeof node, number, nodes, h, w);
+ * The calls have no state of their own, allocate nothing and always return: all that they know stands in the bytes that
+ * the program lends to each call. What a call may write must not overlap with anything else that is lent to it, and no
+ * pointer may be null.
  *
- * then, at each tick, kelbraut_node_deliver for every message that has arrived, and kelbraut_node_timers until it
- * sends nothing. After each accepted call, take the messages out of `sent` and bring each to its receiver. host.c
- * beside this file does so for five nodes. Link with libhost.a.
- *
- * An accepted call answers KELBRAUT_ACCEPTED. A refused one answers another number and changes no byte.
+ * An accepted call answers KELBRAUT_ACCEPTED. A refused one answers another number and changes no byte of a record, of a
+ * store or of a part for writing; only a run that is refused by 8 keeps the events before it.
  */
 #ifndef KELBRAUT_H
 #define KELBRAUT_H
@@ -26,23 +26,45 @@
 extern "C" {
 #endif
 
-/* Sizes in bytes: a record, a message, and the message part of a call, which has places for seven messages. */
-#define KELBRAUT_RECORD 64
-#define KELBRAUT_MESSAGE 8
-#define KELBRAUT_MESSAGES 56
+/* Answers of both parts. A call gives the first that applies, in the order that stands at the call. */
+#define KELBRAUT_ACCEPTED 0
+#define KELBRAUT_BAD_LENGTH 1     /* run file: no bytes, or more than 65,536 */
+#define KELBRAUT_BAD_FORM 2       /* line: letter, number of fields, digits, line feed or order of the letters */
+#define KELBRAUT_BAD_NUMBER 3     /* line, or opening of a node: a number outside its range, a node not below N */
+#define KELBRAUT_SHORT_TIME_OUT 4 /* P line: W below H + D */
+#define KELBRAUT_BAD_ORDER 5      /* C or L line: not rising, or a node twice */
+#define KELBRAUT_MANY_DELAYS 6    /* L line: the 2,049th */
+#define KELBRAUT_BAD_STORE 7      /* not 65,536 bytes, a field out of range, or an unused byte not zero */
+#define KELBRAUT_OVERFULL 8       /* event: more than 2,048 messages would be in flight after it */
+#define KELBRAUT_SHORT_PART 9     /* message part under 56 bytes, log part under 40, file part under 65,536; also where
+                                     less would do */
+#define KELBRAUT_BAD_RECORD 10    /* not 64 bytes, or a field out of range */
+#define KELBRAUT_BAD_MESSAGE 11   /* unknown kind, or the sender or a report's subject is no other node of the ring */
+#define KELBRAUT_BAD_TICK 12      /* before the record's last tick, or above 1,000,000 */
 
 /* Kinds of message. */
 #define KELBRAUT_HEARTBEAT 'H' /* the sender lives; goes to its observer */
 #define KELBRAUT_OBSERVER 'O'  /* the sender is the receiver's new observer */
 #define KELBRAUT_REPORT 'R'    /* the subject is dead */
 
-/* Answers. A call gives the first that applies; a node call tries 10, 12, 11, then 9. */
-#define KELBRAUT_ACCEPTED 0
-#define KELBRAUT_BAD_NUMBER 3   /* opening: a number outside its range */
-#define KELBRAUT_SHORT_PART 9   /* the message part has fewer than 56 bytes, also where nothing would be sent */
-#define KELBRAUT_BAD_RECORD 10  /* not 64 bytes, or a field out of range */
-#define KELBRAUT_BAD_MESSAGE 11 /* unknown kind, or the sender or a report's subject is no other node of the ring */
-#define KELBRAUT_BAD_TICK 12    /* before the record's last tick, or above 1,000,000 */
+/*
+ * ---- A node ----
+ *
+ * A node is a record of 64 bytes. The program keeps the record, brings the messages to their receivers and knows the
+ * tick, which never goes back. To run a node:
+ *
+ *     uint8_t node[KELBRAUT_RECORD], sent[KELBRAUT_MESSAGES];
+ *     kelbraut_node_open(node, sizeof node, number, nodes, h, w);
+ *
+ * then, at each tick, kelbraut_node_deliver for every message that has arrived, and kelbraut_node_timers until it sends
+ * nothing. After each accepted call, take the messages out of `sent` and bring each to its receiver. host.c beside this
+ * file does so for five nodes.
+ */
+
+/* Sizes in bytes: a record, a message, and the message part of a call, which has places for seven messages. */
+#define KELBRAUT_RECORD 64
+#define KELBRAUT_MESSAGE 8
+#define KELBRAUT_MESSAGES 56
 
 /*
  * Opens a record at tick 0: node `number` of a ring of `nodes`, 0 to nodes - 1. A heartbeat is sent every `h` ticks, and
@@ -97,6 +119,96 @@ static inline uint8_t kelbraut_sender(const uint8_t message[KELBRAUT_MESSAGE]) {
 static inline uint8_t kelbraut_subject(const uint8_t message[KELBRAUT_MESSAGE]) {
     return message[3];
 }
+
+/*
+ * ---- A rehearsal ----
+ *
+ * A run file says how many nodes there are, which of them crash and how long messages take. A store, 65,536 bytes, is
+ * opened from it and holds the rehearsal; each call on it does the next events. To write the log of a run file:
+ *
+ *     uint8_t store[KELBRAUT_STORE], log[KELBRAUT_LOG_PART];
+ *     uint64_t line, letter, tick, node, other, size;
+ *     uint64_t answer = kelbraut_open(file, file_size, store, sizeof store, &line);
+ *     while (answer == KELBRAUT_ACCEPTED) {
+ *         answer = kelbraut_step(store, sizeof store, log, sizeof log, &letter, &tick, &node, &other, &size);
+ *         fwrite(log, 1, size, stdout);
+ *         if (letter == KELBRAUT_END) {
+ *             break;
+ *         }
+ *     }
+ *
+ * planner.c beside this file tries the crashes of a run file with several time-outs. A copy of a store's bytes is the
+ * rehearsal at that moment, from which one can go on as often as one likes. A store that was opened, and that only these
+ * calls have written since, is never refused by 7.
+ *
+ * The numbers that a call puts behind its pointers are part of its answer: every call writes all of them, a refused one
+ * too, and they are 0 where there is nothing to say.
+ *
+ * Run file: lines of fields parted by commas, each line ended by one line feed (hexadecimal 0A); first the P line, then C
+ * lines, then L lines. Numbers are decimal, with no sign, space or leading zero.
+ *
+ *     P,N,H,W,D,end     N nodes, 1 to 64, numbered from 0; a heartbeat every H ticks, 1 to 1,000; the time-out W, at
+ *                       least H + D, 1 to 65,535; delays of at most D ticks, 1 to 255; the end tick, 0 to 1,000,000
+ *     C,tick,node       the node crashes at this tick, 0 to end; rising by tick, then node, no node twice
+ *     L,number,delay    the message of this number, 0 to 999,999, takes this many ticks, 1 to D; rising by number, at
+ *                       most 2,048 lines. Messages are numbered from 0 in the order of sending; without a line one
+ *                       takes D ticks
+ *
+ * Events: those of the earliest tick that has any, and of these first the crashes, by node; then the messages due, by
+ * number; then the timers of live nodes, by node, the watch before the heartbeat.
+ *
+ * Log line: letter, tick, node, other, list, parted by commas, and a line feed. The list is the node's dead list after
+ * the event, 16 lower-case hexadecimal digits; bit i stands for node i.
+ */
+
+/* Sizes in bytes: a store, the longest run file, and the least part for a log line and for writing a run file. */
+#define KELBRAUT_STORE 65536
+#define KELBRAUT_LONGEST_FILE 65536
+#define KELBRAUT_LOG_PART 40
+#define KELBRAUT_FILE_PART 65536
+
+/*
+ * Letters of events. A message that is delivered has its kind for letter: KELBRAUT_HEARTBEAT and KELBRAUT_OBSERVER with
+ * the sender as other, KELBRAUT_REPORT with the subject, which the node lists from then on.
+ */
+#define KELBRAUT_CRASH 'C'   /* the node crashes; other: the node itself */
+#define KELBRAUT_DROPPED 'X' /* a message to the node, which has crashed, is dropped; other: the sender */
+#define KELBRAUT_EXPIRED 'W' /* the node's watch expires; other: the emitter that it lists */
+#define KELBRAUT_SENT 'S'    /* the node sends a heartbeat; other: its observer */
+#define KELBRAUT_END 'E'     /* none is left up to the end tick; tick: that tick, node: how many survive, other: how many
+                                messages are in flight, list: the crashed nodes */
+
+/*
+ * Opens a store from a run file. All bytes of the store are written, whatever they held. `line` is the first bad line,
+ * counted from 1; 0 where the answer is 0, 1 or 7.
+ * Answers 0, 1, then for the first bad line 2, 3, 4, 5 or 6, then 7, which here is about the store's length alone.
+ */
+uint64_t kelbraut_open(const uint8_t *file, size_t file_size, uint8_t *store, size_t store_size, uint64_t *line);
+
+/*
+ * Does the next event and writes its line at the start of the log part; the rest of that part stays. `letter`, `tick`,
+ * `node` and `other` are the line's, `size` is its length. Where no event is left, the line is that of KELBRAUT_END and
+ * the store stays. On 8 the store stays as well, so that the next step is refused again.
+ * Answers 0, 7, 9 or 8.
+ */
+uint64_t kelbraut_step(uint8_t *store, size_t store_size, uint8_t *log, size_t log_size, uint64_t *letter, uint64_t *tick,
+                       uint64_t *node, uint64_t *other, uint64_t *size);
+
+/*
+ * Does the next events, as many as `budget` says or as are left up to the end tick, and writes no lines. `events` is how
+ * many it did. `spent` is 1 where that is the budget and another event remains; 0 with answer 0 says that none is left.
+ * On 8 `events` is how many it did before the refused event, and the store is as just before that event. A call tests the
+ * whole store first, so that one run is far quicker than as many steps.
+ * Answers 0, 7 or 8.
+ */
+uint64_t kelbraut_run(uint8_t *store, size_t store_size, uint64_t budget, uint64_t *events, uint64_t *spent);
+
+/*
+ * Writes the store's run file at the start of a part, byte for byte as it was opened; the rest of that part stays. `size`
+ * is the file's length.
+ * Answers 0, 7 or 9.
+ */
+uint64_t kelbraut_write(const uint8_t *store, size_t store_size, uint8_t *part, size_t part_size, uint64_t *size);
 
 #ifdef __cplusplus
 }

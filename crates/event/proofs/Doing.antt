@@ -1,40 +1,43 @@
 -- Each event, as the code does it: the turn that its node takes fits the store, and what is left is what the definitions say. Assumes
 -- nothing.
-use Prim.Native.Nat.{ℕ, zero, suc, _+_, _-_, _*_, _^_, _≤_, _<_}
+use Prim.Native.Nat.{ℕ, zero, suc, _+_, _-_, _≤_, _<_}
 use mathlib.Core.Path.{_≡_, refl, sym, ap, ap₂, subst, _∙_}
-use mathlib.Core.Logic.{_⊎_, inl, inr, _≢_}
-use mathlib.Core.Bool.{Bool, true, false, cond, not, true≢false}
+use mathlib.Core.Logic.{inl, inr, _≢_}
+use mathlib.Core.Bool.{Bool, true, false, cond, not}
 use mathlib.Core.List.{List, [], _∷_, _++_, List·Memᴰ, List·Memᴰ·not-nil, List·Memᴰ·head, List·Memᴰ·tail}
 use mathlib.Core.Option.{Option, none, some}
 use native.Mathlib.Nat.{pow-le-pow-right}
 use native.Mathlib.Omega.{arith}
-use borrow.Author.Tests.{eq-eqb, ne-eqb}
-use lib.Dec.{eqb, lit<}
-use lib.ListN.{length, getD, take, drop, set, length-append, length-replicate, replicate}
+use borrow.Author.Tests.{ne-eqb}
+use lib.Dec.{lit<}
+use lib.ListN.{length, getD, take, length-append, length-replicate}
 use Rattle.ring.specs.Ring.{numbers, listed}
 use Rattle.ring.proofs.Rows.{take-numbers, length-numbers}
 use Rattle.node.specs.declared.Node.{Node}
 use Rattle.node.specs.declared.Message.{Message}
 use Rattle.node.specs.declared.Turned.{Turned}
-use Rattle.node.specs.Node.{Turn, R, mostSent, mostTick, silent, places, turned, onMessage, onWatchDue, onHeartbeatDue}
+use Rattle.ring.specs.Limits.{mostNodes, mostTick, mostInFlight}
+use Rattle.node.specs.Node.{Turn, R, mostSent, silent, places, turned, onMessage, onWatchDue, onHeartbeatDue}
 use Rattle.logline.specs.declared.Line.{Line}
-use Rattle.runfile.specs.Plan.{Plan, mostNodes, mostH, mostW, planTest}
-use Rattle.model.specs.Platform.{mostInFlight, InFlight, State, Event, Entry, crash, message, watch, heartbeat, alive, crashedList, nextEvent, nodeOf, messageAt, taken, without, received, apply, Outcome, did, refused, ended, tried, try, left}
-use Rattle.model.specs.Range.{Known, NodeRange, FlightRange, Plain, Accepted, Sound, rowAt}
-use Rattle.model.specs.Lines.{line, C, W, S, X, otherOf, messageLine, lineOf, lastLine}
+use Rattle.runfile.specs.Plan.{Plan, planTest}
+use Rattle.model.specs.Platform.{InFlight, State, Event, Entry, crash, message, watch, heartbeat, alive, crashedList, nextEvent, nodeOf, messageAt, taken, without, received, apply, tried, try, left}
+use Rattle.model.specs.Range.{Known, NodeRange, FlightRange, Plain, Sound}
+use Rattle.logline.specs.Line.{letterC as C, letterX as X, letterW as W, letterS as S}
+use Rattle.model.specs.Lines.{line, otherOf, messageLine, lineOf, lastLine}
 use Rattle.model.proofs.NextEvent.{Chosen}
 use Rattle.model.proofs.SettledNode.{crashed-listed}
 use Rattle.model.proofs.RulesInRange.{Sendable, Standing, Took, watch-took, beat-took}
 use Rattle.model.proofs.RangesKept.{at-mem, standing, received-took, not-early}
 use Rattle.store.specs.declared.Flight.{Flight}
-use Rattle.store.specs.Store.{Fits, Held, encode, planIn, stateIn, flying, withTick, crashed, withoutMessage}
+use Rattle.store.specs.Store.{encode, planIn, stateIn}
+use Rattle.store.specs.Inside.{SmallNode, Fits, Held, flying, withTick, crashed, withoutMessage, messageOf}
 use Rattle.store.proofs.Store.{plan-encode, state-encode, held-encode}
 use Rattle.store.proofs.States.{tick-fits, take-fits}
 use Rattle.event.specs.declared.Happened.{Happened}
 use Rattle.event.specs.declared.Happened.the-variants.{Did, Ended, Refused}
 use Rattle.event.specs.declared.Next.{Next}
 use Rattle.event.specs.declared.Next.the-variants.{Crash, Message as Delivery, Watch, Heartbeat, Nothing}
-use Rattle.event.specs.Event.{SmallNode, SmallMessage, Turns, entry, nextAt, nextOf, happened, turnOf, flown}
+use Rattle.event.specs.Event.{SmallMessage, Turns, entry, nextAt, nextOf, happened, NextIs, nextAnswer, storeLeft, turnOf, turnLeft}
 use Rattle.event.specs.Ready.{Ready}
 use Rattle.event.proofs.Fitting.{ranges}
 use Rattle.event.proofs.Readiness.{mostReached, ready-accepted, ready-sound, ready-next}
@@ -96,7 +99,7 @@ turns-of b t x u v is held plan tick place few room next node small =
       sends = λ z j h. rw is (small _ (getD-in (v .sends) _ z j (omega (arith, h))));
     }
 
-module _ (b : List ℕ) (r : Ready b) (t : ℕ) (ev : Event) (next : nextEvent (planIn b) (stateIn b) ≡ some (entry t ev)) where
+module _ (b : List ℕ) (r : Ready b) (t : ℕ) (ev : Event) (next : NextIs b t ev) where
   abbrev p : Plan
   p = planIn b
 
@@ -134,7 +137,7 @@ module _ (b : List ℕ) (r : Ready b) (t : ℕ) (ev : Event) (next : nextEvent (
 
 -- ---- a watch
 
-module _ (b : List ℕ) (r : Ready b) (t x : ℕ) (next : nextEvent (planIn b) (stateIn b) ≡ some (entry t (watch x))) where
+module _ (b : List ℕ) (r : Ready b) (t x : ℕ) (next : NextIs b t (watch x)) where
   pub watch-place : x < planIn b .n
   unfolding Chosen
   watch-place = rw (ready-sound b r .nodes) at (chosen b r t (watch x) next .0)
@@ -162,18 +165,18 @@ module _ (b : List ℕ) (r : Ready b) (t x : ℕ) (next : nextEvent (planIn b) (
     unfolding apply
     watch-by = refl
 
-    pub watch-refused : mostInFlight < length (stateIn b .flight) + u .count → (_≡_ {A = Happened} Refused (happened (planIn b) (stateIn b) (try (planIn b) (stateIn b)))) × (b ≡ encode (planIn b) (left (stateIn b) (try (planIn b) (stateIn b))))
+    pub watch-refused : mostInFlight < length (stateIn b .flight) + u .count → (_≡_ {A = Happened} Refused (nextAnswer b)) × (b ≡ storeLeft b)
     watch-refused h = refused-answer (planIn b) (stateIn b) b (r .held .canonical) (turn-refused (planIn b) (stateIn b) t (watch x) next x (stateIn b .flight) u _ is watch-by h)
 
-    pub watch-done : (b' : List ℕ) (a : Node) → a ≡ nodeOf (stateIn b) x → length (stateIn b .flight) + u .count ≤ mostInFlight → b' ≡ encode (planIn b) (taken (planIn b) (stateIn b) t x (stateIn b .flight) (turnOf u))
-        → (Did (line W t x (a .emitter) (u .node .list)) ≡ happened (planIn b) (stateIn b) (try (planIn b) (stateIn b))) × (b' ≡ encode (planIn b) (left (stateIn b) (try (planIn b) (stateIn b))))
+    pub watch-done : (b' : List ℕ) (a : Node) → a ≡ nodeOf (stateIn b) x → length (stateIn b .flight) + u .count ≤ mostInFlight → b' ≡ turnLeft b t x u
+        → (Did (line W t x (a .emitter) (u .node .list)) ≡ nextAnswer b) × (b' ≡ storeLeft b)
     unfolding lineOf turnOf
     watch-done b' a ae h e = did-answer (planIn b) (stateIn b) b' _ _ _ (turn-did (planIn b) (stateIn b) t (watch x) next x (stateIn b .flight) u _ is watch-by h) e
         (ap₂ (λ (n m : Node). line W t x (n .emitter) (m .list)) ae (sym (node-taken (planIn b) t x (stateIn b) (stateIn b .flight) (turnOf u) (rw (ready-sound b r .nodes) watch-place))))
 
 -- ---- a heartbeat
 
-module _ (b : List ℕ) (r : Ready b) (t x : ℕ) (next : nextEvent (planIn b) (stateIn b) ≡ some (entry t (heartbeat x))) where
+module _ (b : List ℕ) (r : Ready b) (t x : ℕ) (next : NextIs b t (heartbeat x)) where
   pub beat-place : x < planIn b .n
   unfolding Chosen
   beat-place = rw (ready-sound b r .nodes) at (chosen b r t (heartbeat x) next .0)
@@ -201,18 +204,18 @@ module _ (b : List ℕ) (r : Ready b) (t x : ℕ) (next : nextEvent (planIn b) (
     unfolding apply
     beat-by = refl
 
-    pub beat-refused : mostInFlight < length (stateIn b .flight) + u .count → (_≡_ {A = Happened} Refused (happened (planIn b) (stateIn b) (try (planIn b) (stateIn b)))) × (b ≡ encode (planIn b) (left (stateIn b) (try (planIn b) (stateIn b))))
+    pub beat-refused : mostInFlight < length (stateIn b .flight) + u .count → (_≡_ {A = Happened} Refused (nextAnswer b)) × (b ≡ storeLeft b)
     beat-refused h = refused-answer (planIn b) (stateIn b) b (r .held .canonical) (turn-refused (planIn b) (stateIn b) t (heartbeat x) next x (stateIn b .flight) u _ is beat-by h)
 
-    pub beat-done : (b' : List ℕ) (a : Node) → a ≡ nodeOf (stateIn b) x → length (stateIn b .flight) + u .count ≤ mostInFlight → b' ≡ encode (planIn b) (taken (planIn b) (stateIn b) t x (stateIn b .flight) (turnOf u))
-        → (Did (line S t x (a .observer) (u .node .list)) ≡ happened (planIn b) (stateIn b) (try (planIn b) (stateIn b))) × (b' ≡ encode (planIn b) (left (stateIn b) (try (planIn b) (stateIn b))))
+    pub beat-done : (b' : List ℕ) (a : Node) → a ≡ nodeOf (stateIn b) x → length (stateIn b .flight) + u .count ≤ mostInFlight → b' ≡ turnLeft b t x u
+        → (Did (line S t x (a .observer) (u .node .list)) ≡ nextAnswer b) × (b' ≡ storeLeft b)
     unfolding lineOf turnOf
     beat-done b' a ae h e = did-answer (planIn b) (stateIn b) b' _ _ _ (turn-did (planIn b) (stateIn b) t (heartbeat x) next x (stateIn b .flight) u _ is beat-by h) e
         (ap₂ (λ (n m : Node). line S t x (n .observer) (m .list)) ae (sym (node-taken (planIn b) t x (stateIn b) (stateIn b .flight) (turnOf u) (rw (ready-sound b r .nodes) beat-place))))
 
 -- ---- a crash
 
-module _ (b : List ℕ) (r : Ready b) (t k : ℕ) (next : nextEvent (planIn b) (stateIn b) ≡ some (entry t (crash k))) where
+module _ (b : List ℕ) (r : Ready b) (t k : ℕ) (next : NextIs b t (crash k)) where
   pub crash-place : k < planIn b .n
   unfolding Chosen
   crash-place = let ch = chosen b r t (crash k) next in rw (← ch .2) (ready-accepted b r .plain .node (stateIn b .done) (ch .0))
@@ -225,7 +228,7 @@ module _ (b : List ℕ) (r : Ready b) (t k : ℕ) (next : nextEvent (planIn b) (
     crash-held = rw e (held-encode (planIn b) (withTick (stateIn b) t) ticked)
 
     pub crash-done : (b' : List ℕ) (a : Node) → a ≡ nodeOf (stateIn b) k → b' ≡ encode (planIn c) (crashed (stateIn c))
-        → (Did (line C t k k (a .list)) ≡ happened (planIn b) (stateIn b) (try (planIn b) (stateIn b))) × (b' ≡ encode (planIn b) (left (stateIn b) (try (planIn b) (stateIn b))))
+        → (Did (line C t k k (a .list)) ≡ nextAnswer b) × (b' ≡ storeLeft b)
     unfolding lineOf apply withTick crashed
     crash-done b' a ae q = did-answer (planIn b) (stateIn b) b' _ _ _ (try-did (planIn b) (stateIn b) t (crash k) next (ready-sound b r .few))
         (q ∙ ap₂ (λ (p : Plan) (s : State). encode p (crashed s)) (ap planIn e ∙ plan-encode (planIn b) (withTick (stateIn b) t) ticked) (ap stateIn e ∙ state-encode (planIn b) (withTick (stateIn b) t) ticked))
@@ -240,7 +243,7 @@ length-less i [] h = absurd (omega arith)
 length-less zero (m ∷ ms) h = refl
 length-less (suc i) (m ∷ ms) h = ap suc (length-less i ms (omega arith))
 
-module _ (b : List ℕ) (r : Ready b) (t i : ℕ) (next : nextEvent (planIn b) (stateIn b) ≡ some (entry t (message i))) where
+module _ (b : List ℕ) (r : Ready b) (t i : ℕ) (next : NextIs b t (message i)) where
   pub message-here : i < length (stateIn b .flight)
   unfolding Chosen
   message-here = chosen b r t (message i) next .0
@@ -318,7 +321,7 @@ module _ (b : List ℕ) (r : Ready b) (t i : ℕ) (next : nextEvent (planIn b) (
       unfolding apply
       message-by = refl
 
-      pub message-refused : mostInFlight < length (stateIn b .flight) - 1 + u .count → (_≡_ {A = Happened} Refused (happened (planIn b) (stateIn b) (try (planIn b) (stateIn b)))) × (b ≡ encode (planIn b) (left (stateIn b) (try (planIn b) (stateIn b))))
+      pub message-refused : mostInFlight < length (stateIn b .flight) - 1 + u .count → (_≡_ {A = Happened} Refused (nextAnswer b)) × (b ≡ storeLeft b)
       message-refused h = refused-answer (planIn b) (stateIn b) b (r .held .canonical) (turn-refused (planIn b) (stateIn b) t (message i) next (M .to) (without i (stateIn b .flight)) u _ is message-by (omega (arith, h, length-less i (stateIn b .flight) message-here)))
 
       module _ (room : length (stateIn b .flight) - 1 + u .count ≤ mostInFlight) (c : List ℕ) (e : c ≡ encode (planIn b) (withoutMessage (stateIn b) i)) where
@@ -339,27 +342,27 @@ module _ (b : List ℕ) (r : Ready b) (t i : ℕ) (next : nextEvent (planIn b) (
         message-turns = turns-of c t (f .to) u _ is (rw e (held-encode (planIn b) (withoutMessage (stateIn b) i) rest-fits)) (ap planTest rest-plan ∙ r .plan) (event-tick b r t (message i) next) (rw rest-plan message-place) few (rw rest-state rest-room) (rw rest-state (ready-next b r)) (received-small .0) (received-small .1)
 
         pub message-done : (b' : List ℕ) → b' ≡ encode (planIn c) (taken (planIn c) (stateIn c) t (f .to) (stateIn c .flight) (turnOf u)) → (dead : ℕ) (l : Bool) → dead ≡ crashedList (planIn b) (stateIn b .done) → l ≡ listed dead (f .to)
-            → (x : Line) → x ≡ messageLine t (flown f) (not l) (u .node .list)
-            → (Did x ≡ happened (planIn b) (stateIn b) (try (planIn b) (stateIn b))) × (b' ≡ encode (planIn b) (left (stateIn b) (try (planIn b) (stateIn b))))
+            → (x : Line) → x ≡ messageLine t (messageOf f) (not l) (u .node .list)
+            → (Did x ≡ nextAnswer b) × (b' ≡ storeLeft b)
         unfolding lineOf turnOf taken withoutMessage
         message-done b' q dead l de le x xe = did-answer (planIn b) (stateIn b) b' _ _ _ (turn-did (planIn b) (stateIn b) t (message i) next (M .to) (without i (stateIn b .flight)) u _ is message-by rest-room)
             (q ∙ ap₂ (λ (p : Plan) (s : State). encode p (taken p s t (f .to) (s .flight) (turnOf u))) rest-plan rest-state ∙ ap (λ (k : ℕ). encode (planIn b) (taken (planIn b) (stateIn b) t k (without i (stateIn b .flight)) (turnOf u))) same-to)
             (xe
-            ∙ ap₂ (λ (g : InFlight) (y : Bool). messageLine t g y (u .node .list)) (ap flown fe) (not-dropped dead l de le)
+            ∙ ap₂ (λ (g : InFlight) (y : Bool). messageLine t g y (u .node .list)) (ap messageOf fe) (not-dropped dead l de le)
             ∙ ap (λ (n : Node). messageLine t M (alive (planIn b) (stateIn b .done) (M .to)) (n .list)) (sym (node-taken (planIn b) t (M .to) (stateIn b) (without i (stateIn b .flight)) (turnOf u) (rw (ready-sound b r .nodes) (flight-range .to)))))
 
 -- ---- a message's line
 
 module _ (t : ℕ) (m : Flight) (dropped : Bool) (d : ℕ) where
-  pub line-dropped : dropped ≡ true → line X t (m .to) (m .from) d ≡ messageLine t (flown m) (not dropped) d
+  pub line-dropped : dropped ≡ true → line X t (m .to) (m .from) d ≡ messageLine t (messageOf m) (not dropped) d
   unfolding messageLine
   line-dropped e = rw e
 
-  pub line-report : dropped ≡ false → m .kind ≡ R → line R t (m .to) (m .subject) d ≡ messageLine t (flown m) (not dropped) d
+  pub line-report : dropped ≡ false → m .kind ≡ R → line R t (m .to) (m .subject) d ≡ messageLine t (messageOf m) (not dropped) d
   unfolding messageLine otherOf
   line-report e h = rw (e, h)
 
-  pub line-other : dropped ≡ false → m .kind ≢ R → line (m .kind) t (m .to) (m .from) d ≡ messageLine t (flown m) (not dropped) d
+  pub line-other : dropped ≡ false → m .kind ≢ R → line (m .kind) t (m .to) (m .from) d ≡ messageLine t (messageOf m) (not dropped) d
   unfolding messageLine otherOf
   line-other e h = rw (e, ne-eqb (m .kind) R h)
 

@@ -1,17 +1,17 @@
 -- Which stores are ready for an event, what that gives, and that an event leaves a store ready. Assumes nothing.
-use Prim.Native.Nat.{ℕ, zero, suc, _+_, _*_, _^_, _≤_, _<_}
+use Prim.Native.Nat.{ℕ, _+_, _*_, _^_, _≤_, _<_}
 use mathlib.Core.Path.{_≡_, refl, sym, ap, _∙_}
-use mathlib.Core.Bool.{Bool, true, _&&_}
+use mathlib.Core.Bool.{true}
 use mathlib.Core.List.{List}
 use native.Mathlib.Omega.{arith}
 use borrow.Author.Tests.{eqb-true}
 use lib.Dec.{eqb}
 use lib.ListN.{length, getD}
 use Rattle.ring.specs.Ring.{numbers}
-use Rattle.runfile.specs.Plan.{Plan, mostNodes, mostEnd, planTest}
-use Rattle.runfile.proofs.Grown.{Ranges}
-use Rattle.model.specs.Platform.{State, start, try, left, steps, after}
-use Rattle.model.specs.Range.{mostNext, Plain, Accepted, Sound, InRange, storeTest}
+use Rattle.ring.specs.Limits.{mostTick, mostNext}
+use Rattle.runfile.specs.Plan.{Plan, planTest}
+use Rattle.model.specs.Platform.{State, start, try, left, steps}
+use Rattle.model.specs.Range.{Plain, Accepted, Sound, InRange, storeTest}
 use Rattle.model.proofs.Bools.{and-split}
 use Rattle.model.proofs.Plans.{accepted, number-order}
 use Rattle.model.proofs.Tests.{test-store}
@@ -19,10 +19,12 @@ use Rattle.model.proofs.RangesKept.{start-range, steps-range}
 use Rattle.model.proofs.NextNumber.{perTick, next-bound}
 use Rattle.model.proofs.Calls.{steps-add}
 use Rattle.store.specs.Columns.{roomTest, unusedTest}
-use Rattle.store.specs.Store.{storeSize, columns, encode, planIn, stateIn, Sized, Fits, Held, storeInRange}
+use Rattle.store.specs.Store.{storeSize, columns, encode, planIn, stateIn, storeInRange}
+use Rattle.store.specs.Inside.{Sized, Fits, Held}
 use Rattle.store.proofs.Store.{plan-encode, state-encode, held-encode, held-read}
+use Rattle.event.specs.Event.{nextOutcome, storeLeft}
 use Rattle.event.specs.Ready.{Ready}
-use Rattle.event.proofs.Fitting.{ranges, sound-fits}
+use Rattle.event.proofs.Fitting.{sound-fits}
 
 -- what a store's readers ask for
 pub held-sized : (b : List ℕ) → Held b → Sized b
@@ -32,7 +34,7 @@ held-sized b h = record { size = h .size; counts = h .fits .counts }
 
 -- the most that the next number of a ready store is
 abbrev pub mostReached : ℕ
-mostReached = mostNext + perTick * (mostEnd + 1)
+mostReached = mostNext + perTick * (mostTick + 1)
 
 module _ (b : List ℕ) (r : Ready b) where
   pub ready-accepted : Accepted (planIn b)
@@ -44,8 +46,12 @@ module _ (b : List ℕ) (r : Ready b) where
   pub ready-next : stateIn b .next ≤ mostReached
   ready-next = rw (r .is) (bound (next-bound (planIn b) (ready-accepted .plain) mostNext (r .from) (r .inRange .sound) (r .inRange .cap) (r .tries)) (ready-accepted .plain .end≤))
     where
-      bound : {a c : ℕ} → a ≤ mostNext + perTick * (c + 1) → c ≤ mostEnd → a ≤ mostReached
+      bound : {a c : ℕ} → a ≤ mostNext + perTick * (c + 1) → c ≤ mostTick → a ≤ mostReached
       bound h e = omega arith
+
+  -- what the list of its crashed nodes asks for
+  pub ready-crashes : Sized b × ((planTest (planIn b) ≡ true) × (stateIn b .done ≤ length (planIn b .crashes)))
+  ready-crashes = (held-sized b (r .held), (r .plan, ready-sound .done))
 
 -- ---- which stores are ready
 
@@ -59,7 +65,7 @@ module _ (p : Plan) (order : p .order ≡ numbers 0 (p .n)) (good : planTest p �
       sound-fits p good (steps p k s) (steps-range p plain k s (r .sound))
       (room (next-bound p plain mostNext s (r .sound) (r .cap) k) (plain .end≤)) order
     where
-      room : {a c : ℕ} → a ≤ mostNext + perTick * (c + 1) → c ≤ mostEnd → a < 256 ^ 8
+      room : {a c : ℕ} → a ≤ mostNext + perTick * (c + 1) → c ≤ mostTick → a < 256 ^ 8
       room h e = omega arith
 
   -- and is ready
@@ -93,20 +99,20 @@ tested-ready b byte h =
     }
 
 -- what an event leaves
-pub left-ready : (b b' : List ℕ) → Ready b → b' ≡ encode (planIn b) (left (stateIn b) (try (planIn b) (stateIn b))) → Ready b'
+pub left-ready : (b b' : List ℕ) → Ready b → b' ≡ storeLeft b → Ready b'
 unfolding steps
 left-ready b b' r e = rw (e, next) (steps-ready (planIn b) (r .held .fits .order) (r .plan) (r .from) (r .inRange) (r .tries + 1))
   where
-    next : left (stateIn b) (try (planIn b) (stateIn b)) ≡ steps (planIn b) (r .tries + 1) (r .from)
+    next : left (stateIn b) (nextOutcome b) ≡ steps (planIn b) (r .tries + 1) (r .from)
     next = ap (λ (s : State). left s (try (planIn b) s)) (r .is) ∙ sym (steps-add (planIn b) (r .tries) 1 (r .from))
 
 -- and what it leaves holds the same plan and the state after it
-pub left-holds : (b b' : List ℕ) → Ready b → b' ≡ encode (planIn b) (left (stateIn b) (try (planIn b) (stateIn b))) → (planIn b' ≡ planIn b) × (stateIn b' ≡ left (stateIn b) (try (planIn b) (stateIn b)))
+pub left-holds : (b b' : List ℕ) → Ready b → b' ≡ storeLeft b → (planIn b' ≡ planIn b) × (stateIn b' ≡ left (stateIn b) (nextOutcome b))
 unfolding steps
 left-holds b b' r e = rw e (plan-encode (planIn b) _ fits, state-encode (planIn b) _ fits)
   where
-    next : left (stateIn b) (try (planIn b) (stateIn b)) ≡ steps (planIn b) (r .tries + 1) (r .from)
+    next : left (stateIn b) (nextOutcome b) ≡ steps (planIn b) (r .tries + 1) (r .from)
     next = ap (λ (s : State). left s (try (planIn b) s)) (r .is) ∙ sym (steps-add (planIn b) (r .tries) 1 (r .from))
 
-    fits : Fits (planIn b) (left (stateIn b) (try (planIn b) (stateIn b)))
+    fits : Fits (planIn b) (left (stateIn b) (nextOutcome b))
     fits = rw next (steps-fit (planIn b) (r .held .fits .order) (r .plan) (r .from) (r .inRange) (r .tries + 1))

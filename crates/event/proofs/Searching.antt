@@ -9,24 +9,23 @@ use mathlib.Core.Option.{Option, none, some}
 use native.Mathlib.Numerals.{add-one}
 use native.Mathlib.Omega.{arith}
 use native.Mathlib.Decide.{decLt}
-use borrow.Author.Tests.{lt-ltb, le-ltb, le-leb, lt-leb, eq-eqb, ne-eqb, ltb-true, ltb-false, leb-true, leb-false}
-use lib.Dec.{eqb, leb, ltb}
-use lib.ListN.{length, getD, take, drop, length-drop, drop-of-length-le}
+use borrow.Author.Tests.{lt-ltb, le-ltb, le-leb, lt-leb, eq-eqb, ne-eqb}
+use lib.Dec.{eqb, leb}
+use lib.ListN.{length, getD, drop, length-drop, drop-of-length-le}
 use lib.Seq.{drop-cons, getD-drop}
-use Rattle.ring.specs.Ring.{listed, listing, keep, unlisted, count, numbers}
+use Rattle.ring.specs.Ring.{listed, unlisted, count, numbers}
 use Rattle.node.specs.declared.Node.{Node}
 use Rattle.node.specs.Node.{alone}
 use Rattle.runfile.specs.Plan.{Crash, Plan}
-use Rattle.model.specs.Platform.{InFlight, State, Event, Entry, crash, message, watch, heartbeat, alive, survivors, withCrashed, crashedList, crashEntries, messageEntries, timerEntry, timerEntries, pending, earlier, first, upTo, nextEvent, nodeOf, noMessage, messageAt}
+use Rattle.model.specs.Platform.{InFlight, State, Event, Entry, crash, message, watch, heartbeat, alive, survivors, crashedList, crashEntries, messageEntries, timerEntry, timerEntries, pending, earlier, first, upTo, nextEvent, noMessage}
 use Rattle.model.specs.Range.{noCrash, rowAt, Plain, Accepted}
 use Rattle.model.proofs.NextEvent.{Under, crashes-in}
 use Rattle.model.proofs.Search.{first-tick, at-tick}
 use Rattle.model.proofs.Search as search
 use Rattle.model.proofs.EventSteps.{keep-ext}
 use Rattle.model.proofs.SettledNode.{crashed-listed}
-use Rattle.event.specs.declared.Next.{Next}
 use Rattle.event.specs.declared.Next.the-variants.{Nothing}
-use Rattle.event.specs.Event.{nextOf, nextAt, entry}
+use Rattle.event.specs.Event.{nextOf, entry}
 use Rattle.event.specs.Search.{sooner, leastTick, timerTick, firstAt}
 
 -- ---- the earliest tick
@@ -131,17 +130,7 @@ none-left p s t e h = go (first (pending p s)) (under-first t (pending p s) (λ 
     go none u = refl
     go (some f) u = rw (lt-leb (f .tick) (p .end) (omega arith))
 
--- ---- the crashed nodes, row by row
-
-crashed-more : (d : ℕ) (rows : List Crash) (i : ℕ) → i < length rows → withCrashed d (take (suc i) rows) ≡ listing (withCrashed d (take i rows)) ((getD rows i noCrash) .node)
-unfolding withCrashed
-crashed-more d [] i h = absurd (omega arith)
-crashed-more d (r ∷ rs) zero h = refl
-crashed-more d (r ∷ rs) (suc i) h = crashed-more (listing d (r .node)) rs i (omega arith)
-
-pub crashed-next : (p : Plan) (i : ℕ) → i < length (p .crashes) → crashedList p (i + 1) ≡ listing (crashedList p i) ((rowAt p i) .node)
-unfolding crashedList
-crashed-next p i h = rw (add-one i) (crashed-more 0 (p .crashes) i h)
+-- ---- the crashed nodes
 
 -- how many survive, by the crashed list
 pub survivors-count : (p : Plan) → Accepted p → (done : ℕ) → survivors p done ≡ count (p .n) (crashedList p done)

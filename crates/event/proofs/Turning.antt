@@ -1,16 +1,15 @@
 -- What a turn of a node writes, and what each event leaves. Assumes nothing.
 use Prim.Native.Nat.{ℕ, zero, suc, _+_, _-_, _*_, _^_, _≤_, _<_}
 use mathlib.Core.Path.{_≡_, refl, sym, ap, ap₂, _∙_}
-use mathlib.Core.Logic.{_⊎_, inl, inr, _≢_}
-use mathlib.Core.Bool.{Bool, true, false, cond, not, _||_}
+use mathlib.Core.Bool.{Bool, true, false, cond, _||_}
 use mathlib.Core.List.{List, [], _∷_, _++_, append-nil, append-assoc}
-use mathlib.Core.Option.{Option, none, some}
+use mathlib.Core.Option.{some}
 use native.Mathlib.Nat.{add-zero}
 use native.Mathlib.Numerals.{add-one}
 use native.Mathlib.Omega.{arith}
 use borrow.Author.Tests.{le-leb, lt-leb}
-use lib.Dec.{eqb, leb}
-use lib.ListN.{length, getD, take, drop, set, length-append, length-take, length-map}
+use lib.Dec.{eqb}
+use lib.ListN.{length, getD, take, length-append, length-take, length-map}
 use lib.Seq.{getD-set-same}
 use Rattle.ring.specs.Ring.{listed, listing, place, back, targets}
 use Rattle.ring.proofs.Counts.{targets-few}
@@ -19,19 +18,21 @@ use Rattle.node.specs.declared.Message.{Message}
 use Rattle.node.specs.declared.Turned.{Turned}
 use Rattle.node.specs.Node.{Turn, H, O, mostSent, due, silent, alone, reports, places, turned, onHeartbeat, onObserver, onReport, onMessage, onWatchDue, onHeartbeatDue}
 use Rattle.logline.specs.declared.Line.{Line}
-use Rattle.runfile.specs.Plan.{Plan, mostNodes, planTest}
-use Rattle.model.specs.Platform.{mostInFlight, InFlight, State, Event, Entry, crash, message, watch, heartbeat, alive, delayOf, nextEvent, numbered, nodeOf, messageAt, noMessage, taken, without, received, apply, fits, Outcome, did, ended, refused, tried, try, left}
-use Rattle.model.specs.Range.{Plain, Accepted, Sound}
+use Rattle.ring.specs.Limits.{mostNodes, mostInFlight}
+use Rattle.runfile.specs.Plan.{Plan, planTest}
+use Rattle.model.specs.Platform.{InFlight, State, Event, Entry, watch, heartbeat, alive, delayOf, nextEvent, numbered, nodeOf, taken, received, apply, fits, did, refused, tried, try, left}
+use Rattle.model.specs.Range.{Plain}
 use Rattle.model.proofs.NextEvent.{Chosen, Best, best}
 use Rattle.model.specs.Lines.{lineOf}
 use Rattle.model.proofs.Plans.{accepted}
 use Rattle.model.proofs.RangesKept.{delay-ok}
-use Rattle.store.specs.Store.{Fits, Held, encode, planIn, stateIn, sent, withTick, withNode}
+use Rattle.store.specs.Store.{encode, planIn, stateIn}
+use Rattle.store.specs.Inside.{Fits, Held, sent, withTick, withNode}
 use Rattle.store.proofs.Store.{plan-encode, state-encode, held-encode}
 use Rattle.store.proofs.States.{tick-fits, node-fits, send-fits}
 use Rattle.event.specs.declared.Happened.{Happened}
 use Rattle.event.specs.declared.Happened.the-variants.{Did, Refused}
-use Rattle.event.specs.Event.{SmallMessage, Turns, entry, happened, sending, turnOf}
+use Rattle.event.specs.Event.{SmallMessage, Turns, entry, happened, sending, sendsLeft, turnOf, turnLeft}
 use Rattle.event.proofs.Fitting.{ranges}
 
 -- ---- messages sent one after another
@@ -271,7 +272,7 @@ module _ (b : List ℕ) (t x : ℕ) (u : Turned) (r : Turns b t x u) where
 
       moved-fit : Fits (planIn b) Moved
       unfolding withTick
-      moved-fit = node-fits (planIn b) Ticked tick-fit x (u .node) (rw (r .held .fits .nodes) (r .place)) (record { emitter = r .node .emitter; observer = r .node .observer; watch = r .node .watch; heartbeat = r .node .heartbeat; list = r .node .list })
+      moved-fit = node-fits (planIn b) Ticked tick-fit x (u .node) (rw (r .held .fits .nodes) (r .place)) (r .node)
 
       moved-plan : planIn d ≡ planIn b
       moved-plan = ap planIn moved-is ∙ plan-encode (planIn b) Moved moved-fit
@@ -294,5 +295,5 @@ module _ (b : List ℕ) (t x : ℕ) (u : Turned) (r : Turns b t x u) where
         sends = r .sends;
       }
 
-      pub turn-taken : (f : List ℕ) → f ≡ encode (planIn d) (sending (planIn d) (stateIn d) t x (take (u .count) (u .sent))) → f ≡ encode (planIn b) (taken (planIn b) (stateIn b) t x (stateIn b .flight) (turnOf u))
+      pub turn-taken : (f : List ℕ) → f ≡ sendsLeft d t x u → f ≡ turnLeft b t x u
       turn-taken f q = q ∙ ap₂ (λ (p : Plan) (s : State). encode p (sending p s t x (take (u .count) (u .sent)))) moved-plan moved-state ∙ ap (encode (planIn b)) (turn-parts (planIn b) t x (stateIn b) u)

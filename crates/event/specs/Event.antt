@@ -7,14 +7,14 @@ use mathlib.Core.Path.{_≡_}
 use Prim.Native.Nat.{ℕ, _+_, _^_, _≤_, _<_}
 use lib.ListN.{length, getD, take}
 use Rattle.node.specs.declared.Message.{Message}
-use Rattle.node.specs.declared.Node.{Node}
 use Rattle.node.specs.declared.Turned.{Turned}
-use Rattle.node.specs.Node.{Turn, mostSent, mostTick}
+use Rattle.ring.specs.Limits.{mostTick, mostInFlight}
+use Rattle.node.specs.Node.{Turn, mostSent}
 use Rattle.runfile.specs.Plan.{Plan, planTest}
-use Rattle.model.specs.Platform.{InFlight, State, Event, Entry, Outcome, crash, message, watch, heartbeat, did, ended, refused, mostInFlight, numbered}
+use Rattle.model.specs.Platform.{State, Event, Entry, Outcome, crash, message, watch, heartbeat, did, ended, refused, numbered, nextEvent, taken, try, left}
 use Rattle.model.specs.Lines.{lineOf, lastLine}
-use Rattle.store.specs.Store.{Held, planIn, stateIn}
-use Rattle.store.specs.declared.Flight.{Flight}
+use Rattle.store.specs.Store.{encode, planIn, stateIn}
+use Rattle.store.specs.Inside.{Held, SmallNode}
 use Rattle.event.specs.declared.Next.{Next}
 use Rattle.event.specs.declared.Next.the-variants.{Crash, Message as Delivery, Watch, Heartbeat, Nothing}
 use Rattle.event.specs.declared.Happened.{Happened}
@@ -43,6 +43,20 @@ happened p s (did e s') = Did (lineOf p s s' (e .tick) (e .event))
 happened p s ended = Ended (lastLine p s)
 happened p s refused = Refused
 
+-- ---- the next try of a store: its event, what it leads to, what the code answers of it, and the store that it leaves
+
+abbrev pub NextIs : List ℕ → ℕ → Event → Type 0
+NextIs b t e = nextEvent (planIn b) (stateIn b) ≡ some (entry t e)
+
+abbrev pub nextOutcome : List ℕ → Outcome
+nextOutcome b = try (planIn b) (stateIn b)
+
+abbrev pub nextAnswer : List ℕ → Happened
+nextAnswer b = happened (planIn b) (stateIn b) (nextOutcome b)
+
+abbrev pub storeLeft : List ℕ → List ℕ
+storeLeft b = encode (planIn b) (left (stateIn b) (nextOutcome b))
+
 -- ---- a turn as the code hands it over
 
 unfoldable pub turnOf : Turned → Turn
@@ -58,19 +72,18 @@ sending p s t x ms = record {
   flight = s .flight ++ numbered p t x (s .next) ms;
 }
 
--- a node whose numbers fit their fields
-pub record SmallNode (a : Node) : Type 0 where
-  pub emitter : a .emitter < 256
-  pub observer : a .observer < 256
-  pub watch : a .watch < 256 ^ 4
-  pub heartbeat : a .heartbeat < 256 ^ 4
-  pub list : a .list < 256 ^ 8
-
 -- a message whose numbers fit their fields
 pub record SmallMessage (m : Message) : Type 0 where
   pub kind : m .kind < 256
   pub to : m .to < 256
   pub subject : m .subject < 256
+
+-- the store after node x has sent the messages of its turn u at tick t, and after the whole turn
+abbrev pub sendsLeft : List ℕ → ℕ → ℕ → Turned → List ℕ
+sendsLeft b t x u = encode (planIn b) (sending (planIn b) (stateIn b) t x (take (u .count) (u .sent)))
+
+abbrev pub turnLeft : List ℕ → ℕ → ℕ → Turned → List ℕ
+turnLeft b t x u = encode (planIn b) (taken (planIn b) (stateIn b) t x (stateIn b .flight) (turnOf u))
 
 -- node x of a store may take the turn u at tick t: its numbers fit their fields, and the limits hold after it
 pub record Turns (b : List ℕ) (t x : ℕ) (u : Turned) : Type 0 where
@@ -84,7 +97,3 @@ pub record Turns (b : List ℕ) (t x : ℕ) (u : Turned) : Type 0 where
   pub number : stateIn b .next + u .count < 256 ^ 8
   pub node : SmallNode (u .node)
   pub sends : (z : Message) (j : ℕ) → j < u .count → SmallMessage (getD (u .sent) j z)
-
--- a message in flight as the code answers it
-abbrev pub flown : Flight → InFlight
-flown f = record { number = f .number; kind = f .kind; from = f .from; to = f .to; subject = f .subject; due = f .due }

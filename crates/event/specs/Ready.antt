@@ -6,7 +6,8 @@ use Prim.Native.Nat.{ℕ}
 use Rattle.runfile.specs.Plan.{planTest}
 use Rattle.model.specs.Platform.{State, steps}
 use Rattle.model.specs.Range.{InRange}
-use Rattle.store.specs.Store.{Held, planIn, stateIn}
+use Rattle.store.specs.Store.{planIn, stateIn}
+use Rattle.store.specs.Inside.{Held}
 
 -- The bytes are a store, a run file may hold its plan, and its state is what some number of tries leave of a state in range. So no
 -- range has to be tested again, and the next message number is far below what its field holds: a tick adds no more than so many.

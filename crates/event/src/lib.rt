@@ -1,13 +1,11 @@
 // One event of the platform, done in place on the bytes of a store. It asks for a store that opening, steps and runs lead to, and makes
 // no test of the whole store.
-mod search; // search.rt: the next event
+pub mod search; // search.rt: the next event
 mod turn; // turn.rt: what an event writes
 
 use logline::Line;
 ghost use mathlib.Core.Path.{_≡_};
-ghost use Rattle.model.specs.Platform.{try, left};
-ghost use Rattle.store.specs.Store.{encode, planIn, stateIn};
-ghost use Rattle.event.specs.Event.{happened};
+ghost use Rattle.event.specs.Event.{nextAnswer, storeLeft};
 ghost use Rattle.event.specs.Ready.{Ready};
 
 // The next event: its tick, and the node that crashes, the place of the message, or the node whose timer it is.
@@ -30,7 +28,7 @@ pub enum Happened {
 // The next event is done, if there is one.
 pub fn do_event(s: &mut [u8]) -> Happened
     requires { ⌜ Ready (now s) ⌝ }
-    ensures { λ r. ⌜ (r ≡ happened (planIn (now (s .entry))) (stateIn (now (s .entry))) (try (planIn (now (s .entry))) (stateIn (now (s .entry))))) × (now (s .exit) ≡ encode (planIn (now (s .entry))) (left (stateIn (now (s .entry))) (try (planIn (now (s .entry))) (stateIn (now (s .entry)))))) ⌝ }
+    ensures { λ r. ⌜ (r ≡ nextAnswer (now (s .entry))) × (now (s .exit) ≡ storeLeft (now (s .entry))) ⌝ }
 {
     match search::next_event(s) {
         Next::Crash(t, k) => turn::do_crash(s, t, k),

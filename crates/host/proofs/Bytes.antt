@@ -5,7 +5,7 @@ use Prim.Native.Nat.{ℕ, _+_, _-_}
 use native.Mathlib.Omega.{arith}
 use lib.ListN.{length, drop, length-append, length-replicate, drop-of-length-le}
 use lib.Seq.{sets, sets-eq, length-sets, take-at}
-use Rattle.fields.specs.Fields.{bytes, putAt, cleared, zeros}
+use Rattle.fields.specs.Fields.{putAt, cleared}
 use Rattle.fields.proofs.Bytes.{length-bytes}
 use Rattle.fields.proofs.Fields.{put-then, sets-append}
 use Rattle.node.specs.declared.Node.{Node}

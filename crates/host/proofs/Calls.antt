@@ -7,10 +7,11 @@ use native.Mathlib.Omega.{arith}
 use borrow.Author.Tests.{eq-eqb, ne-eqb, le-leb, lt-leb, eqb-true}
 use lib.Dec.{eqb}
 use lib.ListN.{length, take}
-use Rattle.ring.specs.Ring.{mostNodes, numbers, outOfRange}
+use Rattle.ring.specs.Limits.{mostNodes, mostH, mostW, mostTick}
+use Rattle.ring.specs.Ring.{numbers, outOfRange}
 use Rattle.ring.proofs.Rows.{length-numbers}
 use Rattle.node.specs.declared.Turned.{Turned}
-use Rattle.node.specs.Node.{Turn, mostH, mostW, mostTick, mostSent, R, turned, onWatchDue, onHeartbeatDue, silent}
+use Rattle.node.specs.Node.{Turn, mostSent, R, turned, onWatchDue, onHeartbeatDue, silent}
 use Rattle.node.proofs.Messages.{turned-count, turned-sends}
 use Rattle.node.proofs.Rules.{message-few, watch-few}
 use Rattle.host.specs.declared.Record.{Record}

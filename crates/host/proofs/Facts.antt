@@ -9,8 +9,9 @@ use lib.Dec.{eqb, leb, ltb}
 use lib.ListN.{length}
 use lib.Seq.{slice}
 use Rattle.fields.specs.Fields.{zeros}
-use Rattle.ring.specs.Ring.{mostNodes, listed}
-use Rattle.node.specs.Node.{mostH, mostW, mostTick, due, H, O, R}
+use Rattle.ring.specs.Limits.{mostNodes, mostH, mostW, mostTick}
+use Rattle.ring.specs.Ring.{listed}
+use Rattle.node.specs.Node.{due, H, O, R}
 use Rattle.host.specs.declared.Record.{Record}
 use Rattle.host.specs.Record.{recordSize, spareFrom, decode, openable, neighboursInRange, apart, timersInRange, inRange, sound}
 use Rattle.host.specs.Call.{tickTaken, otherNode, messageTaken, accepted, answer}

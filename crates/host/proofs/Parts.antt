@@ -11,7 +11,7 @@ use Rattle.fields.specs.Fields.{putAt, cleared}
 use Rattle.fields.proofs.Bytes.{length-bytes}
 use Rattle.fields.proofs.Fields.{put-then, sets-append}
 use Rattle.node.specs.declared.Message.{Message}
-use Rattle.node.specs.Node.{mostSent, message}
+use Rattle.node.specs.Node.{mostSent}
 use Rattle.host.specs.Call.{messageSize, partSize, messageBytes, sentBytes, putMessages}
 
 pub length-message : (sender : ℕ) (m : Message) → length (messageBytes sender m) ≡ messageSize

@@ -1,28 +1,22 @@
 -- What the code's tests answer is what the definitions say. Assumes nothing.
 use mathlib.Core.Path.{_≡_, refl, sym, ap, _∙_}
-use mathlib.Core.Bool.{Bool, true, false, cond, not, _&&_, _||_}
+use mathlib.Core.Bool.{Bool, true, false, cond, _&&_, _||_}
 use Prim.Native.Nat.{ℕ, suc, _+_, _-_, _^_, _≤_, _<_}
 use native.Mathlib.Numerals.{add-one}
 use native.Mathlib.Omega.{arith}
-use borrow.Author.Tests.{ne-eqb, lt-ltb, le-ltb, le-leb, lt-leb, not-true, not-false}
+use borrow.Author.Tests.{ne-eqb, lt-ltb, le-ltb, le-leb, lt-leb}
 use mathlib.Core.List.{List}
 use lib.Dec.{eqb, leb, ltb}
 use lib.ListN.{length, take}
 use Rattle.ring.proofs.Rows.{length-numbers}
 use Rattle.ring.proofs.Rows.{take-numbers}
 use lib.Pow.{pow-pos}
-use Rattle.ring.specs.Ring.{mostNodes, numbers}
+use Rattle.ring.specs.Limits.{mostNodes}
+use Rattle.ring.specs.Ring.{numbers}
 use Rattle.node.specs.Node.{H, O, R, onMessage}
 use Rattle.host.specs.declared.Record.{Record}
 use Rattle.host.specs.Call.{otherNode, messageTaken, delivered, dueBy}
 use Rattle.host.proofs.Facts.{Kind, heartbeat, observer, report}
-
--- a call's answer that was tested
-pub fails : {b d : Bool} → b ≡ d → not b ≡ true → d ≡ false
-fails {b} e h = sym e ∙ not-true b h
-
-pub holds : {b d : Bool} → b ≡ d → not b ≡ false → d ≡ true
-holds {b} e h = sym e ∙ not-false b h
 
 -- ---- a dead list of n nodes, by the set of all
 

@@ -16,7 +16,8 @@ use Rattle.ring.proofs.Lists.{listed-listing, listing-lt}
 use Rattle.ring.proofs.Orders.{numbers-in}
 use Rattle.ring.proofs.Targets.{ahead-below, ahead-differ}
 use Rattle.ring.proofs.Neighbours.{back-ahead, ahead-itself, count-some, next-ahead, back-below}
-use Rattle.node.specs.Node.{mostTick, due, O, R, silent, sending, alone, withWatch, withList, reports, message, opening, onMessage, onHeartbeat, onObserver, onReport, onHeartbeatDue, onWatchDue}
+use Rattle.ring.specs.Limits.{mostTick}
+use Rattle.node.specs.Node.{due, O, R, silent, sending, alone, withWatch, withList, reports, message, opening, onMessage, onHeartbeat, onObserver, onReport, onHeartbeatDue, onWatchDue}
 use Rattle.host.specs.declared.Record.{Record}
 use Rattle.host.specs.Record.{openable}
 use Rattle.host.specs.Call.{moved, openedRecord, delivered, dueBy, fired}

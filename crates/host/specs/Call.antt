@@ -9,7 +9,8 @@ use Rattle.fields.specs.Fields.{bytes}
 use Rattle.ring.specs.Ring.{numbers, outOfRange}
 use Rattle.node.specs.declared.Message.{Message}
 use Rattle.node.specs.declared.Node.{Node}
-use Rattle.node.specs.Node.{Turn, mostTick, mostSent, off, due, H, O, R, silent, opening, onMessage, onHeartbeatDue, onWatchDue}
+use Rattle.ring.specs.Limits.{mostTick}
+use Rattle.node.specs.Node.{Turn, mostSent, off, due, H, O, R, silent, opening, onMessage, onHeartbeatDue, onWatchDue}
 use Rattle.host.specs.declared.Record.{Record}
 use Rattle.host.specs.Record.{recordSize, encode, decode, openable, sound}
 

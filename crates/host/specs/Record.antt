@@ -7,9 +7,10 @@ use lib.Dec.{eqb, leb, ltb}
 use lib.ListN.{length, replicate}
 use lib.Seq.{slice}
 use Rattle.fields.specs.Fields.{bytes, fieldAt, zeros}
-use Rattle.ring.specs.Ring.{mostNodes, listed}
+use Rattle.ring.specs.Limits.{mostNodes, mostH, mostW, mostTick}
+use Rattle.ring.specs.Ring.{listed}
 use Rattle.node.specs.declared.Node.{Node}
-use Rattle.node.specs.Node.{mostH, mostW, mostTick, off, due}
+use Rattle.node.specs.Node.{off, due}
 use Rattle.host.specs.declared.Record.{Record}
 
 -- ---- bytes

@@ -9,8 +9,8 @@ ghost use Prim.Native.Nat.{_+_, _≤_, _<_};
 ghost use lib.Dec.{eqb};
 ghost use lib.ListN.{length, take};
 ghost use lib.Seq.{sets};
-ghost use Rattle.ring.specs.Ring.{mostNodes};
-ghost use Rattle.node.specs.Node.{mostH, mostW, mostTick, mostSent, turned, R};
+ghost use Rattle.ring.specs.Limits.{mostNodes, mostH, mostW, mostTick};
+ghost use Rattle.node.specs.Node.{mostSent, turned, R};
 ghost use Rattle.host.specs.Record.{recordSize, encode, numbersBytes, neighboursBytes, ticksBytes, decode, openable, neighboursInRange, apart, timersInRange, inRange, sound};
 ghost use Rattle.host.specs.Call.{tickTaken, otherNode, messageTaken, messageSize, partSize, messageBytes, putMessages, moved, openAnswer, openedRecord, openLeaves, delivered, deliverAnswer, deliverLeaves, deliverSends, dueBy, fired, timersAnswer, timersLeaves, timersSends};
 

@@ -9,7 +9,8 @@ use native.Mathlib.Nat.{zero-add}
 use native.Mathlib.Omega.{arith}
 use lib.Dec.{ltb}
 use Rattle.runfile.specs.Plan.{Plan}
-use Rattle.model.specs.Platform.{lineRoom, State, Entry, Outcome, did, ended, refused, nextEvent, spent, finished, overfull, runAnswer, try, left, steps, eventCount, after, start, Call, step, run, asks, asked, events, called, calls}
+use Rattle.ring.specs.Limits.{lineRoom}
+use Rattle.model.specs.Platform.{State, Entry, Outcome, did, ended, refused, nextEvent, spent, finished, overfull, runAnswer, try, left, steps, eventCount, after, start, Call, step, run, asks, asked, events, called, calls}
 
 module _ (p : Plan) where
   -- where no event is done, none ever is

@@ -13,9 +13,10 @@ use Rattle.ring.proofs.Counts.{targets-few}
 use Rattle.node.specs.declared.Node.{Node}
 use Rattle.node.specs.declared.Message.{Message}
 use Rattle.node.specs.Node.{H, O, Turn, silent, alone, due, reports, onHeartbeat, onObserver, onReport, onMessage, onWatchDue, onHeartbeatDue}
-use Rattle.runfile.specs.Plan.{Plan, mostNodes}
-use Rattle.model.specs.Platform.{mostInFlight, InFlight, State, Event, crash, message, watch, heartbeat, alive, delayOf, start, numbered, nodeOf, taken, noMessage, messageAt, without, received, apply, Outcome, try, left, steps, after}
-use Rattle.model.specs.Range.{mostNext, Plain, Sound}
+use Rattle.ring.specs.Limits.{mostNodes, mostInFlight, mostNext}
+use Rattle.runfile.specs.Plan.{Plan}
+use Rattle.model.specs.Platform.{InFlight, State, Event, crash, message, watch, heartbeat, alive, delayOf, start, numbered, nodeOf, taken, noMessage, messageAt, without, received, apply, Outcome, try, left, steps, after}
+use Rattle.model.specs.Range.{Plain, Sound}
 use Rattle.model.proofs.NextEvent.{Chosen}
 use Rattle.model.proofs.RangesKept.{delay-ok, Tried, happened, none-left, too-many, try-ok, left-range, start-range, steps-range, at-mem, in-n}
 

@@ -10,7 +10,8 @@ use lib.Dec.{eqb, leb, ltb}
 use lib.ListN.{length, getD}
 use Rattle.ring.specs.Ring.{numbers, InOrder}
 use Rattle.ring.proofs.Orders.{numbers-in}
-use Rattle.runfile.specs.Plan.{Crash, Delay, Plan, mostNodes, mostH, mostW, mostD, mostEnd, mostNumber, within, startRanges, longEnough, crashRange, delayRange, risingFrom, rising, later, hits, noneTwice, crashOrder, delayOrder, fewDelays, every, startTest, crashTest, delayTest, planTest}
+use Rattle.ring.specs.Limits.{mostNodes, mostH, mostW, mostD, mostTick, mostNumber}
+use Rattle.runfile.specs.Plan.{Crash, Delay, Plan, within, startRanges, longEnough, crashRange, delayRange, risingFrom, rising, later, hits, noneTwice, crashOrder, delayOrder, fewDelays, every, startTest, crashTest, delayTest, planTest}
 use Rattle.model.specs.Range.{Plain, noCrash, Accepted}
 use Rattle.model.proofs.NextEvent.{hit-of}
 use Rattle.model.proofs.Bools.{and-split}
@@ -89,12 +90,12 @@ within-range low high x h = let a = and-split (leb low x) (leb x high) h in (leb
 pub plan-accepted : (p : Plan) → InOrder (p .n) (p .order) → planTest p ≡ true → Accepted p
 unfolding planTest startTest startRanges longEnough crashTest crashOrder delayTest
 plan-accepted p io t =
-    let a = and-split ((within 1 mostNodes (p .n) && (within 1 mostH (p .h) && (within 1 mostW (p .w) && (within 1 mostD (p .d) && within 0 mostEnd (p .end))))) && leb (p .h + p .d) (p .w)) _ t in
-    let b = and-split (within 1 mostNodes (p .n) && (within 1 mostH (p .h) && (within 1 mostW (p .w) && (within 1 mostD (p .d) && within 0 mostEnd (p .end))))) (leb (p .h + p .d) (p .w)) (a .0) in
+    let a = and-split ((within 1 mostNodes (p .n) && (within 1 mostH (p .h) && (within 1 mostW (p .w) && (within 1 mostD (p .d) && within 0 mostTick (p .end))))) && leb (p .h + p .d) (p .w)) _ t in
+    let b = and-split (within 1 mostNodes (p .n) && (within 1 mostH (p .h) && (within 1 mostW (p .w) && (within 1 mostD (p .d) && within 0 mostTick (p .end))))) (leb (p .h + p .d) (p .w)) (a .0) in
     let n = and-split (within 1 mostNodes (p .n)) _ (b .0) in
     let h = and-split (within 1 mostH (p .h)) _ (n .1) in
     let w = and-split (within 1 mostW (p .w)) _ (h .1) in
-    let d = and-split (within 1 mostD (p .d)) (within 0 mostEnd (p .end)) (w .1) in
+    let d = and-split (within 1 mostD (p .d)) (within 0 mostTick (p .end)) (w .1) in
     let r = and-split (every (crashRange p) (p .crashes) && (rising later (p .crashes) && noneTwice (p .crashes))) _ (a .1) in
     let c = and-split (every (crashRange p) (p .crashes)) (rising later (p .crashes) && noneTwice (p .crashes)) (r .0) in
     let o = and-split (rising later (p .crashes)) (noneTwice (p .crashes)) (c .1) in
@@ -106,7 +107,7 @@ plan-accepted p io t =
         h≥ = (within-range 1 mostH (p .h) (h .0)) .0;
         w≥ = (within-range 1 mostW (p .w) (w .0)) .0;
         d≥ = (within-range 1 mostD (p .d) (d .0)) .0;
-        end≤ = (within-range 0 mostEnd (p .end) (d .1)) .1;
+        end≤ = (within-range 0 mostTick (p .end) (d .1)) .1;
         order = io;
         node = λ x u. (rows-range p (p .crashes) (c .0) x u) .0;
         tick = λ x u. (rows-range p (p .crashes) (c .0) x u) .1;

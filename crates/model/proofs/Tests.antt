@@ -16,7 +16,8 @@ use Rattle.node.specs.declared.Node.{Node}
 use Rattle.node.specs.Node.{H, O, R, alone}
 use Rattle.runfile.specs.Plan.{Plan, planTest}
 use Rattle.model.specs.Platform.{InFlight, State, alive, nodeOf, after}
-use Rattle.model.specs.Range.{Known, kindTest, rowAt, Plain, NodeRange, LiveRange, FlightRange, Rises, Sound, nodeTest, liveTest, nodesTest, messageTest, flightTest, undoneTest, soundTest, storeTest, Accepted, InRange, mostNext, noCrash}
+use Rattle.ring.specs.Limits.{mostNext}
+use Rattle.model.specs.Range.{Known, kindTest, rowAt, Plain, NodeRange, LiveRange, FlightRange, Rises, Sound, nodeTest, liveTest, nodesTest, messageTest, flightTest, undoneTest, soundTest, storeTest, Accepted, InRange, noCrash}
 use Rattle.model.proofs.RingLists.{listed-none}
 use Rattle.model.proofs.Theorems.{ranges}
 use Rattle.model.proofs.Bools.{and-split, and-join, or-split}

@@ -11,16 +11,7 @@ use Rattle.node.specs.declared.Node.{Node}
 use Rattle.node.specs.declared.Message.{Message}
 use Rattle.node.specs.Node.{Turn, silent, alone, opening, onMessage, onWatchDue, onHeartbeatDue}
 use Rattle.runfile.specs.Plan.{Crash, Delay, Plan, hits}
-
--- ---- limits
-
--- the most messages that may be in flight
-abbrev pub mostInFlight : ℕ
-mostInFlight = 2048
-
--- the least length of a log part: a shorter one is refused by 9
-abbrev pub lineRoom : ℕ
-lineRoom = 40
+use Rattle.ring.specs.Limits.{mostInFlight, lineRoom}
 
 -- ---- the state
 

@@ -10,12 +10,9 @@ use lib.ListN.{length, getD, drop}
 use Rattle.ring.specs.Ring.{listed, InOrder}
 use Rattle.node.specs.declared.Node.{Node}
 use Rattle.node.specs.Node.{H, O, R}
-use Rattle.runfile.specs.Plan.{Crash, Delay, Plan, mostNodes, mostEnd, planTest}
-use Rattle.model.specs.Platform.{InFlight, State, alive, nodeOf, mostInFlight}
-
--- the most that the next message number may be
-abbrev pub mostNext : ℕ
-mostNext = 4000000000000
+use Rattle.ring.specs.Limits.{mostNodes, mostTick, mostInFlight, mostNext}
+use Rattle.runfile.specs.Plan.{Crash, Delay, Plan, planTest}
+use Rattle.model.specs.Platform.{InFlight, State, alive, nodeOf}
 
 -- ---- a plan
 
@@ -34,7 +31,7 @@ pub record Plain (p : Plan) : Type 0 where
   pub h≥ : 1 ≤ p .h
   pub w≥ : 1 ≤ p .w
   pub d≥ : 1 ≤ p .d
-  pub end≤ : p .end ≤ mostEnd
+  pub end≤ : p .end ≤ mostTick
   pub order : InOrder (p .n) (p .order)
   pub node : (i : ℕ) → i < length (p .crashes) → (rowAt p i) .node < p .n
   pub tick : (i : ℕ) → i < length (p .crashes) → (rowAt p i) .tick ≤ p .end

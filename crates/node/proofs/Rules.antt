@@ -8,7 +8,8 @@ use native.Mathlib.Omega.{arith}
 use borrow.Author.Tests.{eq-eqb, ne-eqb, lt-ltb, le-ltb}
 use lib.Dec.{eqb}
 use lib.ListN.{length}
-use Rattle.ring.specs.Ring.{mostNodes, listed, listing, place, back, next, targets}
+use Rattle.ring.specs.Limits.{mostNodes}
+use Rattle.ring.specs.Ring.{listed, listing, place, back, next, targets}
 use Rattle.node.specs.declared.Node.{Node}
 use Rattle.node.specs.Node.{mostSent, reports, H, O, message, silent, sending, alone, withObserver, withWatch, withHeartbeat, withList, turned, relayed, opening, onHeartbeat, onObserver, onReport, onHeartbeatDue, onWatchDue, onMessage}
 use Rattle.ring.proofs.Counts.{length-targets, jumps-count-le}

@@ -14,18 +14,6 @@ use Rattle.node.specs.declared.Turned.{Turned}
 
 -- ---- 01's numbers
 
--- "H 1 to 1,000"
-abbrev pub mostH : ℕ
-mostH = 1000
-
--- "W 1 to 65,535"
-abbrev pub mostW : ℕ
-mostW = 65535
-
--- the last tick of a run or of a node call, "1,000,000"
-abbrev pub mostTick : ℕ
-mostTick = 1000000
-
 -- the messages that a node sends in one turn, "at most seven"
 abbrev pub mostSent : ℕ
 mostSent = 7

@@ -5,8 +5,8 @@ ghost use mathlib.Core.List.{[], _∷_};
 ghost use Prim.Native.Nat.{_+_, _<_, _≤_};
 ghost use lib.ListN.{length, take};
 ghost use lib.Seq.{sets};
-ghost use Rattle.ring.specs.Ring.{mostNodes};
-ghost use Rattle.node.specs.Node.{mostH, mostW, mostTick, message, reports, silent, sending, alone, opening, onHeartbeat, onObserver, onReport, onHeartbeatDue, onWatchDue, onMessage, turned, relayed};
+ghost use Rattle.ring.specs.Limits.{mostNodes, mostH, mostW, mostTick};
+ghost use Rattle.node.specs.Node.{message, reports, silent, sending, alone, opening, onHeartbeat, onObserver, onReport, onHeartbeatDue, onWatchDue, onMessage, turned, relayed};
 
 // A node's fields. A timer is 0 where it is off, else one more than the tick at which it is due.
 pub struct Node {

@@ -1,21 +1,23 @@
 -- The store that encoding makes has its unused bytes zero, so it passes the test of number 7 where what was encoded does. Assumes nothing.
-use mathlib.Core.Path.{_≡_, refl, sym, ap, _∙_}
-use mathlib.Core.Bool.{Bool, true, _&&_, and-eq-true-iff, and-true}
+use mathlib.Core.Path.{_≡_, refl, sym, _∙_}
+use mathlib.Core.Bool.{true, and-eq-true-iff, and-true}
 use mathlib.Core.List.{List, [], _∷_, _++_, append-assoc}
-use Prim.Native.Nat.{ℕ, zero, suc, _+_, _-_, _*_, _≤_}
+use Prim.Native.Nat.{ℕ, zero, suc, _+_, _-_, _≤_}
 use native.Mathlib.Nat.{mul-le-mul-left}
 use native.Mathlib.Omega.{arith}
-use borrow.Author.Tests.{eq-eqb, eqb-true}
+use borrow.Author.Tests.{eqb-true}
 use lib.Dec.{eqb, leb}
-use lib.ListN.{length, take, drop, replicate, length-append, length-replicate}
+use lib.ListN.{length, replicate, length-append, length-replicate}
 use lib.Seq.{slice, take-at, drop-at}
 use Rattle.fields.specs.Fields.{zeros}
 use Rattle.runfile.specs.Plan.{Plan, planTest}
 use Rattle.model.specs.Platform.{State}
-use Rattle.model.specs.Range.{mostNext, Plain, Sound, soundTest, storeTest}
+use Rattle.ring.specs.Limits.{mostNext}
+use Rattle.model.specs.Range.{Plain, Sound, storeTest}
 use Rattle.model.proofs.Tests.{range-test}
 use Rattle.store.specs.Columns.{Column, size, used, packs, columnBytes, bytesOf, AllFit, joined, unusedTest}
-use Rattle.store.specs.Store.{storeSize, columns, encode, planIn, stateIn, Fits, storeInRange}
+use Rattle.store.specs.Store.{storeSize, columns, encode, storeInRange}
+use Rattle.store.specs.Inside.{Fits}
 use Rattle.store.proofs.Parts.{length-packs}
 use Rattle.store.proofs.Columns.{length-column}
 use Rattle.store.proofs.Reading.{all-room}

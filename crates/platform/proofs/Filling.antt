@@ -1,6 +1,6 @@
 -- What each part of opening puts makes of the encoding of a plan with fewer rows, or of a state with fewer nodes. Assumes nothing.
 use mathlib.Core.Path.{_≡_, refl, sym, ap, _∙_}
-use mathlib.Core.Bool.{Bool, true, _&&_}
+use mathlib.Core.Bool.{true}
 use mathlib.Core.List.{List, [], _∷_, _++_, map, map-append, append-nil}
 use Prim.Native.Nat.{ℕ, zero, suc, _+_, _-_, _*_, _≤_, _<_, zero-le}
 use native.Mathlib.Nat.{mul-suc, mul-zero, mul-le-mul-left}
@@ -8,11 +8,11 @@ use native.Mathlib.Numerals.{add-one}
 use native.Mathlib.Omega.{arith}
 use borrow.Author.Tests.{eqb-true}
 use lib.Dec.{eqb, lit<}
-use lib.ListN.{length, take, drop, getD, replicate, length-map, length-append, replicate-append-replicate, drop-of-length-le}
+use lib.ListN.{length, take, getD, replicate, length-map, length-append, replicate-append-replicate, drop-of-length-le}
 use lib.Seq.{take-suc, take-length, length-take-le}
 use Rattle.ring.specs.Ring.{numbers}
 use Rattle.ring.proofs.Rows.{length-numbers, numbers-snoc}
-use Rattle.fields.specs.Fields.{bytes, putAt, cleared, zeros}
+use Rattle.fields.specs.Fields.{bytes, cleared, zeros}
 use Rattle.node.specs.declared.Node.{Node}
 use Rattle.node.specs.Node.{opening}
 use Rattle.runfile.specs.Plan.{Plan, Crash, Delay}
@@ -23,7 +23,8 @@ use Rattle.store.specs.Columns.{Column, size, used, packs, columnBytes, bytesOf
 use Rattle.store.specs.Store.{storeSize, nodeCount, longestDelay, period, timeOut, endTick, crashCount, delayCount, emitters, observers, watches, heartbeats, deadLists, crashTicks, crashNodes, delayNumbers, delayTicks, columns, encode}
 use Rattle.store.proofs.Columns.{columnOf, putIn, addIn, Laid}
 use Rattle.store.proofs.Changes.{Change, put, add, onBytes, onColumns, Admit, AdmitAll, bytesAfter, columnsAfter, changes-bytes}
-use Rattle.platform.specs.Filling.{rowsUpTo, nodesUpTo, filled, putStart, putNode, putCrash, putDelay}
+use Rattle.store.specs.Filling.{putStart, putNode, putCrash, putDelay}
+use Rattle.platform.specs.Filling.{rowsUpTo, nodesUpTo, filled}
 
 -- ---- zeros
 
@@ -443,27 +444,3 @@ module _ (p : Plan) (fewNodes : p .n ≤ 64) (fewCrashes : length (p .crashes) �
 pub all-filled : (p : Plan) → filled p (p .n) (length (p .crashes)) (length (p .delays)) ≡ encode p (start p)
 unfolding filled rowsUpTo nodesUpTo start
 all-filled p = rw (take-length (p .crashes), take-length (p .delays))
-
--- ---- numbers put one after another, each where its column has it
-
-module _ (b₀ : List ℕ) {b₁ b₂ b₃ : List ℕ} (i : ℕ) where
-  pub crash-puts : (tick node : ℕ) → b₁ ≡ putAt b₀ (crashTicks .at + 4 * i) 4 tick → b₂ ≡ putAt b₁ (crashNodes .at + i) 1 node → b₃ ≡ putAt b₂ (crashCount .at) 1 (i + 1)
-      → b₃ ≡ putCrash b₀ i tick node
-  unfolding putCrash
-  crash-puts tick node e₁ e₂ e₃ = let one : 1 * i ≡ i = omega arith in rw (one, ← e₁, ← e₂) e₃
-
-  pub delay-puts : (number delay : ℕ) → b₁ ≡ putAt b₀ (delayNumbers .at + 4 * i) 4 number → b₂ ≡ putAt b₁ (delayTicks .at + i) 1 delay → b₃ ≡ putAt b₂ (delayCount .at) 2 (i + 1)
-      → b₃ ≡ putDelay b₀ i number delay
-  unfolding putDelay
-  delay-puts number delay e₁ e₂ e₃ = let one : 1 * i ≡ i = omega arith in rw (one, ← e₁, ← e₂) e₃
-
-  module _ {b₄ b₅ : List ℕ} where
-    pub node-puts : (a : Node) → b₁ ≡ putAt b₀ (emitters .at + i) 1 (a .emitter) → b₂ ≡ putAt b₁ (observers .at + i) 1 (a .observer) → b₃ ≡ putAt b₂ (watches .at + 4 * i) 4 (a .watch)
-        → b₄ ≡ putAt b₃ (heartbeats .at + 4 * i) 4 (a .heartbeat) → b₅ ≡ putAt b₄ (deadLists .at + 8 * i) 8 (a .list) → b₅ ≡ putNode b₀ i a
-    unfolding putNode
-    node-puts a e₁ e₂ e₃ e₄ e₅ = let one : 1 * i ≡ i = omega arith in rw (one, ← e₁, ← e₂, ← e₃, ← e₄) e₅
-
-pub start-puts : (b₀ : List ℕ) {b₁ b₂ b₃ b₄ b₅ : List ℕ} (n h w d end : ℕ) → b₁ ≡ putAt b₀ (nodeCount .at) 1 n → b₂ ≡ putAt b₁ (longestDelay .at) 1 d → b₃ ≡ putAt b₂ (period .at) 2 h
-    → b₄ ≡ putAt b₃ (timeOut .at) 2 w → b₅ ≡ putAt b₄ (endTick .at) 4 end → b₅ ≡ putStart b₀ n h w d end
-unfolding putStart
-start-puts b₀ n h w d end e₁ e₂ e₃ e₄ e₅ = rw (← e₁, ← e₂, ← e₃, ← e₄) e₅

@@ -2,11 +2,11 @@
 use mathlib.Core.Path.{_≡_, refl, sym, ap, _∙_}
 use mathlib.Core.Bool.{true}
 use mathlib.Core.List.{List}
-use Prim.Native.Nat.{ℕ, suc, _+_, _≤_, _<_}
+use Prim.Native.Nat.{ℕ, _+_, _≤_, _<_}
 use native.Mathlib.Numerals.{add-one}
 use native.Mathlib.Omega.{arith}
 use borrow.Author.Tests.{eq-eqb, ne-eqb}
-use lib.ListN.{length, take, getD}
+use lib.ListN.{length, take}
 use Rattle.ring.specs.Ring.{numbers}
 use Rattle.ring.proofs.Rows.{length-numbers, take-numbers}
 use Rattle.fields.specs.Fields.{cleared}
@@ -24,10 +24,11 @@ use Rattle.runfile.proofs.RoundTrip.{accepted-plan, accepted-order}
 use Rattle.runfile.proofs.Places.{crash-place-first, crash-place-last, crash-at, delay-at}
 use Rattle.model.specs.Platform.{start}
 use Rattle.store.specs.Store.{storeSize, encode}
+use Rattle.event.proofs.Fitting.{ranges, few-delays}
 use Rattle.platform.specs.declared.Opened.the-variants.{Ready, Refused as Unopened}
 use Rattle.platform.specs.Calls.{badStore, openPlan, openAnswer, openFile}
-use Rattle.platform.specs.Filling.{planned, planOf, Accepts, filled, putStart, putNode, putCrash, putDelay}
-use Rattle.platform.proofs.Fitting.{ranges, few-delays}
+use Rattle.store.specs.Filling.{putStart, putNode, putCrash, putDelay}
+use Rattle.platform.specs.Filling.{planned, planOf, Accepts, filled}
 use Rattle.platform.proofs.Filling.{cleared-encode, start-filled, node-filled, crash-filled, delay-filled, all-filled}
 
 module _ (file : List ℕ) (ok : Accepts file) where

@@ -1,38 +1,41 @@
--- A run of a budget, event by event: what is known after d of its events, and how it ends. Assumes nothing.
+-- A run of a budget, event by event: what is known while some of the budget is left, and how it ends; first of a state, then of the
+-- bytes of a store. Assumes nothing.
 use mathlib.Core.Path.{_≡_, refl, sym, ap, _∙_}
+use mathlib.Core.List.{List}
 use mathlib.Core.Option.{Option, none, some}
-use Prim.Native.Nat.{ℕ, zero, suc, _+_, _≤_, _<_}
+use Prim.Native.Nat.{ℕ, zero, suc, _+_, _-_, _≤_, _<_}
 use native.Mathlib.Omega.{arith}
+use Rattle.logline.specs.declared.Line.{Line}
 use Rattle.runfile.specs.Plan.{Plan}
-use Rattle.model.specs.Platform.{State, Entry, Outcome, did, ended, refused, nextEvent, try, left, steps, eventCount, Answer, spent, finished, overfull, runAnswer}
-use Rattle.model.proofs.Calls.{steps-add}
+use Rattle.model.specs.Platform.{State, Event, crash, message, watch, heartbeat, Entry, Outcome, did, ended, refused, nextEvent, try, left, steps, eventCount, Answer, spent, finished, overfull, runAnswer}
+use Rattle.store.specs.Store.{encode, planIn, stateIn}
+use Rattle.event.specs.declared.Happened.the-variants.{Did as Happens, Ended, Refused as TooMany}
+use Rattle.event.specs.declared.Next.{Next}
+use Rattle.event.specs.declared.Next.the-variants.{Nothing}
+use Rattle.event.specs.Event.{happened, nextAt, nextOf}
+use Rattle.event.specs.Ready.{Ready}
+use Rattle.event.proofs.Readiness.{left-ready, left-holds}
 use Rattle.platform.specs.declared.Ran.{Ran}
 use Rattle.platform.specs.declared.Ran.the-variants.{Done, Spent, Refused}
-use Rattle.platform.specs.Calls.{tooMany, ran}
+use Rattle.platform.specs.Calls.{tooMany, ran, AfterRun, runState, runNext}
+use Rattle.platform.proofs.Stepping.{differ}
 
--- d events of a run of `budget` from `first` are done, and led to s: what is left of the budget does the rest
-pub record Ongoing (p : Plan) (first : State) (budget d : ℕ) (s : State) : Type 0 where
-  pub rest : ℕ
-  pub sum : d + rest ≡ budget
-  pub state : steps p d first ≡ s
+-- of a run of `budget` from `first`, all but `rest` are done, and led to s: what is left of the budget does the rest
+pub record Ongoing (p : Plan) (first : State) (budget rest : ℕ) (s : State) : Type 0 where
+  pub within : rest ≤ budget
   pub ends : steps p budget first ≡ steps p rest s
   pub answer : runAnswer p budget first ≡ runAnswer p rest s
-  pub count : eventCount p budget first ≡ d + eventCount p rest s
+  pub count : eventCount p budget first ≡ (budget - rest) + eventCount p rest s
 
 module _ (p : Plan) where
-  pub starts : (first : State) (budget : ℕ) → Ongoing p first budget 0 first
-  unfolding steps
-  starts first budget = record { rest = budget; sum = omega arith; state = refl; ends = refl; answer = refl; count = omega arith }
+  pub starts : (first : State) (budget : ℕ) → Ongoing p first budget budget first
+  starts first budget = record { within = omega arith; ends = refl; answer = refl; count = omega arith }
 
   -- where nothing is done, nothing changes
   stays : (k : ℕ) (s : State) → left s (try p s) ≡ s → steps p k s ≡ s
   unfolding steps
   stays zero s e = refl
   stays (suc k) s e = rw e (stays k s e)
-
-  steps-one : (s : State) → steps p 1 s ≡ left s (try p s)
-  unfolding steps
-  steps-one s = refl
 
   -- a budget of one more than k, by the outcome of its first try
   abbrev answerAfter : ℕ → Outcome → Answer
@@ -76,70 +79,154 @@ module _ (p : Plan) where
       same none = refl
       same (some e) = refl
 
-  -- one event more
-  module _ (first : State) (budget d : ℕ) (s : State) (h : Ongoing p first budget d s) where
-    -- of a try that there is budget for
-    record Tries : Type 0 where
-      rest : ℕ
-      sum : suc d + rest ≡ budget
-      ends : steps p budget first ≡ steps p rest (left s (try p s))
-      answer : runAnswer p budget first ≡ runAnswer p (suc rest) s
-      count : eventCount p budget first ≡ d + eventCount p (suc rest) s
+  module _ (first : State) (budget : ℕ) (s : State) where
+    -- what the run comes to, where it ends in s with the answer a
+    abbrev pub EndsIn : Ran → Type 0
+    EndsIn a = (a ≡ ran (runAnswer p budget first) (eventCount p budget first)) × (steps p budget first ≡ s)
 
-    tries : d < budget → Tries
-    unfolding steps
-    tries less = go (h .rest) (h .sum) (h .ends) (h .answer) (h .count)
-      where
-        go : (rest : ℕ) → d + rest ≡ budget → steps p budget first ≡ steps p rest s → runAnswer p budget first ≡ runAnswer p rest s → eventCount p budget first ≡ d + eventCount p rest s → Tries
-        go zero sum ends answer count = absurd (omega arith)
-        go (suc rest) sum ends answer count = record { rest = rest; sum = omega arith; ends = ends; answer = answer; count = count }
-
-    pub goes-on : d < budget → (e : Entry) (s' : State) → try p s ≡ did e s' → Ongoing p first budget (d + 1) s'
-    unfolding left
-    goes-on less e s' o =
-        let t : Tries = tries less in
-        record {
-          rest = t .rest;
-          sum = omega (arith, t .sum);
-          state = steps-add p d 1 first ∙ rw (h .state) (steps-one s ∙ ap (left s) o);
-          ends = t .ends ∙ rw o;
-          answer = t .answer ∙ answer-try (t .rest) s o;
-          count = omega (arith, t .count, count-try (t .rest) s o);
-        }
+    -- one event more
+    pub goes-on : (rest : ℕ) → Ongoing p first budget rest s → 0 < rest → (e : Entry) (s' : State) → try p s ≡ did e s' → Ongoing p first budget (rest - 1) s'
+    unfolding steps left
+    goes-on zero h more e s' o = absurd (omega arith)
+    goes-on (suc k) h more e s' o =
+        let one-less : suc k - 1 ≡ k = omega arith in
+        rw one-less (record {
+          within = omega (arith, h .within);
+          ends = h .ends ∙ rw o;
+          answer = h .answer ∙ answer-try k s o;
+          count = omega (arith, h .within, h .count, count-try k s o);
+        })
 
     -- no event is left, or the next is refused: the run ends here
-    pub ends-done : d < budget → try p s ≡ ended → (Done d ≡ ran (runAnswer p budget first) (eventCount p budget first)) × (steps p budget first ≡ s)
-    unfolding left ran
-    ends-done less o =
-        let t : Tries = tries less in
-        let none-more : eventCount p budget first ≡ d = omega (arith, t .count, count-try (t .rest) s o) in
-        (rw (t .answer ∙ answer-try (t .rest) s o, none-more), t .ends ∙ rw o (stays (t .rest) s (ap (left s) o)))
+    pub ends-done : (rest : ℕ) → Ongoing p first budget rest s → 0 < rest → try p s ≡ ended → EndsIn (Done (budget - rest))
+    unfolding steps left ran
+    ends-done zero h more o = absurd (omega arith)
+    ends-done (suc k) h more o =
+        let none-more : eventCount p budget first ≡ budget - suc k = omega (arith, h .count, count-try k s o) in
+        (rw (h .answer ∙ answer-try k s o, none-more), h .ends ∙ rw o (stays k s (ap (left s) o)))
 
-    pub ends-refused : d < budget → try p s ≡ refused → (Refused tooMany d ≡ ran (runAnswer p budget first) (eventCount p budget first)) × (steps p budget first ≡ s)
-    unfolding left ran
-    ends-refused less o =
-        let t : Tries = tries less in
-        let none-more : eventCount p budget first ≡ d = omega (arith, t .count, count-try (t .rest) s o) in
-        (rw (t .answer ∙ answer-try (t .rest) s o, none-more), t .ends ∙ rw o (stays (t .rest) s (ap (left s) o)))
+    pub ends-refused : (rest : ℕ) → Ongoing p first budget rest s → 0 < rest → try p s ≡ refused → EndsIn (Refused tooMany (budget - rest))
+    unfolding steps left ran
+    ends-refused zero h more o = absurd (omega arith)
+    ends-refused (suc k) h more o =
+        let none-more : eventCount p budget first ≡ budget - suc k = omega (arith, h .count, count-try k s o) in
+        (rw (h .answer ∙ answer-try k s o, none-more), h .ends ∙ rw o (stays k s (ap (left s) o)))
 
     -- the budget is used up
-    record Used : Type 0 where
-      ends : steps p budget first ≡ s
-      answer : runAnswer p budget first ≡ runAnswer p 0 s
-      count : eventCount p budget first ≡ d
+    pub used-done : (rest : ℕ) → Ongoing p first budget rest s → rest ≤ 0 → nextEvent p s ≡ none → EndsIn (Done budget)
+    unfolding steps eventCount ran
+    used-done zero h full o =
+        let all : eventCount p budget first ≡ budget = omega (arith, h .count) in
+        (rw (h .answer ∙ answer-end s o, all), h .ends)
+    used-done (suc k) h full o = absurd (omega arith)
 
-    used : budget ≤ d → Used
-    unfolding steps eventCount
-    used full = go (h .rest) (h .sum) (h .ends) (h .answer) (h .count)
-      where
-        go : (rest : ℕ) → d + rest ≡ budget → steps p budget first ≡ steps p rest s → runAnswer p budget first ≡ runAnswer p rest s → eventCount p budget first ≡ d + eventCount p rest s → Used
-        go zero sum ends answer count = record { ends = ends; answer = answer; count = omega arith }
-        go (suc rest) sum ends answer count = absurd (omega arith)
+    pub used-spent : (rest : ℕ) → Ongoing p first budget rest s → rest ≤ 0 → (e : Entry) → nextEvent p s ≡ some e → EndsIn (Spent budget)
+    unfolding steps eventCount ran
+    used-spent zero h full e o =
+        let all : eventCount p budget first ≡ budget = omega (arith, h .count) in
+        (rw (h .answer ∙ answer-end s o, all), h .ends)
+    used-spent (suc k) h full e o = absurd (omega arith)
 
-    pub used-done : budget ≤ d → nextEvent p s ≡ none → (Done d ≡ ran (runAnswer p budget first) (eventCount p budget first)) × (steps p budget first ≡ s)
-    unfolding ran
-    used-done full o = let u : Used = used full in (rw (u .answer ∙ answer-end s o, u .count), u .ends)
+-- ---- on the bytes of a store
 
-    pub used-spent : budget ≤ d → (e : Entry) → nextEvent p s ≡ some e → (Spent d ≡ ran (runAnswer p budget first) (eventCount p budget first)) × (steps p budget first ≡ s)
-    unfolding ran
-    used-spent full e o = let u : Used = used full in (rw (u .answer ∙ answer-end s o, u .count), u .ends)
+-- of a run of `budget` from the store `first`, all but `rest` are done, and led to the store b
+pub record Runs (first : List ℕ) (budget rest : ℕ) (b : List ℕ) : Type 0 where
+  pub ready : Ready b
+  pub plan : planIn b ≡ planIn first
+  pub ongoing : Ongoing (planIn first) (stateIn first) budget rest (stateIn b)
+
+-- a run's answer and what it leaves of the store are what a definition says
+abbrev pub Ends : AfterRun → Ran → List ℕ → Type 0
+Ends r a b = (a ≡ r .answer) × (b ≡ r .store)
+
+-- what the code's answer of a try says of the outcome
+module _ (p : Plan) (s : State) where
+  did-outcome : (o : Outcome) {l : Line} → Happens l ≡ happened p s o → (e : Entry) × (s' : State) × (o ≡ did e s')
+  unfolding happened
+  did-outcome (did e s') h = (e, s', refl)
+  did-outcome ended h = absurd (differ (cc h))
+  did-outcome refused h = absurd (differ (cc h))
+
+  ended-outcome : (o : Outcome) {l : Line} → Ended l ≡ happened p s o → o ≡ ended
+  unfolding happened
+  ended-outcome (did e s') h = absurd (differ (cc h))
+  ended-outcome ended h = refl
+  ended-outcome refused h = absurd (differ (cc h))
+
+  refused-outcome : (o : Outcome) → TooMany ≡ happened p s o → o ≡ refused
+  unfolding happened
+  refused-outcome (did e s') h = absurd (differ (cc h))
+  refused-outcome ended h = absurd (differ (cc h))
+  refused-outcome refused h = refl
+
+-- and its answer of a search, of the next event
+nothing-left : (o : Option Entry) → Nothing ≡ nextOf o → o ≡ none
+unfolding nextOf nextAt
+nothing-left none h = refl
+nothing-left (some e) h = absurd (go (e .event) h)
+  where
+    go : (v : Event) → Nothing ≡ nextAt (e .tick) v → ⊥
+    go (crash k) q = differ (cc q)
+    go (message i) q = differ (cc q)
+    go (watch x) q = differ (cc q)
+    go (heartbeat x) q = differ (cc q)
+
+event-left : (o : Option Entry) {r : Next} → r ≡ nextOf o → (r ≡ Nothing → ⊥) → (e : Entry) × (o ≡ some e)
+unfolding nextOf
+event-left none h more = absurd (more h)
+event-left (some e) h more = (e, refl)
+
+module _ (first : List ℕ) (budget : ℕ) where
+  pub run-starts : Ready first → Runs first budget budget first
+  run-starts r = record { ready = r; plan = refl; ongoing = starts (planIn first) (stateIn first) budget }
+
+  module _ (rest : ℕ) (b : List ℕ) (h : Runs first budget rest b) where
+    abbrev next : Outcome
+    next = try (planIn b) (stateIn b)
+
+    -- a try of the plan that b holds is one of the first plan
+    first-try : {o : Outcome} → next ≡ o → try (planIn first) (stateIn b) ≡ o
+    first-try e = ap (λ (p : Plan). try p (stateIn b)) (sym (h .plan)) ∙ e
+
+    first-next : {o : Option Entry} → nextEvent (planIn b) (stateIn b) ≡ o → nextEvent (planIn first) (stateIn b) ≡ o
+    first-next e = ap (λ (p : Plan). nextEvent p (stateIn b)) (sym (h .plan)) ∙ e
+
+    pub run-goes-on : {l : Line} {b' : List ℕ} → 0 < rest → Happens l ≡ happened (planIn b) (stateIn b) next → b' ≡ encode (planIn b) (left (stateIn b) next) → Runs first budget (rest - 1) b'
+    unfolding left
+    run-goes-on {l} {b'} more done st =
+        let o = did-outcome (planIn b) (stateIn b) next done in
+        let w = left-holds b b' (h .ready) st in
+        let state : stateIn b' ≡ o .1 = w .1 ∙ ap (left (stateIn b)) (o .2) in
+        record {
+          ready = left-ready b b' (h .ready) st;
+          plan = w .0 ∙ h .plan;
+          ongoing = rw state (goes-on (planIn first) (stateIn first) budget (stateIn b) rest (h .ongoing) more (o .0) (o .1) (first-try (o .2)));
+        }
+
+    -- the run ends with the state of b
+    stops : {a : Ran} {b' : List ℕ} → EndsIn (planIn first) (stateIn first) budget (stateIn b) a → b' ≡ encode (planIn b) (stateIn b) → Ends (runNext first budget) a b'
+    unfolding runState
+    stops w st = (w .0, st ∙ rw (h .plan, w .1))
+
+    pub run-ended : {l : Line} {b' : List ℕ} → 0 < rest → Ended l ≡ happened (planIn b) (stateIn b) next → b' ≡ encode (planIn b) (left (stateIn b) next) → Ends (runNext first budget) (Done (budget - rest)) b'
+    unfolding left
+    run-ended more none-left st =
+        let o : next ≡ ended = ended-outcome (planIn b) (stateIn b) next none-left in
+        stops (ends-done (planIn first) (stateIn first) budget (stateIn b) rest (h .ongoing) more (first-try o)) (st ∙ rw o)
+
+    pub run-refused : {b' : List ℕ} → 0 < rest → TooMany ≡ happened (planIn b) (stateIn b) next → b' ≡ encode (planIn b) (left (stateIn b) next) → Ends (runNext first budget) (Refused tooMany (budget - rest)) b'
+    unfolding left
+    run-refused more many st =
+        let o : next ≡ refused = refused-outcome (planIn b) (stateIn b) next many in
+        stops (ends-refused (planIn first) (stateIn first) budget (stateIn b) rest (h .ongoing) more (first-try o)) (st ∙ rw o)
+
+    -- the budget is used up
+    pub run-used-done : rest ≤ 0 → Nothing ≡ nextOf (nextEvent (planIn b) (stateIn b)) → Ends (runNext first budget) (Done budget) b
+    run-used-done full none-left =
+        let o : nextEvent (planIn b) (stateIn b) ≡ none = nothing-left (nextEvent (planIn b) (stateIn b)) none-left in
+        stops (used-done (planIn first) (stateIn first) budget (stateIn b) rest (h .ongoing) full (first-next o)) (h .ready .held .canonical)
+
+    pub run-used-spent : {r : Next} → rest ≤ 0 → r ≡ nextOf (nextEvent (planIn b) (stateIn b)) → (r ≡ Nothing → ⊥) → Ends (runNext first budget) (Spent budget) b
+    run-used-spent full is some-left =
+        let o = event-left (nextEvent (planIn b) (stateIn b)) is some-left in
+        stops (used-spent (planIn first) (stateIn first) budget (stateIn b) rest (h .ongoing) full (o .0) (first-next (o .1))) (h .ready .held .canonical)

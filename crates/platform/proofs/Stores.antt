@@ -2,8 +2,8 @@
 use mathlib.Core.Path.{_≡_, refl, sym, ap, _∙_, subst}
 use mathlib.Core.Logic.{_≢_}
 use mathlib.Core.Bool.{Bool, true, false, cond, _&&_}
-use mathlib.Core.List.{List, [], _∷_}
-use Prim.Native.Nat.{ℕ, zero, suc, _+_, _*_, _^_, _≤_, _<_}
+use mathlib.Core.List.{List}
+use Prim.Native.Nat.{ℕ, _≤_, _<_}
 use native.Mathlib.Omega.{arith}
 use borrow.Author.Tests.{eqb-true, leb-true, le-leb, le-ltb}
 use lib.Dec.{eqb, leb, ltb}
@@ -13,21 +13,23 @@ use Rattle.ring.specs.Ring.{numbers}
 use Rattle.runfile.specs.Plan.{Plan, planTest, planText}
 use Rattle.runfile.proofs.Order.{and-first, and-second}
 use Rattle.runfile.proofs.Grown.{Ranges}
-use Rattle.model.specs.Platform.{State, Outcome, did, ended, refused, lineRoom, try, left, steps, runAnswer, eventCount, Answer, spent, finished, overfull, Call, called, step as stepOf, run as runOf}
-use Rattle.model.specs.Range.{mostNext, Plain, Sound, soundTest, storeTest}
+use Rattle.ring.specs.Limits.{mostNext, lineRoom}
+use Rattle.model.specs.Platform.{State, Outcome, did, ended, refused, try, left, steps, runAnswer, eventCount, Answer, spent, finished, overfull, called}
+use Rattle.model.specs.Range.{Plain, Sound, soundTest, storeTest}
 use Rattle.model.proofs.RangesKept.{steps-range}
 use Rattle.model.proofs.NextNumber.{next-bound}
 use Rattle.model.proofs.Tests.{test-range}
 use Rattle.model.proofs.Plans.{plan-plain, number-order}
 use Rattle.store.specs.Columns.{roomTest, unusedTest}
-use Rattle.store.specs.Store.{storeSize, columns, encode, planIn, stateIn, Fits, Held, storeInRange}
-use Rattle.store.proofs.Store.{plan-encode, state-encode, held-encode, held-read}
+use Rattle.store.specs.Store.{storeSize, columns, encode, planIn, stateIn, storeInRange}
+use Rattle.store.specs.Inside.{Fits, Held}
+use Rattle.store.proofs.Store.{plan-encode, state-encode, held-read}
+use Rattle.event.proofs.Fitting.{ranges, Room, sound-fits}
 use Rattle.platform.specs.declared.Stepped.the-variants.{Refused as Unstepped}
 use Rattle.platform.specs.declared.Wrote.the-variants.{Bytes}
 use Rattle.platform.specs.Calls.{badStore, shortPart, fileRoom, AfterStep, AfterRun, stepOutcome, step, ran, runState, run, writeFile}
 use Rattle.platform.specs.Demand3.{Call as Lent, aStep, aRun, sized, storeAfter, stepRefusal, runRefusal, refusal}
 use Rattle.platform.proofs.Encoded.{in-range-encode}
-use Rattle.platform.proofs.Fitting.{ranges, Room, sound-fits}
 
 -- ---- a plan and a state that a store holds
 

@@ -3,17 +3,18 @@
 use mathlib.Core.Path.{_≡_, refl, sym, ap, _∙_, subst}
 use mathlib.Core.Bool.{Bool, true, false, cond}
 use mathlib.Core.List.{List, [], _∷_, map}
-use Prim.Native.Nat.{ℕ, suc, _+_, _≤_, _<_}
+use Prim.Native.Nat.{ℕ, _+_, _≤_, _<_}
 use native.Mathlib.Omega.{arith}
 use borrow.Author.Tests.{eq-eqb}
-use lib.Dec.{eqb, leb, ltb}
+use lib.Dec.{leb, ltb}
 use lib.ListN.{length, getD}
 use Rattle.ring.specs.Ring.{numbers}
 use Rattle.runfile.specs.Plan.{Plan, planText, planTest}
 use Rattle.runfile.specs.File.{accepted, fileOf}
 use Rattle.runfile.proofs.RoundTrip.{written-back, accepted-plan, accepted-order}
-use Rattle.model.specs.Platform.{State, Call, step as stepOf, run as runOf, start, try, left, steps, after, called, calls, lineRoom}
-use Rattle.model.specs.Range.{Plain, Accepted, mostNext}
+use Rattle.ring.specs.Limits.{mostNext, lineRoom}
+use Rattle.model.specs.Platform.{State, Call, step as stepOf, run as runOf, start, try, left, steps, after, called, calls}
+use Rattle.model.specs.Range.{Plain, Accepted}
 use Rattle.model.proofs.Plans as plans
 use Rattle.model.proofs.Calls.{steps-add, calls-after}
 use Rattle.model.proofs.Theorems.{safety, settling, ranges}
@@ -21,7 +22,7 @@ use Rattle.model.specs.Demand3.{Safe, Settles}
 use Rattle.store.specs.Store.{storeSize, encode, planIn, stateIn, storeInRange}
 use Rattle.platform.specs.declared.Opened.the-variants.{Ready}
 use Rattle.platform.specs.Calls.{badStore, openPlan, openAnswer, openFile}
-use Rattle.platform.specs.Demand3.{Call as Lent, aStep, aRun, sized, storeAfter, storeAfterAll, NoneAnswers, eventsOf, AfterCalls, Demand3, Kept}
+use Rattle.platform.specs.Demand3.{Call as Lent, sized, storeAfter, storeAfterAll, NoneAnswers, eventsOf, AfterCalls, Demand3, Kept}
 use Rattle.platform.proofs.Stores.{Holds, plain-of, plan-of, state-of, in-range-of, in-range, call-store, call-not-7, writes, Lends, lends, steps-hold}
 
 -- a call does some number of events

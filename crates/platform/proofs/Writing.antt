@@ -1,8 +1,7 @@
 -- Rows written one after another, and the lines of a plan. Assumes nothing.
-use mathlib.Core.Path.{_≡_, refl, sym, ap, _∙_}
+use mathlib.Core.Path.{_≡_, sym, ap, _∙_}
 use mathlib.Core.List.{List, [], _∷_, _++_, append-nil}
-use Prim.Native.Nat.{ℕ, zero, suc, _+_, _≤_, _<_}
-use native.Mathlib.Nat.{one-mul}
+use Prim.Native.Nat.{ℕ, _+_, _≤_, _<_}
 use native.Mathlib.Numerals.{add-one}
 use native.Mathlib.Omega.{arith}
 use lib.ListN.{length, take, drop, getD, length-append, take-append-drop}
@@ -13,13 +12,9 @@ use Rattle.runfile.specs.Plan.{Plan, startText, crashText, delayText, rowsText,
 use Rattle.runfile.specs.File.{opening}
 use Rattle.runfile.proofs.RoundTrip.{rows-append}
 use Rattle.model.specs.Range.{noCrash, rowAt}
-use Rattle.fields.specs.Fields.{fieldAt}
 use Rattle.store.specs.declared.CrashRow.{CrashRow}
-use Rattle.store.specs.Columns.{cell, number}
-use Rattle.store.specs.Store.{delayCount, delayNumbers, delayTicks, delayRowIn, planIn, crashRow}
-use Rattle.store.proofs.Reading.{row-made, length-made}
-use Rattle.platform.specs.declared.write.DelayRow.{DelayRow}
-use Rattle.platform.specs.Writing.{delayAt, delayRow}
+use Rattle.store.specs.declared.DelayRow.{DelayRow}
+use Rattle.store.specs.Inside.{crashRow, delayAt, delayRow}
 
 module _ {A : Type 0} (text : A → List ℕ) (xs : List A) where
   -- the lines of the first i rows
@@ -74,12 +69,6 @@ module _ (p : Plan) {l m : List ℕ} {at r : ℕ} (i : ℕ) where
       → Put l at (rowsTo delayText (p .delays) i) r m → row ≡ delayRow (delayAt p i) → Put m r (delayText (record { number = row .number; delay = row .delay })) q k
       → Put l at (rowsTo delayText (p .delays) (i + 1)) q k
   delay-written h room put e s = rows-turn delayText (p .delays) i (record { number = 0; delay = 0 }) h room put (rw e at s)
-
--- an L row by the bytes of its fields
-pub delay-read : (b : List ℕ) (i : ℕ) → i < length (planIn b .delays) → delayAt (planIn b) i ≡ record { number = cell b delayNumbers i; delay = fieldAt b (delayTicks .at + i) 1 }
-unfolding planIn
-delay-read b i h =
-    row-made (delayRowIn b) (number b delayCount) i (record { number = 0; delay = 0 }) (rw (← length-made (delayRowIn b) (number b delayCount)) h) ∙ rw (one-mul i)
 
 -- ---- a plan's lines
 

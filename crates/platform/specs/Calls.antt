@@ -1,7 +1,7 @@
 -- The four public calls: opening, step, run and the run-file writer, as document 01's 'The platform' and 'Where a call is turned down'
 -- state them. Each definition gives, for every input, the answer and every byte that was lent for writing. A call that is refused leaves
 -- what it was lent, but for a run's earlier events. Assumes nothing.
-use mathlib.Core.Bool.{Bool, cond}
+use mathlib.Core.Bool.{cond}
 use mathlib.Core.List.{List, [], _∷_, _++_}
 use Prim.Native.Nat.{ℕ}
 use lib.Dec.{eqb, ltb}
@@ -11,7 +11,8 @@ use Rattle.logline.specs.declared.Line.{Line}
 use Rattle.logline.specs.Line.{lineText}
 use Rattle.runfile.specs.Plan.{Plan, planText}
 use Rattle.runfile.specs.File.{Answer, accepted, fileOf, refused as turnedDown}
-use Rattle.model.specs.Platform.{State, Outcome, did, ended, refused, start, try, steps, eventCount, runAnswer, spent, finished, overfull, lineRoom, Answer as Ending}
+use Rattle.ring.specs.Limits.{lineRoom}
+use Rattle.model.specs.Platform.{State, Outcome, did, ended, refused, start, try, steps, eventCount, runAnswer, spent, finished, overfull, Answer as Ending}
 use Rattle.model.specs.Lines.{lineOf, eventLines, lastLine}
 use Rattle.store.specs.Store.{storeSize, encode, planIn, stateIn, storeInRange}
 use Rattle.platform.specs.declared.Opened.{Opened}
@@ -84,13 +85,17 @@ stepOutcome p s ended store log =
     record { answer = Done (lastLine p s) (length text); store = store; log = put log 0 text }
 stepOutcome p s refused store log = record { answer = Unstepped tooMany; store = store; log = log }
 
+-- of what a store holds
+abbrev pub stepNext : List ℕ → List ℕ → AfterStep
+stepNext store log = stepOutcome (planIn store) (stateIn store) (try (planIn store) (stateIn store)) store log
+
 -- 7, then 9, then 8
 unfoldable pub step : List ℕ → List ℕ → AfterStep
 step store log =
     cond (storeInRange store)
     (cond (ltb (length log) lineRoom)
     (record { answer = Unstepped shortPart; store = store; log = log })
-    (stepOutcome (planIn store) (stateIn store) (try (planIn store) (stateIn store)) store log))
+    (stepNext store log))
     (record { answer = Unstepped badStore; store = store; log = log })
 
 -- ---- run
@@ -109,11 +114,15 @@ ran overfull events = Unrun tooMany events
 unfoldable pub runState : Plan → State → ℕ → AfterRun
 runState p s budget = record { answer = ran (runAnswer p budget s) (eventCount p budget s); store = encode p (steps p budget s) }
 
+-- of what a store holds
+abbrev pub runNext : List ℕ → ℕ → AfterRun
+runNext store budget = runState (planIn store) (stateIn store) budget
+
 -- 7 comes with no events
 unfoldable pub run : List ℕ → ℕ → AfterRun
 run store budget =
     cond (storeInRange store)
-    (runState (planIn store) (stateIn store) budget)
+    (runNext store budget)
     (record { answer = Unrun badStore 0; store = store })
 
 -- ---- the run-file writer

@@ -10,7 +10,7 @@ use lib.ListN.{length}
 use Rattle.text.specs.Put.{put}
 use Rattle.runfile.specs.Plan.{Plan}
 use Rattle.model.specs.Platform.{after, events, step as stepOf, run as runOf, Call as Sized}
-use Rattle.model.specs.Range.{mostNext}
+use Rattle.ring.specs.Limits.{mostNext}
 use Rattle.model.specs.Demand3.{Safe, Settles}
 use Rattle.store.specs.Store.{encode, planIn, stateIn, storeInRange}
 use Rattle.platform.specs.declared.Stepped.{Stepped}
@@ -18,7 +18,7 @@ use Rattle.platform.specs.declared.Stepped.the-variants.{Did, Done, Refu
 use Rattle.platform.specs.declared.Ran.{Ran}
 use Rattle.platform.specs.declared.Ran.the-variants.{Done as Finished, Spent, Refused as Unrun}
 use Rattle.platform.specs.declared.Wrote.the-variants.{Bytes}
-use Rattle.platform.specs.Calls.{badStore, fileRoom, AfterStep, AfterRun, AfterWrite, step, run, writeFile}
+use Rattle.platform.specs.Calls.{badStore, fileRoom, step, run, writeFile}
 
 -- ---- a list of calls
 

@@ -1,17 +1,14 @@
 -- How opening fills a store: with zeros, then the P line, the nodes, the C rows and the L rows. Assumes nothing.
 use mathlib.Core.Path.{_≡_}
 use mathlib.Core.List.{List, [], map}
-use Prim.Native.Nat.{ℕ, _+_, _*_}
+use Prim.Native.Nat.{ℕ}
 use lib.ListN.{take}
 use Rattle.ring.specs.Ring.{numbers}
-use Rattle.fields.specs.Fields.{putAt}
-use Rattle.node.specs.declared.Node.{Node}
 use Rattle.node.specs.Node.{opening}
 use Rattle.runfile.specs.Plan.{Plan}
 use Rattle.runfile.specs.File.{Answer, accepted, fileOf, refused as turnedDown, opening as startPlan}
 use Rattle.model.specs.Platform.{State}
-use Rattle.store.specs.Columns.{Field}
-use Rattle.store.specs.Store.{nodeCount, longestDelay, period, timeOut, endTick, crashCount, delayCount, emitters, observers, watches, heartbeats, deadLists, crashTicks, crashNodes, delayNumbers, delayTicks, encode}
+use Rattle.store.specs.Store.{encode}
 
 -- ---- what an accepted file plans
 
@@ -38,24 +35,3 @@ nodesUpTo p k = record { done = 0; last = 0; next = 0; nodes = map (opening (p .
 
 unfoldable pub filled : Plan → ℕ → ℕ → ℕ → List ℕ
 filled p k i j = encode (rowsUpTo p i j) (nodesUpTo p k)
-
--- ---- what each part puts
-
--- a number at place i of a field
-abbrev pub putCell : List ℕ → Field → ℕ → ℕ → List ℕ
-putCell b f i x = putAt b (f .at + f .width * i) (f .width) x
-
--- N, D, H, W and the end tick
-unfoldable pub putStart : List ℕ → ℕ → ℕ → ℕ → ℕ → ℕ → List ℕ
-putStart b n h w d end = putCell (putCell (putCell (putCell (putCell b nodeCount 0 n) longestDelay 0 d) period 0 h) timeOut 0 w) endTick 0 end
-
-unfoldable pub putNode : List ℕ → ℕ → Node → List ℕ
-putNode b i a = putCell (putCell (putCell (putCell (putCell b emitters i (a .emitter)) observers i (a .observer)) watches i (a .watch)) heartbeats i (a .heartbeat)) deadLists i (a .list)
-
--- a C row after the first i, and their count
-unfoldable pub putCrash : List ℕ → ℕ → ℕ → ℕ → List ℕ
-putCrash b i tick node = putCell (putCell (putCell b crashTicks i tick) crashNodes i node) crashCount 0 (i + 1)
-
--- an L row after the first i, and their count
-unfoldable pub putDelay : List ℕ → ℕ → ℕ → ℕ → List ℕ
-putDelay b i number delay = putCell (putCell (putCell b delayNumbers i number) delayTicks i delay) delayCount 0 (i + 1)

@@ -2,4 +2,3 @@
 pub mod Calls
 pub mod Demand3
 pub mod Filling
-pub mod Writing

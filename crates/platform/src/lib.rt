@@ -1,16 +1,14 @@
 // The rehearsal platform: opening, step, run and the run-file writer, on a store of 65,536 lent bytes.
 mod fill; // fill.rt: the store that opening makes
 mod write; // write.rt: the run file of a store
+mod advance; // advance.rt: events, for a step and for a run
 
 use logline::Line;
-use logline::Written;
 use runfile::Read;
+use store::layout;
+use store::range;
 ghost use mathlib.Core.Path.{_≡_};
-ghost use lib.ListN.{length};
-ghost use Rattle.text.specs.Put.{put, Put};
-ghost use Rattle.logline.specs.declared.Written.the-variants.{Bytes};
-ghost use Rattle.logline.specs.Line.{lineText, writtenOf, outOf};
-ghost use Rattle.platform.specs.Calls.{openFile};
+ghost use Rattle.platform.specs.Calls.{openFile, step, run, writeFile};
 
 // Opening's answer: the store is ready, or the number of the refusal and its line.
 pub enum Opened {
@@ -39,10 +37,14 @@ pub enum Wrote {
     Refused(u64),
 }
 
-const STORE_SIZE: usize = 65536;
+// What a step asks for, whatever the line.
+const LINE_ROOM: usize = 40;
 
-// Opens a store from a run file. It is not public before step and run stand beside it.
-fn open_store(file: &[u8], store: &mut [u8]) -> Opened
+// What the run-file writer asks for, whatever the file.
+const FILE_ROOM: usize = 65536;
+
+// Opens a store from a run file.
+pub fn open_store(file: &[u8], store: &mut [u8]) -> Opened
     ensures { λ r. ⌜ r ≡ openFile (now (file .entry)) (now (store .entry)) .answer ⌝ }
     ensures { λ _. ⌜ now (store .exit) ≡ openFile (now (file .entry)) (now (store .entry)) .store ⌝ }
 {
@@ -50,7 +52,7 @@ fn open_store(file: &[u8], store: &mut [u8]) -> Opened
     match read {
         Read::Refused(number, line) => Opened::Refused(number, line),
         Read::Accepted(o) => {
-            if store.len() != STORE_SIZE {
+            if store.len() != layout::STORE_SIZE {
                 return Opened::Refused(7, 0);
             }
             fill::fill(store, file, o);
@@ -59,14 +61,42 @@ fn open_store(file: &[u8], store: &mut [u8]) -> Opened
     }
 }
 
-// Puts a line that the log writer takes at the start of a log part. Answers its length.
-fn put_line(line: Line, log: &mut [u8]) -> usize
-    requires { ⌜ writtenOf line (length (now log)) ≡ Bytes (length (lineText line)) ⌝ }
-    requires { ⌜ outOf line (now log) ≡ put (now log) 0 (lineText line) ⌝ }
-    ensures { λ r. ⌜ Put (now (log .entry)) 0 (lineText line) r (now (log .exit)) ⌝ }
+// Does the next event of a store and writes its line at the start of a log part, or the last line where none is left.
+pub fn step(store: &mut [u8], log: &mut [u8]) -> Stepped
+    ensures { λ r. ⌜ r ≡ step (now (store .entry)) (now (log .entry)) .answer ⌝ }
+    ensures { λ _. ⌜ now (store .exit) ≡ step (now (store .entry)) (now (log .entry)) .store ⌝ }
+    ensures { λ _. ⌜ now (log .exit) ≡ step (now (store .entry)) (now (log .entry)) .log ⌝ }
 {
-    let Written::Bytes(size) = logline::write_line(line, log) else {
-        return 0;
-    };
-    size
+    if !range::in_range(store) {
+        return Stepped::Refused(7);
+    }
+    if log.len() < LINE_ROOM {
+        return Stepped::Refused(9);
+    }
+    advance::step_ready(store, log)
+}
+
+// Does the next events of a store, as many as a budget allows.
+pub fn run(store: &mut [u8], budget: u64) -> Ran
+    ensures { λ r. ⌜ r ≡ run (now (store .entry)) budget .answer ⌝ }
+    ensures { λ _. ⌜ now (store .exit) ≡ run (now (store .entry)) budget .store ⌝ }
+{
+    if !range::in_range(store) {
+        return Ran::Refused(7, 0);
+    }
+    advance::run_ready(store, budget)
+}
+
+// Writes the run file of a store at the start of a lent part.
+pub fn write_file(store: &[u8], out: &mut [u8]) -> Wrote
+    ensures { λ r. ⌜ r ≡ writeFile (now (store .entry)) (now (out .entry)) .answer ⌝ }
+    ensures { λ _. ⌜ now (out .exit) ≡ writeFile (now (store .entry)) (now (out .entry)) .out ⌝ }
+{
+    if !range::in_range(store) {
+        return Wrote::Refused(7);
+    }
+    if out.len() < FILE_ROOM {
+        return Wrote::Refused(9);
+    }
+    Wrote::Bytes(write::put_file(store, out))
 }

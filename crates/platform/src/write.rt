@@ -1,23 +1,11 @@
 // Writes the run file of a store.
-use store::cells;
 use store::plan;
-ghost use mathlib.Core.Path.{_≡_};
-ghost use Prim.Native.Nat.{_+_, _<_, _≤_};
+ghost use Prim.Native.Nat.{_+_, _≤_};
 ghost use lib.ListN.{length};
 ghost use Rattle.text.specs.Put.{Put};
 ghost use Rattle.runfile.specs.Plan.{crashText, delayText, rowsText, planText};
-ghost use Rattle.store.specs.Store.{Held, planIn};
-ghost use Rattle.platform.specs.Writing.{delayAt, delayRow};
-
-const DELAY_NUMBERS: usize = 2112;
-
-const DELAY_TICKS: usize = 10304;
-
-// A row of an L line.
-pub struct DelayRow {
-    pub number: u32,
-    pub delay: u8,
-}
+ghost use Rattle.store.specs.Store.{planIn};
+ghost use Rattle.store.specs.Inside.{Held};
 
 // The C lines, from the place first on. Answers the place after them.
 fn put_crashes(store: &[u8], out: &mut [u8], first: usize) -> usize
@@ -36,17 +24,6 @@ fn put_crashes(store: &[u8], out: &mut [u8], first: usize) -> usize
     at
 }
 
-// The L row at a place.
-fn delay_at(s: &[u8], i: usize) -> DelayRow
-    requires { ⌜ Held (now s) ⌝ }
-    requires { ⌜ i < length (planIn (now s) .delays) ⌝ }
-    ensures { λ r. ⌜ r ≡ delayRow (delayAt (planIn (now (s .entry))) i) ⌝ }
-{
-    let number = cells::get4(s, DELAY_NUMBERS + 4 * i);
-    let delay = cells::get1(s, DELAY_TICKS + i);
-    DelayRow { number, delay }
-}
-
 // The L lines, from the place first on. Answers the place after them.
 fn put_delays(store: &[u8], out: &mut [u8], first: usize) -> usize
     requires { ⌜ Held (now store) ⌝ }
@@ -57,7 +34,7 @@ fn put_delays(store: &[u8], out: &mut [u8], first: usize) -> usize
     let mut at = first;
     let mut i: usize = 0;
     while i < count {
-        let row = delay_at(store, i);
+        let row = plan::delay_at(store, i);
         at = runfile::put_delay(out, at, row.number as u64, row.delay as u64);
         i += 1;
     }

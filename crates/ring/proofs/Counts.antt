@@ -16,7 +16,8 @@ use lib.Seq.{take-at}
 use lib.Pow.{pow-mono, pow-pos, shr-lt, shr-shr, ones-split, split, field, mod-mod-pow}
 use lib.Bits.{bitAnd, and-mask}
 use lib.Arith.{digits-mod}
-use Rattle.ring.specs.Ring.{mostNodes, rowSize, none, keep, numbers, listed, unlisted, unlistedSet, ahead, count, powers, jumps, targets, row}
+use Rattle.ring.specs.Limits.{mostNodes}
+use Rattle.ring.specs.Ring.{rowSize, none, keep, numbers, listed, unlisted, unlistedSet, ahead, count, powers, jumps, targets, row}
 use Rattle.ring.proofs.Rows.{length-numbers, filled}
 
 -- ---- the ones of the unlisted set

@@ -8,12 +8,9 @@ use Prim.Native.Nat.{ℕ, zero, suc, _-_, _/_, _%_, _^_, _<_}
 use lib.Bits.{bitOr}
 use lib.Dec.{eqb, ltb, leb}
 use lib.ListN.{length, getD, take, drop, replicate}
+use Rattle.ring.specs.Limits.{mostNodes}
 
 -- ---- 01's numbers
-
--- "N is the number of nodes, 1 to 64"
-abbrev pub mostNodes : ℕ
-mostNodes = 64
 
 -- "rows of six targets"
 abbrev pub rowSize : ℕ

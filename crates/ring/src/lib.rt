@@ -3,7 +3,8 @@
 ghost use mathlib.Core.Path.{_≡_};
 ghost use Prim.Native.Nat.{_-_, _^_, _<_, _≤_};
 ghost use lib.ListN.{length, getD};
-ghost use Rattle.ring.specs.Ring.{mostNodes, numbers, listed, listing, unlistedSet, place, round, ahead, back, next, count, jumps, targets, row, tableAnswer, tableRow, tableRows};
+ghost use Rattle.ring.specs.Limits.{mostNodes};
+ghost use Rattle.ring.specs.Ring.{numbers, listed, listing, unlistedSet, place, round, ahead, back, next, count, jumps, targets, row, tableAnswer, tableRow, tableRows};
 
 // The most nodes that a ring has: the bits of a dead list, and the rows of a forwarding table.
 pub const MOST_NODES: usize = 64;

@@ -5,6 +5,7 @@ use Prim.Native.Nat.{ℕ, _+_}
 use lib.Dec.{eqb, leb, ltb}
 use lib.ListN.{length}
 use Rattle.text.specs.Field.{field, lineFeed}
+use Rattle.ring.specs.Limits.{mostNodes, mostH, mostW, mostD, mostTick, mostNumber, mostDelays}
 
 -- a line C: node `node` crashes at tick `tick`
 pub record Crash : Type 0 where
@@ -27,29 +28,6 @@ pub record Plan : Type 0 where
   pub crashes : List Crash
   pub delays : List Delay
 
--- ---- limits
-
-abbrev pub mostNodes : ℕ
-mostNodes = 64
-
-abbrev pub mostH : ℕ
-mostH = 1000
-
-abbrev pub mostW : ℕ
-mostW = 65535
-
-abbrev pub mostD : ℕ
-mostD = 255
-
-abbrev pub mostEnd : ℕ
-mostEnd = 1000000
-
-abbrev pub mostNumber : ℕ
-mostNumber = 999999
-
-abbrev pub mostDelays : ℕ
-mostDelays = 2048
-
 -- ---- ranges: 'H 1 to 1,000; W 1 to 65,535; D 1 to 255; end 0 to 1,000,000; tick 0 to end; number 0 to 999,999; delay 1 to D'
 
 unfoldable pub within : ℕ → ℕ → ℕ → Bool
@@ -57,7 +35,7 @@ within low high x = leb low x && leb x high
 
 -- the ranges of a P line
 unfoldable pub startRanges : Plan → Bool
-startRanges p = within 1 mostNodes (p .n) && (within 1 mostH (p .h) && (within 1 mostW (p .w) && (within 1 mostD (p .d) && within 0 mostEnd (p .end))))
+startRanges p = within 1 mostNodes (p .n) && (within 1 mostH (p .h) && (within 1 mostW (p .w) && (within 1 mostD (p .d) && within 0 mostTick (p .end))))
 
 -- W is at least H + D
 unfoldable pub longEnough : Plan → Bool

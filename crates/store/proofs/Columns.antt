@@ -4,14 +4,14 @@ use Prim.Native.Nat.{ℕ, zero, suc, _+_, _-_, _*_, _≤_, _<_, _^_}
 use mathlib.Core.Path.{_≡_, refl, sym, ap, _∙_}
 use mathlib.Core.Bool.{cond}
 use mathlib.Core.List.{List, [], _∷_, _++_, append-assoc}
-use native.Mathlib.Nat.{mul-suc, mul-add, add-zero, mul-le-mul-left}
+use native.Mathlib.Nat.{mul-suc, mul-le-mul-left}
 use native.Mathlib.Omega.{arith}
 use lib.Dec.{eqb}
 use lib.ListN.{length, take, drop, getD, set, replicate, length-append, length-replicate, length-set, length-drop, replicate-append-replicate}
 use lib.Seq.{split-at, set-split, length-take-le}
-use Rattle.fields.specs.Fields.{bytes, fieldAt, putAt}
+use Rattle.fields.specs.Fields.{fieldAt, putAt}
 use Rattle.store.specs.Gap.{without, closed}
-use Rattle.store.specs.Columns.{Field, Column, field, _holds_, unused, withValues, cell, size, used, packs, columnBytes, bytesOf, Fit, AllFit}
+use Rattle.store.specs.Columns.{Field, Column, field, unused, withValues, cell, size, used, packs, columnBytes, bytesOf}
 use Rattle.store.proofs.Parts.{length-packs, get-packs, put-packs, closed-packs, add-packs}
 
 pub length-without : {A : Type 0} (i : ℕ) (l : List A) → i < length l → suc (length (without i l)) ≡ length l

@@ -1,18 +1,19 @@
 -- The L row of a message, where rows rise by number: what a search for it may conclude. Assumes nothing.
-use Prim.Native.Nat.{ℕ, zero, suc, _+_, _-_, _*_, _/_, _≤_, _<_}
+use Prim.Native.Nat.{ℕ, zero, suc, _+_, _-_, _≤_, _<_}
 use mathlib.Core.Path.{_≡_, refl, sym, ap, _∙_}
 use mathlib.Core.Logic.{_≢_}
-use mathlib.Core.Bool.{Bool, true, false, _&&_, and-eq-true-iff}
+use mathlib.Core.Bool.{true, and-eq-true-iff}
 use mathlib.Core.List.{List, [], _∷_}
 use native.Mathlib.Decide.{ℕ-discrete, decLt}
 use native.Mathlib.Omega.{arith}
 use borrow.Author.Tests.{ltb-true, eq-eqb, ne-eqb}
 use lib.Dec.{ltb}
 use lib.ListN.{length, getD}
-use Rattle.runfile.specs.Plan.{Plan, Delay, above, rising, risingFrom, delayOrder}
+use Rattle.runfile.specs.Plan.{Delay, above, rising, risingFrom, delayOrder}
 use Rattle.fields.specs.Fields.{fieldAt}
 use Rattle.model.specs.Platform.{delayIn, delayOf}
-use Rattle.store.specs.Store.{planIn, delayNumbers, delayTicks, delayNumber, FirstRow}
+use Rattle.store.specs.Store.{planIn, delayNumbers, delayTicks}
+use Rattle.store.specs.Inside.{delayNumber, FirstRow}
 use Rattle.store.specs.Columns.{cell}
 use Rattle.store.proofs.Store.{delay-read}
 

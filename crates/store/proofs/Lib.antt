@@ -6,3 +6,7 @@ pub mod Store
 pub mod Changes
 pub mod States
 pub mod Delays
+pub mod RowTests
+pub mod StateTests
+pub mod Blank
+pub mod Filling

@@ -2,10 +2,10 @@
 use Prim.Native.Nat.{ℕ, suc, _+_, _-_, _*_, _≤_, _<_, _^_}
 use mathlib.Core.Path.{_≡_, refl, sym, ap, _∙_}
 use mathlib.Core.List.{List, [], _∷_, _++_, append-assoc, append-nil}
-use native.Mathlib.Nat.{mul-zero, mul-suc, mul-add, add-zero}
+use native.Mathlib.Nat.{mul-zero, mul-suc, mul-add}
 use native.Mathlib.Omega.{arith}
 use lib.ListN.{length, take, drop, getD, set, replicate, length-append, length-drop}
-use lib.Seq.{paste, split-at, set-split, take-at, drop-at, drop-append-add, drop-drop, length-take-le}
+use lib.Seq.{split-at, set-split, take-at, drop-at, drop-append-add, drop-drop, length-take-le}
 use Rattle.fields.specs.Fields.{bytes, fieldAt, putAt, cleared}
 use Rattle.fields.proofs.Bytes.{length-bytes}
 use Rattle.fields.proofs.Fields.{put-eq, field-part}

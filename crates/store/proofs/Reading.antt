@@ -1,18 +1,18 @@
 -- Columns that are read from bytes have these bytes, where the unused ones are zero. Assumes nothing.
 use Prim.Native.Nat.{ℕ, zero, suc, _+_, _-_, _*_, _≤_, _<_, _^_}
 use mathlib.Core.Path.{_≡_, refl, sym, ap, _∙_}
-use mathlib.Core.Bool.{Bool, true, false, _&&_, and-eq-true-iff}
-use mathlib.Core.List.{List, [], _∷_, _++_, map, map-map, append-assoc}
-use native.Mathlib.Nat.{mul-add, mul-suc, mul-zero, add-zero, mul-le-mul-left, one-le-pow, pow-zero}
+use mathlib.Core.Bool.{true, and-eq-true-iff}
+use mathlib.Core.List.{List, [], _∷_, _++_, map, map-map}
+use native.Mathlib.Nat.{mul-add, mul-suc, mul-zero, add-zero, mul-le-mul-left, one-le-pow}
 use native.Mathlib.Decide.{decLt}
 use native.Mathlib.Omega.{arith}
 use borrow.Author.Tests.{eqb-true, leb-true, le-leb}
 use lib.Dec.{eqb, leb, lit<}
-use lib.ListN.{length, take, drop, getD, replicate, length-append, length-drop, length-map, take-append-drop, List·getD-map, List·getD-eq-default}
+use lib.ListN.{length, take, drop, getD, replicate, length-append, length-drop, length-map, take-append-drop, List·getD-eq-default}
 use lib.Seq.{slice, take-add, drop-drop, drop-at, length-take-le, drop-length}
 use Rattle.ring.specs.Ring.{numbers}
 use Rattle.ring.proofs.Rows.{length-numbers}
-use Rattle.fields.specs.Fields.{bytes, fieldAt, zeros}
+use Rattle.fields.specs.Fields.{zeros}
 use Rattle.fields.proofs.Zeros.{zeros-all}
 use Rattle.fields.proofs.Fields.{bytes-field, field-lt}
 use Rattle.store.specs.Columns.{Field, Column, cell, size, used, packs, columnBytes, bytesOf, Fit, AllFit, joined, roomTest, unusedTest}

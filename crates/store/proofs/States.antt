@@ -1,31 +1,25 @@
 -- The bytes that each change of a state leaves. Assumes nothing.
-use Prim.Native.Nat.{ℕ, zero, suc, _+_, _-_, _*_, _≤_, _<_, _^_}
+use Prim.Native.Nat.{ℕ, zero, suc, _+_, _-_, _<_, _^_}
 use mathlib.Core.Path.{_≡_, refl, sym, ap, _∙_}
 use mathlib.Core.List.{List, [], _∷_, _++_, map, map-append}
-use native.Mathlib.Nat.{one-mul}
 use native.Mathlib.Numerals.{add-one}
 use native.Mathlib.Omega.{arith}
 use lib.Dec.{lit<}
-use lib.ListN.{length, take, drop, getD, set, length-map, length-set, length-append}
+use lib.ListN.{length, take, drop, set, length-map, length-set, length-append}
 use Rattle.fields.specs.Fields.{putAt}
 use Rattle.node.specs.declared.Node.{Node}
-use Rattle.runfile.specs.Plan.{Plan, Crash, Delay}
-use Rattle.model.specs.Platform.{State, InFlight, mostInFlight}
+use Rattle.runfile.specs.Plan.{Plan}
+use Rattle.ring.specs.Limits.{mostInFlight}
+use Rattle.model.specs.Platform.{State, InFlight}
 use Rattle.model.specs.Platform as model
 use Rattle.store.specs.Gap.{without}
-use Rattle.store.specs.Columns.{Field, Column, cellPut, cellOut, bytesOf}
-use Rattle.store.specs.Store.{storeSize, crashesDone, lastTick, nextNumber, messageCount, emitters, observers, watches, heartbeats, deadLists, messageNumbers, messageDues, messageKinds, messageSenders, messageReceivers, messageSubjects, columns, encode, planIn, stateIn, Fits, Held, withNode, withTick, crashed, withoutMessage, sent}
+use Rattle.store.specs.Columns.{cellPut, cellOut, bytesOf}
+use Rattle.store.specs.Store.{crashesDone, lastTick, nextNumber, messageCount, emitters, observers, watches, heartbeats, deadLists, messageNumbers, messageDues, messageKinds, messageSenders, messageReceivers, messageSubjects, columns, encode, planIn, stateIn}
+use Rattle.store.specs.Inside.{SmallNode, Fits, Held, withNode, withTick, crashed, withoutMessage, sent}
+use Rattle.store.specs.Filling.{putNode}
 use Rattle.store.proofs.Columns.{columnOf, putIn, addIn, takeIn, length-without}
 use Rattle.store.proofs.Changes.{Change, put, add, out, onBytes, onColumns, Admit, AdmitAll, Small, AllSmall, bytesAfter, columnsAfter, changes-bytes, changes-fit}
 use Rattle.store.proofs.Store.{laid, fits-of}
-
--- a node's numbers fit their fields, as the types of the code's node say
-pub record NodeFits (a : Node) : Type 0 where
-  pub emitter : a .emitter < 256
-  pub observer : a .observer < 256
-  pub watch : a .watch < 256 ^ 4
-  pub heartbeat : a .heartbeat < 256 ^ 4
-  pub list : a .list < 256 ^ 8
 
 -- ---- a field of rows of which one is changed
 
@@ -158,7 +152,7 @@ module _ (p : Plan) (s : State) where
     pub node-bytes : (i : ℕ) (a : Node) → i < length (s .nodes) → bytesAfter (nodePuts i a) (encode p s) ≡ encode p (withNode s i a)
     node-bytes i a h = after (nodePuts i a) (withNode s i a) (node-admit i a h) (node-columns i a)
 
-    pub node-fits : (i : ℕ) (a : Node) → i < length (s .nodes) → NodeFits a → Fits p (withNode s i a)
+    pub node-fits : (i : ℕ) (a : Node) → i < length (s .nodes) → SmallNode a → Fits p (withNode s i a)
     unfolding withNode AllSmall Small
     node-fits i a h k =
         fits-after (nodePuts i a) (withNode s i a) (node-admit i a h) (k .emitter, (k .observer, (k .watch, (k .heartbeat, (k .list, tt)))))
@@ -205,13 +199,9 @@ module _ (b : List ℕ) (v : Held b) where
   unfolding bytesAfter onBytes
   put-crash = of-held (crashPuts p s) (crashed s) (crash-bytes p s (v .fits))
 
-  pub put-node : (i : ℕ) (a : Node) → i < p .n
-      → putAt (putAt (putAt (putAt (putAt b (emitters .at + i) 1 (a .emitter)) (observers .at + i) 1 (a .observer)) (watches .at + 4 * i) 4 (a .watch)) (heartbeats .at + 4 * i) 4 (a .heartbeat)) (deadLists .at + 8 * i) 8 (a .list)
-      ≡ encode p (withNode s i a)
-  unfolding bytesAfter onBytes
-  put-node i a h =
-      ap (λ (k : ℕ). putAt (putAt (putAt (putAt (putAt b (emitters .at + k) 1 (a .emitter)) (observers .at + k) 1 (a .observer)) (watches .at + 4 * i) 4 (a .watch)) (heartbeats .at + 4 * i) 4 (a .heartbeat)) (deadLists .at + 8 * i) 8 (a .list)) (sym (one-mul i))
-      ∙ of-held (nodePuts p s i a) (withNode s i a) (node-bytes p s (v .fits) i a (rw (v .fits .nodes) h))
+  pub put-node : (i : ℕ) (a : Node) → i < p .n → putNode b i a ≡ encode p (withNode s i a)
+  unfolding putNode bytesAfter onBytes
+  put-node i a h = of-held (nodePuts p s i a) (withNode s i a) (node-bytes p s (v .fits) i a (rw (v .fits .nodes) h))
 
   pub put-send : (kind from to subject due n number : ℕ) → n ≡ length (s .flight) → number ≡ s .next → n < mostInFlight
       → cellPut (cellPut (cellPut (cellPut (cellPut (cellPut (cellPut (cellPut b messageNumbers n number) messageDues n due) messageKinds n kind) messageSenders n from) messageReceivers n to) messageSubjects n subject) nextNumber 0 (number + 1)) messageCount 0 (n + 1)

@@ -1,9 +1,9 @@
 -- What a store's bytes hold is what was encoded, and a store of the right length whose unused bytes are zero is the encoding of what it
 -- holds. Assumes nothing.
-use Prim.Native.Nat.{ℕ, zero, suc, _+_, _-_, _*_, _≤_, _<_, _^_}
-use mathlib.Core.Path.{_≡_, refl, sym, ap, _∙_}
-use mathlib.Core.Bool.{Bool, true, false}
-use mathlib.Core.List.{List, [], _∷_, _++_, map}
+use Prim.Native.Nat.{ℕ, _+_, _-_, _<_}
+use mathlib.Core.Path.{_≡_, refl, sym, _∙_}
+use mathlib.Core.Bool.{true}
+use mathlib.Core.List.{List, map}
 use native.Mathlib.Nat.{one-mul}
 use native.Mathlib.Omega.{arith}
 use lib.Dec.{lit<}
@@ -15,8 +15,9 @@ use Rattle.node.specs.Node.{alone}
 use Rattle.fields.specs.Fields.{fieldAt}
 use Rattle.model.specs.Platform.{State, InFlight, nodeOf, messageAt, noMessage}
 use Rattle.model.specs.Range.{rowAt}
-use Rattle.store.specs.Columns.{Field, Column, cell, number, bytesOf, Fit, AllFit, joined, roomTest, unusedTest}
-use Rattle.store.specs.Store.{storeSize, nodeCount, longestDelay, period, timeOut, crashCount, crashesDone, endTick, lastTick, nextNumber, delayCount, messageCount, emitters, observers, watches, heartbeats, deadLists, crashTicks, crashNodes, delayNumbers, delayTicks, messageNumbers, messageDues, messageKinds, messageSenders, messageReceivers, messageSubjects, columns, encode, nodeIn, crashRowIn, delayRowIn, messageIn, planIn, stateIn, Fits, Held}
+use Rattle.store.specs.Columns.{Field, cell, number, Fit, AllFit, joined, roomTest, unusedTest}
+use Rattle.store.specs.Store.{storeSize, nodeCount, longestDelay, period, timeOut, crashCount, crashesDone, endTick, lastTick, nextNumber, delayCount, messageCount, emitters, observers, watches, heartbeats, deadLists, crashTicks, crashNodes, delayNumbers, delayTicks, messageNumbers, messageDues, messageKinds, messageSenders, messageReceivers, messageSubjects, columns, encode, nodeIn, crashRowIn, delayRowIn, messageIn, planIn, stateIn}
+use Rattle.store.specs.Inside.{Fits, Held}
 use Rattle.store.proofs.Columns.{columnAt, columnOf, Laid, get-cell}
 use Rattle.store.proofs.Reading.{length-made, row-made, made-rows, ReadFrom, read-rows, read-back, read-fit, fit-at, fit-laid, fit-length}
 
@@ -152,7 +153,7 @@ done-lt b v = fit-at (columns (planIn b) (stateIn b)) (columnOf (columns (planIn
 -- ---- bytes that are read
 
 module _ (b : List ℕ) where
-  length-nodes : length (stateIn b .nodes) ≡ planIn b .n
+  pub length-nodes : length (stateIn b .nodes) ≡ planIn b .n
   unfolding stateIn planIn
   length-nodes = length-made (nodeIn b) (number b nodeCount)
 

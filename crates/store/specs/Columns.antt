@@ -97,7 +97,11 @@ unfoldable pub roomTest : List Column → Bool
 roomTest [] = true
 roomTest (c ∷ cs) = leb (length (c .values)) (c .field .places) && roomTest cs
 
+-- the bytes of a field beyond its first n numbers are zero
+abbrev pub restZero : List ℕ → Field → ℕ → Bool
+restZero s f n = zeros (slice (f .at + f .width * n) (f .at + size f) s)
+
 -- the unused bytes of each column are zero
 unfoldable pub unusedTest : List ℕ → List Column → Bool
 unusedTest s [] = true
-unusedTest s (c ∷ cs) = zeros (slice (c .field .at + used c) (c .field .at + size (c .field)) s) && unusedTest s cs
+unusedTest s (c ∷ cs) = restZero s (c .field) (length (c .values)) && unusedTest s cs

@@ -1,3 +1,5 @@
 pub mod Gap
 pub mod Columns
 pub mod Store
+pub mod Inside
+pub mod Filling

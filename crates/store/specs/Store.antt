@@ -1,19 +1,16 @@
 -- The store: the bytes of a plan and of the platform's state, and what a store's bytes hold. Document 01's 'The store is 65,536 lent
 -- bytes .. its unused part zero' and 'The team writes the layouts of record, message and store in docs/'. Assumes nothing.
 use mathlib.Core.Bool.{Bool, _&&_}
-use mathlib.Core.List.{List, [], _∷_, _++_, map}
-use mathlib.Core.Path.{_≡_}
-use Prim.Native.Nat.{ℕ, suc, _≤_, _<_}
+use mathlib.Core.List.{List, [], _∷_, map}
+use Prim.Native.Nat.{ℕ}
 use lib.Dec.{eqb}
-use lib.ListN.{length, getD, set}
+use lib.ListN.{length}
 use Rattle.ring.specs.Ring.{numbers}
 use Rattle.node.specs.declared.Node.{Node}
-use Rattle.runfile.specs.Plan.{Plan, Crash, Delay, mostNodes, mostDelays}
-use Rattle.model.specs.Platform.{State, InFlight, mostInFlight, without}
+use Rattle.runfile.specs.Plan.{Plan, Crash, Delay}
+use Rattle.model.specs.Platform.{State, InFlight}
 use Rattle.model.specs.Range.{storeTest}
-use Rattle.store.specs.Columns.{Field, Column, field, _holds_, unused, cell, number, bytesOf, AllFit, roomTest, unusedTest}
-use Rattle.store.specs.declared.CrashRow.{CrashRow}
-use Rattle.store.specs.declared.Flight.{Flight}
+use Rattle.store.specs.Columns.{Field, Column, field, _holds_, unused, cell, number, bytesOf, roomTest, unusedTest}
 
 abbrev pub storeSize : ℕ
 storeSize = 65536
@@ -197,77 +194,6 @@ stateIn b = record {
   nodes = map (nodeIn b) (numbers 0 (number b nodeCount));
   flight = map (messageIn b) (numbers 0 (number b messageCount));
 }
-
--- no more nodes, rows and messages than there are places
-pub record Counts (p : Plan) (s : State) : Type 0 where
-  pub nodes : p .n ≤ mostNodes
-  pub crashes : length (p .crashes) ≤ mostNodes
-  pub delays : length (p .delays) ≤ mostDelays
-  pub messages : length (s .flight) ≤ mostInFlight
-
--- bytes of a store's length with no more nodes, rows and messages than there are places: what reading them takes
-pub record Sized (b : List ℕ) : Type 0 where
-  pub size : length b ≡ storeSize
-  pub counts : Counts (planIn b) (stateIn b)
-
--- a plan and a state that a store can hold: the ring is in number order, and every number fits its field
-pub record Fits (p : Plan) (s : State) : Type 0 where
-  pub order : p .order ≡ numbers 0 (p .n)
-  pub nodes : length (s .nodes) ≡ p .n
-  pub counts : Counts p s
-  pub columns : AllFit (columns p s)
-
--- bytes that are the store of what they hold
-pub record Held (b : List ℕ) : Type 0 where
-  pub size : length b ≡ storeSize
-  pub canonical : b ≡ encode (planIn b) (stateIn b)
-  pub fits : Fits (planIn b) (stateIn b)
-
--- ---- a state with one thing changed
-
-unfoldable pub withNode : State → ℕ → Node → State
-withNode s x a = record { done = s .done; last = s .last; next = s .next; nodes = set (s .nodes) x a; flight = s .flight }
-
-unfoldable pub withTick : State → ℕ → State
-withTick s t = record { done = s .done; last = t; next = s .next; nodes = s .nodes; flight = s .flight }
-
--- one crash row more is done
-unfoldable pub crashed : State → State
-crashed s = record { done = suc (s .done); last = s .last; next = s .next; nodes = s .nodes; flight = s .flight }
-
--- the message at place i is delivered or dropped, and its place is free
-unfoldable pub withoutMessage : State → ℕ → State
-withoutMessage s i = record { done = s .done; last = s .last; next = s .next; nodes = s .nodes; flight = without i (s .flight) }
-
--- one message more is in flight, with the next number
-unfoldable pub sent : State → ℕ → ℕ → ℕ → ℕ → ℕ → State
-sent s kind from to subject due = record {
-  done = s .done;
-  last = s .last;
-  next = suc (s .next);
-  nodes = s .nodes;
-  flight = s .flight ++ (record { number = s .next; kind = kind; from = from; to = to; subject = subject; due = due } ∷ []);
-}
-
--- ---- rows as the code answers them
-
-abbrev pub crashRow : Crash → CrashRow
-crashRow r = record { tick = r .tick; node = r .node }
-
-abbrev pub flying : InFlight → Flight
-flying m = record { number = m .number; due = m .due; kind = m .kind; from = m .from; to = m .to; subject = m .subject }
-
--- ---- the search for a message's L row
-
--- the row's number at a place
-abbrev pub delayNumber : List Delay → ℕ → ℕ
-delayNumber rows i = getD rows i (record { number = 0; delay = 0 }) .number
-
--- r is the first place whose row has a number not below x: the rows before it are of lower numbers, and from it on of no lower ones
-pub record FirstRow (rows : List Delay) (x r : ℕ) : Type 0 where
-  pub inside : r ≤ length rows
-  pub before : (i : ℕ) → i < r → delayNumber rows i < x
-  pub from : (i : ℕ) → r ≤ i → i < length rows → x ≤ delayNumber rows i
 
 -- ---- number 7: other length, a field out of range, or an unused byte not zero
 

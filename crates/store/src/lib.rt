@@ -1,13 +1,24 @@
 // The platform's state in a store of 65,536 lent bytes, read and changed in place. The layout stands in specs/Store.antt.
+pub mod layout; // layout.rt: where each field starts
 pub mod cells; // cells.rt: numbers of 1, 2 and 4 bytes
 pub mod plan; // plan.rt: the P line, the rows of C and L lines, and what of them is done
 pub mod nodes; // nodes.rt: the nodes
 pub mod messages; // messages.rt: the messages in flight
+pub mod fill; // fill.rt: the parts that a store is filled with
+pub mod rows; // rows.rt: whether the P line and the rows of C and L lines are those of a run file
+pub mod state; // state.rt: whether the state is in range
+pub mod range; // range.rt: number 7's test of a lent store
 
 // A row of a C line.
 pub struct CrashRow {
     pub tick: u32,
     pub node: u8,
+}
+
+// A row of an L line.
+pub struct DelayRow {
+    pub number: u32,
+    pub delay: u8,
 }
 
 // A message in flight. Its kind is its letter: b'H', b'O' or b'R'.

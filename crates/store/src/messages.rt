@@ -1,37 +1,24 @@
 // The messages in flight, rising by number: nothing else touches their places.
 use crate::Flight;
 use crate::cells;
+use crate::layout;
 use crate::plan;
 ghost use mathlib.Core.Path.{_≡_};
 ghost use Prim.Native.Nat.{_+_, _*_, _^_, _<_, _≤_};
 ghost use lib.ListN.{length};
-ghost use Rattle.model.specs.Platform.{messageAt, mostInFlight};
+ghost use Rattle.ring.specs.Limits.{mostInFlight};
+ghost use Rattle.model.specs.Platform.{messageAt};
 ghost use Rattle.store.specs.Columns.{cellPut, cellOut};
 ghost use Rattle.store.specs.Gap.{moved, closed};
-ghost use Rattle.store.specs.Store.{Sized, Held, storeSize, encode, planIn, stateIn, flying, withoutMessage, sent, messageNumbers, messageDues, messageKinds, messageSenders, messageReceivers, messageSubjects};
-
-const NEXT_NUMBER: usize = 16;
-
-const MESSAGE_COUNT: usize = 26;
-
-const NUMBERS: usize = 12352;
-
-const DUES: usize = 28736;
-
-const KINDS: usize = 36928;
-
-const SENDERS: usize = 38976;
-
-const RECEIVERS: usize = 41024;
-
-const SUBJECTS: usize = 43072;
+ghost use Rattle.store.specs.Store.{storeSize, encode, planIn, stateIn, messageNumbers, messageDues, messageKinds, messageSenders, messageReceivers, messageSubjects};
+ghost use Rattle.store.specs.Inside.{Sized, Held, flying, withoutMessage, sent};
 
 // How many messages are in flight.
 pub fn message_count(s: &[u8]) -> usize
     requires { ⌜ length (now s) ≡ storeSize ⌝ }
     ensures { λ r. ⌜ r ≡ length (stateIn (now (s .entry)) .flight) ⌝ }
 {
-    cells::get2(s, MESSAGE_COUNT) as usize
+    cells::get2(s, layout::MESSAGE_COUNT) as usize
 }
 
 // The message at a place.
@@ -40,12 +27,12 @@ pub fn message_at(s: &[u8], i: usize) -> Flight
     requires { ⌜ i < length (stateIn (now s) .flight) ⌝ }
     ensures { λ r. ⌜ r ≡ flying (messageAt (stateIn (now (s .entry))) i) ⌝ }
 {
-    let number = fields::get(s, NUMBERS + 8 * i, 8);
-    let due = cells::get4(s, DUES + 4 * i);
-    let kind = cells::get1(s, KINDS + i);
-    let from = cells::get1(s, SENDERS + i);
-    let to = cells::get1(s, RECEIVERS + i);
-    let subject = cells::get1(s, SUBJECTS + i);
+    let number = fields::get(s, layout::MESSAGE_NUMBERS + 8 * i, 8);
+    let due = cells::get4(s, layout::MESSAGE_DUES + 4 * i);
+    let kind = cells::get1(s, layout::MESSAGE_KINDS + i);
+    let from = cells::get1(s, layout::MESSAGE_SENDERS + i);
+    let to = cells::get1(s, layout::MESSAGE_RECEIVERS + i);
+    let subject = cells::get1(s, layout::MESSAGE_SUBJECTS + i);
     Flight {
         number,
         due,
@@ -62,7 +49,7 @@ pub fn due_at(s: &[u8], i: usize) -> u32
     requires { ⌜ i < length (stateIn (now s) .flight) ⌝ }
     ensures { λ r. ⌜ r ≡ messageAt (stateIn (now (s .entry))) i .due ⌝ }
 {
-    cells::get4(s, DUES + 4 * i)
+    cells::get4(s, layout::MESSAGE_DUES + 4 * i)
 }
 
 // What stands from a + by up to e moves down to a.
@@ -95,8 +82,8 @@ fn close_times(s: &mut [u8], i: usize, n: usize)
     requires { ⌜ (i < n) × (n ≤ mostInFlight) × (length (now s) ≡ storeSize) ⌝ }
     ensures { λ _. ⌜ now (s .exit) ≡ cellOut (cellOut (now (s .entry)) messageNumbers i n) messageDues i n ⌝ }
 {
-    close_gap(s, NUMBERS, 8, i, n);
-    close_gap(s, DUES, 4, i, n);
+    close_gap(s, layout::MESSAGE_NUMBERS, 8, i, n);
+    close_gap(s, layout::MESSAGE_DUES, 4, i, n);
 }
 
 // The message at place i of n leaves the columns of kinds, senders, receivers and subjects.
@@ -104,10 +91,10 @@ fn close_routes(s: &mut [u8], i: usize, n: usize)
     requires { ⌜ (i < n) × (n ≤ mostInFlight) × (length (now s) ≡ storeSize) ⌝ }
     ensures { λ _. ⌜ now (s .exit) ≡ cellOut (cellOut (cellOut (cellOut (now (s .entry)) messageKinds i n) messageSenders i n) messageReceivers i n) messageSubjects i n ⌝ }
 {
-    close_gap(s, KINDS, 1, i, n);
-    close_gap(s, SENDERS, 1, i, n);
-    close_gap(s, RECEIVERS, 1, i, n);
-    close_gap(s, SUBJECTS, 1, i, n);
+    close_gap(s, layout::MESSAGE_KINDS, 1, i, n);
+    close_gap(s, layout::MESSAGE_SENDERS, 1, i, n);
+    close_gap(s, layout::MESSAGE_RECEIVERS, 1, i, n);
+    close_gap(s, layout::MESSAGE_SUBJECTS, 1, i, n);
 }
 
 // The message at a place is taken out, and those after it move down.
@@ -119,7 +106,7 @@ pub fn take_message(s: &mut [u8], i: usize)
     let n = message_count(s);
     close_times(s, i, n);
     close_routes(s, i, n);
-    fields::put(s, MESSAGE_COUNT, 2, (n - 1) as u64);
+    fields::put(s, layout::MESSAGE_COUNT, 2, (n - 1) as u64);
 }
 
 // A message's number and due, put at place n.
@@ -127,8 +114,8 @@ fn put_times(s: &mut [u8], n: usize, number: u64, due: u32)
     requires { ⌜ (n < mostInFlight) × (length (now s) ≡ storeSize) ⌝ }
     ensures { λ _. ⌜ now (s .exit) ≡ cellPut (cellPut (now (s .entry)) messageNumbers n number) messageDues n due ⌝ }
 {
-    fields::put(s, NUMBERS + 8 * n, 8, number);
-    fields::put(s, DUES + 4 * n, 4, due as u64);
+    fields::put(s, layout::MESSAGE_NUMBERS + 8 * n, 8, number);
+    fields::put(s, layout::MESSAGE_DUES + 4 * n, 4, due as u64);
 }
 
 // A message's kind, sender, receiver and subject, put at place n.
@@ -136,10 +123,10 @@ fn put_route(s: &mut [u8], n: usize, kind: u8, from: u8, to: u8, subject: u8)
     requires { ⌜ (n < mostInFlight) × (length (now s) ≡ storeSize) ⌝ }
     ensures { λ _. ⌜ now (s .exit) ≡ cellPut (cellPut (cellPut (cellPut (now (s .entry)) messageKinds n kind) messageSenders n from) messageReceivers n to) messageSubjects n subject ⌝ }
 {
-    fields::put(s, KINDS + 1 * n, 1, kind as u64);
-    fields::put(s, SENDERS + 1 * n, 1, from as u64);
-    fields::put(s, RECEIVERS + 1 * n, 1, to as u64);
-    fields::put(s, SUBJECTS + 1 * n, 1, subject as u64);
+    fields::put(s, layout::MESSAGE_KINDS + 1 * n, 1, kind as u64);
+    fields::put(s, layout::MESSAGE_SENDERS + 1 * n, 1, from as u64);
+    fields::put(s, layout::MESSAGE_RECEIVERS + 1 * n, 1, to as u64);
+    fields::put(s, layout::MESSAGE_SUBJECTS + 1 * n, 1, subject as u64);
 }
 
 // A message is put after the last, with the next number.
@@ -152,6 +139,6 @@ pub fn send(s: &mut [u8], kind: u8, from: u8, to: u8, subject: u8, due: u32)
     let number = plan::next_number(s);
     put_times(s, n, number, due);
     put_route(s, n, kind, from, to, subject);
-    fields::put(s, NEXT_NUMBER, 8, number + 1);
-    fields::put(s, MESSAGE_COUNT, 2, (n + 1) as u64);
+    fields::put(s, layout::NEXT_NUMBER, 8, number + 1);
+    fields::put(s, layout::MESSAGE_COUNT, 2, (n + 1) as u64);
 }

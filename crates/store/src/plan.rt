@@ -1,49 +1,24 @@
 // The P line, the rows of C and L lines, the last event's tick, the next message number and how many crash rows are done.
 use crate::CrashRow;
+use crate::DelayRow;
 use crate::cells;
+use crate::layout;
 ghost use mathlib.Core.Path.{_≡_};
-ghost use Prim.Native.Nat.{_<_};
-ghost use lib.ListN.{length, getD};
+ghost use Prim.Native.Nat.{_<_, _≤_};
+ghost use lib.ListN.{length};
 ghost use mathlib.Core.Bool.{true};
-ghost use Rattle.runfile.specs.Plan.{delayOrder};
-ghost use Rattle.model.specs.Platform.{delayOf};
+ghost use Rattle.runfile.specs.Plan.{planTest, delayOrder};
+ghost use Rattle.model.specs.Platform.{crashedList, delayOf};
 ghost use Rattle.model.specs.Range.{rowAt};
-ghost use Rattle.store.specs.Store.{Sized, Held, storeSize, encode, planIn, stateIn, FirstRow, crashRow, withTick, crashed};
-
-const NODE_COUNT: usize = 0;
-
-const LONGEST_DELAY: usize = 1;
-
-const PERIOD: usize = 2;
-
-const TIME_OUT: usize = 4;
-
-const CRASH_COUNT: usize = 6;
-
-const CRASHES_DONE: usize = 7;
-
-const END_TICK: usize = 8;
-
-const LAST_TICK: usize = 12;
-
-const NEXT_NUMBER: usize = 16;
-
-const DELAY_COUNT: usize = 24;
-
-const CRASH_TICKS: usize = 1792;
-
-const CRASH_NODES: usize = 2048;
-
-const DELAY_NUMBERS: usize = 2112;
-
-const DELAY_TICKS: usize = 10304;
+ghost use Rattle.store.specs.Store.{storeSize, encode, planIn, stateIn};
+ghost use Rattle.store.specs.Inside.{Sized, Held, FirstRow, crashRow, delayAt, delayRow, withTick, crashed};
 
 // N: how many nodes.
 pub fn node_count(s: &[u8]) -> usize
     requires { ⌜ length (now s) ≡ storeSize ⌝ }
     ensures { λ r. ⌜ r ≡ planIn (now (s .entry)) .n ⌝ }
 {
-    cells::get1(s, NODE_COUNT) as usize
+    cells::get1(s, layout::NODE_COUNT) as usize
 }
 
 // D: the delay of a message that has no L line, and the longest.
@@ -51,7 +26,7 @@ pub fn longest_delay(s: &[u8]) -> u32
     requires { ⌜ length (now s) ≡ storeSize ⌝ }
     ensures { λ r. ⌜ r ≡ planIn (now (s .entry)) .d ⌝ }
 {
-    cells::get1(s, LONGEST_DELAY) as u32
+    cells::get1(s, layout::LONGEST_DELAY) as u32
 }
 
 // H: the heartbeat period.
@@ -59,7 +34,7 @@ pub fn period(s: &[u8]) -> u32
     requires { ⌜ length (now s) ≡ storeSize ⌝ }
     ensures { λ r. ⌜ r ≡ planIn (now (s .entry)) .h ⌝ }
 {
-    cells::get2(s, PERIOD) as u32
+    cells::get2(s, layout::PERIOD) as u32
 }
 
 // W: the time-out.
@@ -67,7 +42,7 @@ pub fn time_out(s: &[u8]) -> u32
     requires { ⌜ length (now s) ≡ storeSize ⌝ }
     ensures { λ r. ⌜ r ≡ planIn (now (s .entry)) .w ⌝ }
 {
-    cells::get2(s, TIME_OUT) as u32
+    cells::get2(s, layout::TIME_OUT) as u32
 }
 
 // The end tick.
@@ -75,7 +50,7 @@ pub fn end_tick(s: &[u8]) -> u32
     requires { ⌜ length (now s) ≡ storeSize ⌝ }
     ensures { λ r. ⌜ r ≡ planIn (now (s .entry)) .end ⌝ }
 {
-    cells::get4(s, END_TICK)
+    cells::get4(s, layout::END_TICK)
 }
 
 // The last event's tick, 0 at opening.
@@ -83,7 +58,7 @@ pub fn last_tick(s: &[u8]) -> u32
     requires { ⌜ length (now s) ≡ storeSize ⌝ }
     ensures { λ r. ⌜ r ≡ stateIn (now (s .entry)) .last ⌝ }
 {
-    cells::get4(s, LAST_TICK)
+    cells::get4(s, layout::LAST_TICK)
 }
 
 // The number of the next message.
@@ -91,7 +66,7 @@ pub fn next_number(s: &[u8]) -> u64
     requires { ⌜ length (now s) ≡ storeSize ⌝ }
     ensures { λ r. ⌜ r ≡ stateIn (now (s .entry)) .next ⌝ }
 {
-    fields::get(s, NEXT_NUMBER, 8)
+    fields::get(s, layout::NEXT_NUMBER, 8)
 }
 
 // How many C rows are done.
@@ -99,7 +74,7 @@ pub fn crashes_done(s: &[u8]) -> usize
     requires { ⌜ length (now s) ≡ storeSize ⌝ }
     ensures { λ r. ⌜ r ≡ stateIn (now (s .entry)) .done ⌝ }
 {
-    cells::get1(s, CRASHES_DONE) as usize
+    cells::get1(s, layout::CRASHES_DONE) as usize
 }
 
 // How many C rows there are.
@@ -107,7 +82,7 @@ pub fn crash_count(s: &[u8]) -> usize
     requires { ⌜ length (now s) ≡ storeSize ⌝ }
     ensures { λ r. ⌜ r ≡ length (planIn (now (s .entry)) .crashes) ⌝ }
 {
-    cells::get1(s, CRASH_COUNT) as usize
+    cells::get1(s, layout::CRASH_COUNT) as usize
 }
 
 // How many L rows there are.
@@ -115,7 +90,7 @@ pub fn delay_count(s: &[u8]) -> usize
     requires { ⌜ length (now s) ≡ storeSize ⌝ }
     ensures { λ r. ⌜ r ≡ length (planIn (now (s .entry)) .delays) ⌝ }
 {
-    cells::get2(s, DELAY_COUNT) as usize
+    cells::get2(s, layout::DELAY_COUNT) as usize
 }
 
 // The C row at a place.
@@ -124,9 +99,38 @@ pub fn crash_at(s: &[u8], i: usize) -> CrashRow
     requires { ⌜ i < length (planIn (now s) .crashes) ⌝ }
     ensures { λ r. ⌜ r ≡ crashRow (rowAt (planIn (now (s .entry))) i) ⌝ }
 {
-    let tick = cells::get4(s, CRASH_TICKS + 4 * i);
-    let node = cells::get1(s, CRASH_NODES + i);
+    let tick = cells::get4(s, layout::CRASH_TICKS + 4 * i);
+    let node = cells::get1(s, layout::CRASH_NODES + i);
     CrashRow { tick, node }
+}
+
+// The crashed nodes as a dead list.
+pub fn crashed_list(s: &[u8]) -> u64
+    requires { ⌜ Sized (now s) ⌝ }
+    requires { ⌜ planTest (planIn (now s)) ≡ true ⌝ }
+    requires { ⌜ stateIn (now s) .done ≤ length (planIn (now s) .crashes) ⌝ }
+    ensures { λ r. ⌜ r ≡ crashedList (planIn (now (s .entry))) (stateIn (now (s .entry)) .done) ⌝ }
+{
+    let done = crashes_done(s);
+    let mut dead: u64 = 0;
+    let mut i: usize = 0;
+    while i < done {
+        let row = crash_at(s, i);
+        dead = ring::with_listed(dead, row.node);
+        i += 1;
+    }
+    dead
+}
+
+// The L row at a place.
+pub fn delay_at(s: &[u8], i: usize) -> DelayRow
+    requires { ⌜ Sized (now s) ⌝ }
+    requires { ⌜ i < length (planIn (now s) .delays) ⌝ }
+    ensures { λ r. ⌜ r ≡ delayRow (delayAt (planIn (now (s .entry))) i) ⌝ }
+{
+    let number = cells::get4(s, layout::DELAY_NUMBERS + 4 * i);
+    let delay = cells::get1(s, layout::DELAY_TICKS + i);
+    DelayRow { number, delay }
 }
 
 // The first L row whose number is not below `number`.
@@ -139,7 +143,7 @@ fn first_row(s: &[u8], number: u64) -> usize
     let mut high = delay_count(s);
     while low < high {
         let middle = low + (high - low) / 2;
-        let here = fields::get(s, DELAY_NUMBERS + 4 * middle, 4);
+        let here = fields::get(s, layout::DELAY_NUMBERS + 4 * middle, 4);
         if here < number {
             low = middle + 1;
         } else {
@@ -159,17 +163,17 @@ pub fn delay_of(s: &[u8], number: u64) -> u32
     if rows == 0 {
         return longest_delay(s);
     }
-    if fields::get(s, DELAY_NUMBERS + 4 * (rows - 1), 4) < number {
+    if fields::get(s, layout::DELAY_NUMBERS + 4 * (rows - 1), 4) < number {
         return longest_delay(s);
     }
     let i = first_row(s, number);
     if i == rows {
         return longest_delay(s);
     }
-    if fields::get(s, DELAY_NUMBERS + 4 * i, 4) != number {
+    if fields::get(s, layout::DELAY_NUMBERS + 4 * i, 4) != number {
         return longest_delay(s);
     }
-    cells::get1(s, DELAY_TICKS + i) as u32
+    cells::get1(s, layout::DELAY_TICKS + i) as u32
 }
 
 // The last event's tick becomes t.
@@ -177,7 +181,7 @@ pub fn set_tick(s: &mut [u8], t: u32)
     requires { ⌜ Held (now s) ⌝ }
     ensures { λ _. ⌜ now (s .exit) ≡ encode (planIn (now (s .entry))) (withTick (stateIn (now (s .entry))) t) ⌝ }
 {
-    fields::put(s, LAST_TICK, 4, t as u64);
+    fields::put(s, layout::LAST_TICK, 4, t as u64);
 }
 
 // One C row more is done.
@@ -186,5 +190,5 @@ pub fn crash_done(s: &mut [u8])
     ensures { λ _. ⌜ now (s .exit) ≡ encode (planIn (now (s .entry))) (crashed (stateIn (now (s .entry)))) ⌝ }
 {
     let done = crashes_done(s) as u64;
-    fields::put(s, CRASHES_DONE, 1, done + 1);
+    fields::put(s, layout::CRASHES_DONE, 1, done + 1);
 }

@@ -1,98 +1,69 @@
+-- `event::do_event` meets its contract. Assumes nothing.
 use Rattle.event.proofs.Doing.{next-crash, next-message, next-watch, next-heartbeat, next-nothing, ended-answer}
-use native.Mathlib.Omega.{arith}
 use borrow.Author.Needs.{needs}
 use Rattle.event.proofs.do_event.Statement.{statement}
 use Rattle.event.proofs.do_event.Tie as tie
-use Rattle.event.proofs.do_event.Reads as reads
-use Rattle.event.proofs.do_event.Lts as lts
-use Rattle.event.proofs.search.last_line.Reads as last-line-reads
-use Rattle.event.proofs.search.next_event.Reads as next-event-reads
-use Rattle.event.proofs.turn.do_crash.Reads as do-crash-reads
-use Rattle.event.proofs.turn.do_heartbeat.Reads as do-heartbeat-reads
-use Rattle.event.proofs.turn.do_message.Reads as do-message-reads
-use Rattle.event.proofs.turn.do_watch.Reads as do-watch-reads
 
--- src/lib.rt:34:11
 next-event-requires : tie.Need-next-event-requires
 next-event-requires c κs = c .before .before .pre
 
--- src/lib.rt:35:21
 enum-known-t : tie.Need-enum-known-t
 enum-known-t c = search needs
 
--- src/lib.rt:35:30
 do-crash-requires : tie.Need-do-crash-requires
 do-crash-requires c κs = (c .before .before .before .before .before .before .before .pre, next-crash _ _ (c .before .before .before .before .next-event .ensures) _ _ (c .before .before .t .given .1))
 
--- src/lib.rt:36:23
 enum-known-t-2 : tie.Need-enum-known-t-2
 enum-known-t-2 c = search needs
 
--- src/lib.rt:36:32
 do-message-requires : tie.Need-do-message-requires
 do-message-requires c κs = (c .before .before .before .before .before .before .before .pre, next-message _ _ (c .before .before .before .before .next-event .ensures) _ _ (c .before .before .t2 .given .1))
 
--- src/lib.rt:37:21
 enum-known-t-3 : tie.Need-enum-known-t-3
 enum-known-t-3 c = search needs
 
--- src/lib.rt:37:30
 do-watch-requires : tie.Need-do-watch-requires
 do-watch-requires c κs = (c .before .before .before .before .before .before .before .pre, next-watch _ _ (c .before .before .before .before .next-event .ensures) _ _ (c .before .before .t3 .given .1))
 
--- src/lib.rt:38:25
 enum-known-t-4 : tie.Need-enum-known-t-4
 enum-known-t-4 c = search needs
 
--- src/lib.rt:38:34
 do-heartbeat-requires : tie.Need-do-heartbeat-requires
 do-heartbeat-requires c κs = (c .before .before .before .before .before .before .before .pre, next-heartbeat _ _ (c .before .before .before .before .next-event .ensures) _ _ (c .before .before .t4 .given .1))
 
--- src/lib.rt:39:60
 enum-told : tie.Need-enum-told
 enum-told c = search needs
 
--- src/lib.rt:39:42
 last-line-requires : tie.Need-last-line-requires
 last-line-requires c κs = search needs
 
--- src/lib.rt:30:1
 same-length : tie.Need-same-length
 same-length c = search needs
 
--- src/lib.rt:30:1
 returns : tie.Need-returns
 returns c = search needs
 
--- src/lib.rt:30:1
 same-length-2 : tie.Need-same-length-2
 same-length-2 c = search needs
 
--- src/lib.rt:30:1
 returns-2 : tie.Need-returns-2
 returns-2 c = search needs
 
--- src/lib.rt:30:1
 same-length-3 : tie.Need-same-length-3
 same-length-3 c = search needs
 
--- src/lib.rt:30:1
 returns-3 : tie.Need-returns-3
 returns-3 c = search needs
 
--- src/lib.rt:30:1
 same-length-4 : tie.Need-same-length-4
 same-length-4 c = search needs
 
--- src/lib.rt:30:1
 returns-4 : tie.Need-returns-4
 returns-4 c = search needs
 
--- src/lib.rt:30:1
 same-length-5 : tie.Need-same-length-5
 same-length-5 c = search needs
 
--- src/lib.rt:30:1
 returns-5 : tie.Need-returns-5
 returns-5 c = ended-answer _ _ _ (c .before .before .before .before .before .before .before .pre .held .canonical) (next-nothing _ _ (c .before .before .before .before .next-event .ensures) (c .before .before .enum-told .given .1)) _ (c .last-line .ensures)
 

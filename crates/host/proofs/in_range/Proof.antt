@@ -1,7 +1,7 @@
 -- `host::in_range` meets its contract. Assumes nothing.
 use borrow.Author.Tests.{le-leb, lt-leb}
 use Rattle.host.specs.Record.{inRange}
-use Rattle.host.proofs.Tests.{fails, holds}
+use Rattle.fields.proofs.Answers.{fails, holds}
 use Rattle.host.proofs.Facts.{openable-facts}
 use borrow.Author.Needs.{needs}
 use Rattle.host.proofs.in_range.Statement.{statement}

@@ -2,7 +2,7 @@
 use mathlib.Core.Path.{ap, _∙_}
 use borrow.Author.Tests.{eq-eqb, ne-eqb}
 use Rattle.host.specs.Record.{inRange, sound}
-use Rattle.host.proofs.Tests.{fails, holds}
+use Rattle.fields.proofs.Answers.{fails, holds}
 use borrow.Author.Needs.{needs}
 use Rattle.host.proofs.is_sound.Statement.{statement}
 use Rattle.host.proofs.is_sound.Tie as tie

@@ -1,6 +1,7 @@
 -- `host::kelbraut_node_deliver` meets its contract. Assumes nothing.
 use Rattle.host.proofs.Calls.{sound-record, message-asks, sender-fits, about-fits, turn-few}
-use Rattle.host.proofs.Tests.{fails, holds, kind-fits}
+use Rattle.fields.proofs.Answers.{fails, holds}
+use Rattle.host.proofs.Tests.{kind-fits}
 use Rattle.host.proofs.Facts.{sound-facts, tick-facts, message-facts}
 use Rattle.host.proofs.Calls.{delivered-few, deliver-record, deliver-tick, deliver-message, deliver-part, deliver-taken}
 use borrow.Author.Needs.{needs}

@@ -1,5 +1,5 @@
 -- `host::kelbraut_node_open` meets its contract. Assumes nothing.
-use Rattle.host.proofs.Tests.{fails, holds}
+use Rattle.fields.proofs.Answers.{fails, holds}
 use Rattle.host.proofs.Facts.{openable-facts}
 use Rattle.host.proofs.Calls.{open-length, open-range, open-taken}
 use borrow.Author.Needs.{needs}

@@ -1,5 +1,5 @@
 -- `host::kelbraut_node_timers` meets its contract. Assumes nothing.
-use Rattle.host.proofs.Tests.{fails, holds}
+use Rattle.fields.proofs.Answers.{fails, holds}
 use Rattle.host.proofs.Facts.{sound-facts, tick-facts}
 use Rattle.host.proofs.Calls.{fired-few, timers-record, timers-tick, timers-part, timers-taken}
 use Rattle.host.proofs.Calls.{sound-record, timer-asks, turn-few}

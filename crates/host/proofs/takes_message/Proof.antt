@@ -1,6 +1,7 @@
 -- `host::takes_message` meets its contract. Assumes nothing.
 use mathlib.Core.Path.{sym, _∙_}
-use Rattle.host.proofs.Tests.{fails, holds, message-from, message-heartbeat, message-observer, message-report, message-unknown}
+use Rattle.fields.proofs.Answers.{fails, holds}
+use Rattle.host.proofs.Tests.{message-from, message-heartbeat, message-observer, message-report, message-unknown}
 use borrow.Author.Needs.{needs}
 use Rattle.host.proofs.takes_message.Statement.{statement}
 use Rattle.host.proofs.takes_message.Tie as tie

@@ -1,6 +1,7 @@
 -- `host::timers_in_range` meets its contract. Assumes nothing.
 use Rattle.host.specs.Record.{timersInRange}
-use Rattle.host.proofs.Tests.{fails, holds, timer-over, timer-within}
+use Rattle.fields.proofs.Answers.{fails, holds}
+use Rattle.host.proofs.Tests.{timer-over, timer-within}
 use borrow.Author.Needs.{needs}
 use Rattle.host.proofs.timers_in_range.Statement.{statement}
 use Rattle.host.proofs.timers_in_range.Tie as tie

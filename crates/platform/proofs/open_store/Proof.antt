@@ -1,7 +1,6 @@
 -- `platform::open_store` meets its contract. Assumes nothing.
 use mathlib.Core.Path.{sym, _∙_}
 use Rattle.platform.proofs.Opening.{read-accepts, open-refused, open-short, open-ready}
-use native.Mathlib.Omega.{arith}
 use borrow.Author.Needs.{needs}
 use Rattle.platform.proofs.open_store.Statement.{statement}
 use Rattle.platform.proofs.open_store.Tie as tie

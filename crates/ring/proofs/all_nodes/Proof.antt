@@ -1,5 +1,5 @@
 -- `ring::all_nodes` meets its contract. Assumes nothing.
-use Rattle.ring.specs.Ring.{mostNodes}
+use Rattle.ring.specs.Limits.{mostNodes}
 use Rattle.ring.proofs.Laws.{ones-shr}
 use borrow.Author.Needs.{needs}
 use Rattle.ring.proofs.all_nodes.Statement.{statement}

@@ -1,7 +1,8 @@
 -- `ring::number_order` meets its contract. Assumes nothing.
 use mathlib.Core.Path.{_≡_, refl, ap, _∙_}
 use Prim.Native.Nat.{_-_, _≤_}
-use Rattle.ring.specs.Ring.{mostNodes, numbers}
+use Rattle.ring.specs.Limits.{mostNodes}
+use Rattle.ring.specs.Ring.{numbers}
 use Rattle.ring.proofs.Rows.{filled, filled-turn, full-numbers}
 use borrow.Author.Needs.{needs}
 use Rattle.ring.proofs.number_order.Statement.{statement}

@@ -4,7 +4,8 @@ use mathlib.Core.Path.{_≡_, refl, sym, ap, _∙_}
 use Prim.Native.Nat.{ℕ, _-_, _≤_}
 use lib.ListN.{length, take, replicate}
 use borrow.Author.Needs.{needs}
-use Rattle.ring.specs.Ring.{mostNodes, rowSize, none, numbers, tableAnswer, tableRow}
+use Rattle.ring.specs.Limits.{mostNodes}
+use Rattle.ring.specs.Ring.{rowSize, none, numbers, tableAnswer, tableRow}
 use Rattle.ring.proofs.Rows.{length-numbers, take-numbers, filled, filled-turn, full}
 use Rattle.ring.proofs.TableLaws.{refused-rows, accepted-rows, accepted}
 use Rattle.ring.proofs.table_rows.Statement.{statement}

@@ -1,25 +1,19 @@
+-- `event::search::earlier_timer` meets its contract. Assumes nothing.
 use mathlib.Core.Path.{refl, sym}
 use Rattle.event.proofs.Searching.{timer-none, timer-sooner, timer-later}
-use native.Mathlib.Omega.{arith}
 use borrow.Author.Needs.{needs}
 use Rattle.event.proofs.search.earlier_timer.Statement.{statement}
 use Rattle.event.proofs.search.earlier_timer.Tie as tie
-use Rattle.event.proofs.search.earlier_timer.Reads as reads
-use Rattle.event.proofs.search.earlier_timer.Lts as lts
 
--- src/search.rt:69:9
 returns : tie.Need-returns
 returns c = sym (timer-none (c .before .args .t) (c .before .args .timer) (c .if1 .taken))
 
--- src/search.rt:71:15
 sub-due : tie.Need-sub-due
 sub-due c = search needs
 
--- src/search.rt:73:9
 returns-2 : tie.Need-returns-2
 returns-2 c = sym (timer-sooner (c .before .before .args .t) (c .before .before .args .timer) _ (c .before .if1 .left) refl (c .if2 .taken))
 
--- src/search.rt:65:1
 returns-3 : tie.Need-returns-3
 returns-3 c = sym (timer-later (c .before .before .args .t) (c .before .before .args .timer) _ (c .before .if1 .left) refl (c .if2 .left))
 

@@ -1,6 +1,7 @@
+-- `event::search::earliest_message` meets its contract. Assumes nothing.
 use Rattle.event.proofs.Readiness.{held-sized}
-use Prim.Native.Nat.{ℕ, _-_, _≤_, _<_}
-use mathlib.Core.Path.{_≡_, refl, sym, ap, _∙_}
+use Prim.Native.Nat.{_-_, _≤_, _<_}
+use mathlib.Core.Path.{_≡_, refl, sym, _∙_}
 use mathlib.Core.Logic.{⊎-elim}
 use lib.ListN.{length, drop}
 use Rattle.model.specs.Platform.{messageEntries}
@@ -11,10 +12,6 @@ use borrow.Author.Needs.{needs}
 use native.Mathlib.Omega.{arith}
 use Rattle.event.proofs.search.earliest_message.Statement.{statement}
 use Rattle.event.proofs.search.earliest_message.Tie as tie
-use Rattle.event.proofs.search.earliest_message.Reads as reads
-use Rattle.event.proofs.search.earliest_message.Lts as lts
-use Rattle.store.proofs.messages.due_at.Reads as due-at-reads
-use Rattle.store.proofs.messages.message_count.Reads as message-count-reads
 
 abbrev Inv-loop : tie.InvT-loop
 Inv-loop s t n least₀ i₀ least i = (n ≡ length (stateIn s .flight)) × (i ≤ n) × (leastTick t (messageEntries 0 (stateIn s .flight)) ≡ leastTick least (messageEntries i (drop i (stateIn s .flight))))
@@ -22,31 +19,24 @@ Inv-loop s t n least₀ i₀ least i = (n ≡ length (stateIn s .flight)) × (i 
 abbrev μ-loop : tie.MeasureT-loop
 μ-loop s t n least₀ i₀ least i = n - i
 
--- src/search.rt:51:9
 message-count-requires : tie.Need-message-count-requires Inv-loop μ-loop
 message-count-requires c κs = c .before .pre .size
 
--- src/search.rt:54:5
 loop-holds : tie.Need-loop-holds Inv-loop μ-loop
 loop-holds c = (c .message-count .ensures, search needs, refl)
 
--- src/search.rt:55:13
 due-at-requires : tie.Need-due-at-requires Inv-loop μ-loop
 due-at-requires c κs = (held-sized _ (c .before .before .before .before .pre), omega (arith, c .loop-test .taken, c .before .loop .inv .0))
 
--- src/search.rt:59:9
 add-i : tie.Need-add-i Inv-loop μ-loop
 add-i c = search needs
 
--- src/search.rt:54:5
 loop-less : tie.Need-loop-less Inv-loop μ-loop
 loop-less c = search needs
 
--- src/search.rt:54:5
 loop-again : tie.Need-loop-again Inv-loop μ-loop
 loop-again c = let f = stateIn (c .before .before .before .before .before .before .args .s .now) .flight in let l = c .before .before .before .loop in let h : l .i < length f = omega (arith, c .before .before .loop-test .taken, l .inv .0) in (l .inv .0, search needs, l .inv .2 ∙ ⊎-elim (λ w. message-sooner f (l .i) (l .least) _ h (c .before .due-at .ensures) (w .0 .taken) ∙ rw (w .1)) (λ w. message-later f (l .i) (l .least) _ h (c .before .due-at .ensures) (w .0 .left) ∙ rw (w .1)) (c .if1 .came))
 
--- src/search.rt:47:1
 returns : tie.Need-returns Inv-loop μ-loop
 returns c = sym (c .before .loop .inv .2 ∙ messages-over (stateIn (c .before .before .before .before .args .s .now) .flight) (c .before .loop .i) (c .before .loop .least) (omega (arith, c .loop-test .left, c .before .loop .inv .0)))
 

@@ -1,6 +1,7 @@
+-- `event::search::first_at` meets its contract. Assumes nothing.
 use mathlib.Core.Logic.{⊎-elim}
 use Rattle.store.specs.declared.CrashRow.{CrashRow}
-use Prim.Native.Nat.{ℕ, _+_, _-_, _≤_, _<_}
+use Prim.Native.Nat.{_+_, _-_, _≤_, _<_}
 use mathlib.Core.Path.{_≡_, refl, sym, ap, _∙_}
 use mathlib.Core.List.{_++_}
 use lib.ListN.{length, drop}
@@ -14,16 +15,6 @@ use borrow.Author.Needs.{needs}
 use native.Mathlib.Omega.{arith}
 use Rattle.event.proofs.search.first_at.Statement.{statement}
 use Rattle.event.proofs.search.first_at.Tie as tie
-use Rattle.event.proofs.search.first_at.Reads as reads
-use Rattle.event.proofs.search.first_at.Lts as lts
-use Rattle.ring.proofs.is_listed.Reads as is-listed-reads
-use Rattle.store.proofs.messages.due_at.Reads as due-at-reads
-use Rattle.store.proofs.messages.message_count.Reads as message-count-reads
-use Rattle.store.proofs.nodes.node_at.Reads as node-at-reads
-use Rattle.store.proofs.plan.crash_at.Reads as crash-at-reads
-use Rattle.store.proofs.plan.crash_count.Reads as crash-count-reads
-use Rattle.store.proofs.plan.crashes_done.Reads as crashes-done-reads
-use Rattle.store.proofs.plan.node_count.Reads as node-count-reads
 
 abbrev Inv-loop : tie.InvT-loop
 Inv-loop s dead t rows flying n c₀ c = (rows ≡ length (planIn s .crashes)) × (firstAt t (pending (planIn s) (stateIn s)) ≡ firstAt t (crashEntries (drop c (planIn s .crashes)) ++ (messageEntries 0 (stateIn s .flight) ++ timerEntries (planIn s) (stateIn s .done) 0 (stateIn s .nodes))))
@@ -49,7 +40,6 @@ Inv-found s dead t rows flying n = Unit
 abbrev μ-found : tie.MeasureT-found
 μ-found s dead t rows flying n = 0
 
--- src/search.rt:104:9
 crash-count-requires :
     tie.Need-crash-count-requires
     Inv-loop
@@ -62,7 +52,6 @@ crash-count-requires :
     μ-found
 crash-count-requires c κs = c .before .pre .0 .held .size
 
--- src/search.rt:105:9
 message-count-requires :
     tie.Need-message-count-requires
     Inv-loop
@@ -75,7 +64,6 @@ message-count-requires :
     μ-found
 message-count-requires c κs = c .before .before .pre .0 .held .size
 
--- src/search.rt:106:9
 node-count-requires :
     tie.Need-node-count-requires
     Inv-loop
@@ -88,12 +76,10 @@ node-count-requires :
     μ-found
 node-count-requires c κs = c .before .before .before .pre .0 .held .size
 
--- src/search.rt:107:5
 found-holds :
     tie.Need-found-holds Inv-loop μ-loop Inv-loop2 μ-loop2 Inv-loop3 μ-loop3 Inv-found μ-found
 found-holds c = tt
 
--- src/search.rt:108:13
 crashes-done-requires :
     tie.Need-crashes-done-requires
     Inv-loop
@@ -106,13 +92,11 @@ crashes-done-requires :
     μ-found
 crashes-done-requires c κs = c .before .before .before .before .before .pre .0 .held .size
 
--- src/search.rt:109:9
 loop-holds :
     tie.Need-loop-holds Inv-loop μ-loop Inv-loop2 μ-loop2 Inv-loop3 μ-loop3 Inv-found μ-found
 unfolding pending
 loop-holds c = (c .before .before .before .before .crash-count .ensures, rw (c .crashes-done .ensures) refl)
 
--- src/search.rt:110:17
 crash-at-requires :
     tie.Need-crash-at-requires
     Inv-loop
@@ -125,55 +109,44 @@ crash-at-requires :
     μ-found
 crash-at-requires c κs = (held-sized _ (c .before .before .before .before .before .before .before .before .pre .0 .held), omega (arith, c .loop-test .taken, c .before .loop .inv .0))
 
--- src/search.rt:114:13
 add-c : tie.Need-add-c Inv-loop μ-loop Inv-loop2 μ-loop2 Inv-loop3 μ-loop3 Inv-found μ-found
 add-c c = search needs
 
--- src/search.rt:109:9
 loop-less :
     tie.Need-loop-less Inv-loop μ-loop Inv-loop2 μ-loop2 Inv-loop3 μ-loop3 Inv-found μ-found
 loop-less c = search needs
 
--- src/search.rt:109:9
 loop-again :
     tie.Need-loop-again Inv-loop μ-loop Inv-loop2 μ-loop2 Inv-loop3 μ-loop3 Inv-found μ-found
 loop-again c = let q = c .before .before .before .before .before .before .before .before .before .before .before in let p = planIn (q .args .s .now) in let z = stateIn (q .args .s .now) in let l = c .before .before .before .before .loop in (l .inv .0, l .inv .1 ∙ crash-skip (q .args .t) _ (p .crashes) (l .c) (omega (arith, c .before .before .before .loop-test .taken, l .inv .0)) (λ e. c .if1 .left (ap (λ (r : CrashRow). r .tick) (c .before .before .crash-at .ensures) ∙ e)))
 
--- src/search.rt:117:9
 loop2-holds :
     tie.Need-loop2-holds Inv-loop μ-loop Inv-loop2 μ-loop2 Inv-loop3 μ-loop3 Inv-found μ-found
 loop2-holds c = let q = c .before .before .before .before .before .before .before .before in let p = planIn (q .args .s .now) in let z = stateIn (q .args .s .now) in let l = c .before .loop in (c .before .before .before .before .before .message-count .ensures, l .inv .1 ∙ crash-end (q .args .t) _ (p .crashes) (l .c) (omega (arith, c .loop-test .left, l .inv .0)))
 
--- src/search.rt:118:16
 due-at-requires :
     tie.Need-due-at-requires Inv-loop μ-loop Inv-loop2 μ-loop2 Inv-loop3 μ-loop3 Inv-found μ-found
 due-at-requires c κs = (held-sized _ (c .before .before .before .before .before .before .before .before .before .before .pre .0 .held), omega (arith, c .loop2-test .taken, c .before .loop2 .inv .0))
 
--- src/search.rt:121:13
 add-i : tie.Need-add-i Inv-loop μ-loop Inv-loop2 μ-loop2 Inv-loop3 μ-loop3 Inv-found μ-found
 add-i c = search needs
 
--- src/search.rt:117:9
 loop2-less :
     tie.Need-loop2-less Inv-loop μ-loop Inv-loop2 μ-loop2 Inv-loop3 μ-loop3 Inv-found μ-found
 loop2-less c = search needs
 
--- src/search.rt:117:9
 loop2-again :
     tie.Need-loop2-again Inv-loop μ-loop Inv-loop2 μ-loop2 Inv-loop3 μ-loop3 Inv-found μ-found
 loop2-again c = let q = c .before .before .before .before .before .before .before .before .before .before .before .before in let p = planIn (q .args .s .now) in let z = stateIn (q .args .s .now) in let l = c .before .before .before .loop2 in (l .inv .0, l .inv .1 ∙ message-skip (q .args .t) _ (z .flight) (l .i) (omega (arith, c .before .before .loop2-test .taken, l .inv .0)) (λ e. c .if2 .left (c .before .due-at .ensures ∙ e)))
 
--- src/search.rt:124:9
 loop3-holds :
     tie.Need-loop3-holds Inv-loop μ-loop Inv-loop2 μ-loop2 Inv-loop3 μ-loop3 Inv-found μ-found
 loop3-holds c = let q = c .before .before .before .before .before .before .before .before .before .before in let p = planIn (q .args .s .now) in let z = stateIn (q .args .s .now) in let l = c .before .loop2 in (c .before .before .before .before .before .before .node-count .ensures, l .inv .1 ∙ message-end (q .args .t) _ (z .flight) (l .i) (omega (arith, c .loop2-test .left, l .inv .0)))
 
--- src/search.rt:125:39
 cast-is-listed :
     tie.Need-cast-is-listed Inv-loop μ-loop Inv-loop2 μ-loop2 Inv-loop3 μ-loop3 Inv-found μ-found
 cast-is-listed c = omega (arith, c .loop3-test .taken, c .before .loop3 .inv .0, ready-accepted _ (c .before .before .before .before .before .before .before .before .before .before .before .before .pre .0) .plain .n≤)
 
--- src/search.rt:125:17
 is-listed-requires :
     tie.Need-is-listed-requires
     Inv-loop
@@ -186,57 +159,46 @@ is-listed-requires :
     μ-found
 is-listed-requires c κs = search needs
 
--- src/search.rt:126:21
 node-at-requires :
     tie.Need-node-at-requires Inv-loop μ-loop Inv-loop2 μ-loop2 Inv-loop3 μ-loop3 Inv-found μ-found
 node-at-requires c κs = (held-sized _ (c .before .before .before .before .before .before .before .before .before .before .before .before .before .before .pre .0 .held), omega (arith, c .before .before .loop3-test .taken, c .before .before .before .loop3 .inv .0))
 
--- src/search.rt:127:31
 add-if4 : tie.Need-add-if4 Inv-loop μ-loop Inv-loop2 μ-loop2 Inv-loop3 μ-loop3 Inv-found μ-found
 add-if4 c = omega (arith, c .before .before .before .before .before .before .before .before .before .before .before .before .before .before .before .pre .1 .1, ready-accepted _ (c .before .before .before .before .before .before .before .before .before .before .before .before .before .before .before .pre .0) .plain .end≤)
 
--- src/search.rt:130:35
 add-if5 : tie.Need-add-if5 Inv-loop μ-loop Inv-loop2 μ-loop2 Inv-loop3 μ-loop3 Inv-found μ-found
 add-if5 c = omega (arith, c .before .before .before .before .before .before .before .before .before .before .before .before .before .before .before .before .before .pre .1 .1, ready-accepted _ (c .before .before .before .before .before .before .before .before .before .before .before .before .before .before .before .before .before .pre .0) .plain .end≤)
 
--- src/search.rt:134:13
 add-x : tie.Need-add-x Inv-loop μ-loop Inv-loop2 μ-loop2 Inv-loop3 μ-loop3 Inv-found μ-found
 add-x c = search needs
 
--- src/search.rt:124:9
 loop3-less :
     tie.Need-loop3-less Inv-loop μ-loop Inv-loop2 μ-loop2 Inv-loop3 μ-loop3 Inv-found μ-found
 loop3-less c = search needs
 
--- src/search.rt:124:9
 loop3-again :
     tie.Need-loop3-again Inv-loop μ-loop Inv-loop2 μ-loop2 Inv-loop3 μ-loop3 Inv-found μ-found
 loop3-again c = let q = c .before .before .before .before .before .before .before .before .before .before .before .before .before .before in let p = planIn (q .args .s .now) in let z = stateIn (q .args .s .now) in let l = c .before .before .before .loop3 in let h : c .before .before .before .loop3 .x < length (z .nodes) = rw (q .pre .0 .held .fits .nodes) (omega (arith, c .before .before .loop3-test .taken, c .before .before .before .loop3 .inv .0)) in (l .inv .0, l .inv .1 ∙ ⊎-elim (λ w. live-skip p (ready-accepted _ (q .pre .0)) (z .done) (z .nodes) (q .args .t) (l .x) _ h (w .1 .ensures) (test-live p (z .done) (q .args .dead) (l .x) _ (c .before .is-listed .ensures) (q .pre .1 .0) (w .0 .taken)) (w .3 .left) (w .5 .left)) (λ w. dead-skip p (ready-accepted _ (q .pre .0)) (z .done) (z .nodes) (q .args .t) (l .x) h (test-dead p (z .done) (q .args .dead) (l .x) _ (c .before .is-listed .ensures) (q .pre .1 .0) (w .left))) (c .if3 .came))
 
--- src/search.rt:99:1
 returns : tie.Need-returns Inv-loop μ-loop Inv-loop2 μ-loop2 Inv-loop3 μ-loop3 Inv-found μ-found
 unfolding nextOf nextAt
 returns c = let q = c .before .before .before .before .before .before .before .before .before .before .before in let p = planIn (q .args .s .now) in let z = stateIn (q .args .s .now) in let l = c .before .before .before .before .loop in let e = c .before .before .crash-at .ensures in rw e (sym (ap nextOf (l .inv .1 ∙ crash-hit (q .args .t) _ (p .crashes) (l .c) (omega (arith, c .before .before .before .loop-test .taken, l .inv .0)) (sym (ap (λ (r : CrashRow). r .tick) e) ∙ c .if1 .taken))))
 
--- src/search.rt:99:1
 returns-2 :
     tie.Need-returns-2 Inv-loop μ-loop Inv-loop2 μ-loop2 Inv-loop3 μ-loop3 Inv-found μ-found
 unfolding nextOf nextAt
 returns-2 c = let q = c .before .before .before .before .before .before .before .before .before .before .before .before in let p = planIn (q .args .s .now) in let z = stateIn (q .args .s .now) in let l = c .before .before .before .loop2 in sym (ap nextOf (l .inv .1 ∙ message-hit (q .args .t) _ (z .flight) (l .i) (omega (arith, c .before .before .loop2-test .taken, l .inv .0)) (sym (c .before .due-at .ensures) ∙ c .if2 .taken)))
 
--- src/search.rt:99:1
 returns-3 :
     tie.Need-returns-3 Inv-loop μ-loop Inv-loop2 μ-loop2 Inv-loop3 μ-loop3 Inv-found μ-found
 unfolding nextOf nextAt
 returns-3 c = let q = c .before .before .before .before .before .before .before .before .before .before .before .before .before .before .before .before .before in let p = planIn (q .args .s .now) in let z = stateIn (q .args .s .now) in let l = c .before .before .before .before .before .before .loop3 in let h : c .before .before .before .before .before .before .loop3 .x < length (z .nodes) = rw (q .pre .0 .held .fits .nodes) (omega (arith, c .before .before .before .before .before .loop3-test .taken, c .before .before .before .before .before .before .loop3 .inv .0)) in sym (ap nextOf (l .inv .1 ∙ watch-hit p (ready-accepted _ (q .pre .0)) (z .done) (z .nodes) (q .args .t) (l .x) _ h (c .before .before .node-at .ensures) (test-live p (z .done) (q .args .dead) (l .x) _ (c .before .before .before .before .is-listed .ensures) (q .pre .1 .0) (c .before .before .before .if3 .taken)) (c .if4 .taken)))
 
--- src/search.rt:99:1
 returns-4 :
     tie.Need-returns-4 Inv-loop μ-loop Inv-loop2 μ-loop2 Inv-loop3 μ-loop3 Inv-found μ-found
 unfolding nextOf nextAt
 returns-4 c = let q = c .before .before .before .before .before .before .before .before .before .before .before .before .before .before .before .before .before .before .before in let p = planIn (q .args .s .now) in let z = stateIn (q .args .s .now) in let l = c .before .before .before .before .before .before .before .before .loop3 in let h : c .before .before .before .before .before .before .before .before .loop3 .x < length (z .nodes) = rw (q .pre .0 .held .fits .nodes) (omega (arith, c .before .before .before .before .before .before .before .loop3-test .taken, c .before .before .before .before .before .before .before .before .loop3 .inv .0)) in sym (ap nextOf (l .inv .1 ∙ beat-hit p (ready-accepted _ (q .pre .0)) (z .done) (z .nodes) (q .args .t) (l .x) _ h (c .before .before .before .before .node-at .ensures) (test-live p (z .done) (q .args .dead) (l .x) _ (c .before .before .before .before .before .before .is-listed .ensures) (q .pre .1 .0) (c .before .before .before .before .before .if3 .taken)) (c .before .before .if4 .left) (c .if5 .taken)))
 
--- src/search.rt:99:1
 returns-5 :
     tie.Need-returns-5 Inv-loop μ-loop Inv-loop2 μ-loop2 Inv-loop3 μ-loop3 Inv-found μ-found
 unfolding nextOf nextAt

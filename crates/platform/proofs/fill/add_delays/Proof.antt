@@ -1,6 +1,6 @@
 -- `platform::fill::add_delays` meets its contract. Assumes nothing.
 use mathlib.Core.Path.{_≡_, _∙_}
-use Prim.Native.Nat.{_+_, _-_, _<_, _≤_}
+use Prim.Native.Nat.{_-_, _<_, _≤_}
 use lib.ListN.{length}
 use Rattle.runfile.specs.Plan.{Plan}
 use Rattle.runfile.specs.Reader.{delayPlace}

@@ -1,6 +1,6 @@
 -- `platform::fill::add_nodes` meets its contract. Assumes nothing.
 use mathlib.Core.Path.{_≡_, sym, _∙_}
-use Prim.Native.Nat.{_+_, _-_, _<_, _≤_}
+use Prim.Native.Nat.{_-_, _≤_}
 use lib.ListN.{length, take}
 use Rattle.store.specs.Store.{storeSize}
 use Rattle.platform.specs.Filling.{planOf, filled}

@@ -1,10 +1,11 @@
 -- `platform::write::put_crashes` meets its contract. Assumes nothing.
 use mathlib.Core.Path.{_≡_, refl, _∙_}
-use Prim.Native.Nat.{_+_, _-_, _<_, _≤_}
+use Prim.Native.Nat.{_-_, _≤_}
 use lib.ListN.{length, take}
 use Rattle.text.specs.Put.{Put}
 use Rattle.runfile.specs.Plan.{crashText, rowsText}
 use Rattle.store.specs.Store.{planIn}
+use Rattle.event.proofs.Readiness.{held-sized}
 use Rattle.platform.proofs.Writing.{rows-none, crash-room, crash-written, rows-end}
 use borrow.Author.Needs.{needs}
 use native.Mathlib.Omega.{arith}
@@ -24,7 +25,7 @@ loop-holds : tie.Need-loop-holds Inv-loop μ-loop
 loop-holds c = (omega arith, rows-none crashText (planIn (c .before .before .before .args .store .now) .crashes) (c .before .before .before .args .out .now) (c .before .before .before .args .first), refl)
 
 crash-at-requires : tie.Need-crash-at-requires Inv-loop μ-loop
-crash-at-requires c κs = (record { size = c .before .before .before .before .before .pre .0 .size; counts = c .before .before .before .before .before .pre .0 .fits .counts }, omega (arith, c .loop-test .taken, c .before .before .crash-count .ensures))
+crash-at-requires c κs = (held-sized _ (c .before .before .before .before .before .pre .0), omega (arith, c .loop-test .taken, c .before .before .crash-count .ensures))
 
 cast-put-crash : tie.Need-cast-put-crash Inv-loop μ-loop
 cast-put-crash c = search needs

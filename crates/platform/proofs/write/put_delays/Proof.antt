@@ -1,10 +1,11 @@
 -- `platform::write::put_delays` meets its contract. Assumes nothing.
 use mathlib.Core.Path.{_≡_, refl, _∙_}
-use Prim.Native.Nat.{_+_, _-_, _<_, _≤_}
+use Prim.Native.Nat.{_-_, _≤_}
 use lib.ListN.{length, take}
 use Rattle.text.specs.Put.{Put}
 use Rattle.runfile.specs.Plan.{delayText, rowsText}
 use Rattle.store.specs.Store.{planIn}
+use Rattle.event.proofs.Readiness.{held-sized}
 use Rattle.platform.proofs.Writing.{rows-none, delay-room, delay-written, rows-end}
 use borrow.Author.Needs.{needs}
 use native.Mathlib.Omega.{arith}
@@ -24,7 +25,7 @@ loop-holds : tie.Need-loop-holds Inv-loop μ-loop
 loop-holds c = (omega arith, rows-none delayText (planIn (c .before .before .before .args .store .now) .delays) (c .before .before .before .args .out .now) (c .before .before .before .args .first), refl)
 
 delay-at-requires : tie.Need-delay-at-requires Inv-loop μ-loop
-delay-at-requires c κs = (c .before .before .before .before .before .pre .0, omega (arith, c .loop-test .taken, c .before .before .delay-count .ensures))
+delay-at-requires c κs = (held-sized _ (c .before .before .before .before .before .pre .0), omega (arith, c .loop-test .taken, c .before .before .delay-count .ensures))
 
 cast-put-delay : tie.Need-cast-put-delay Inv-loop μ-loop
 cast-put-delay c = search needs

@@ -7,7 +7,6 @@ use Rattle.text.proofs.PutLaws.{put-text}
 use Rattle.runfile.specs.Plan.{Plan, startText}
 use Rattle.store.specs.Store.{planIn}
 use Rattle.platform.proofs.Writing.{values, start-room, crashes-room, delays-room, all-written}
-use native.Mathlib.Omega.{arith}
 use borrow.Author.Needs.{needs}
 use Rattle.platform.proofs.write.put_file.Statement.{statement}
 use Rattle.platform.proofs.write.put_file.Tie as tie

@@ -2,7 +2,6 @@
 use mathlib.Core.Path.{_∙_}
 use Rattle.store.specs.Gap.{closed}
 use Rattle.store.proofs.Gap.{gap-room}
-use native.Mathlib.Omega.{arith}
 use borrow.Author.Needs.{needs}
 use Rattle.store.proofs.messages.close_gap.Statement.{statement}
 use Rattle.store.proofs.messages.close_gap.Tie as tie

@@ -1,5 +1,4 @@
 -- `store::messages::close_routes` meets its contract. Assumes nothing.
-use native.Mathlib.Omega.{arith}
 use borrow.Author.Needs.{needs}
 use Rattle.store.proofs.messages.close_routes.Statement.{statement}
 use Rattle.store.proofs.messages.close_routes.Tie as tie

@@ -3,7 +3,6 @@ use mathlib.Core.Path.{ap, sym, _∙_}
 use Rattle.model.specs.Platform.{InFlight}
 use Rattle.store.proofs.Store.{message-read}
 use borrow.Author.Needs.{needs}
-use native.Mathlib.Omega.{arith}
 use Rattle.store.proofs.messages.due_at.Statement.{statement}
 use Rattle.store.proofs.messages.due_at.Tie as tie
 

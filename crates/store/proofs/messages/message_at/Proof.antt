@@ -1,9 +1,8 @@
 -- `store::messages::message_at` meets its contract. Assumes nothing.
 use mathlib.Core.Path.{ap}
-use Rattle.store.specs.Store.{flying}
+use Rattle.store.specs.Inside.{flying}
 use Rattle.store.proofs.Store.{message-read}
 use borrow.Author.Needs.{needs}
-use native.Mathlib.Omega.{arith}
 use Rattle.store.proofs.messages.message_at.Statement.{statement}
 use Rattle.store.proofs.messages.message_at.Tie as tie
 

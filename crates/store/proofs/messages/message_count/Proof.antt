@@ -1,7 +1,6 @@
 -- `store::messages::message_count` meets its contract. Assumes nothing.
 use mathlib.Core.Path.{sym, _∙_}
 use Rattle.store.proofs.Store.{messages-counted}
-use native.Mathlib.Omega.{arith}
 use borrow.Author.Needs.{needs}
 use Rattle.store.proofs.messages.message_count.Statement.{statement}
 use Rattle.store.proofs.messages.message_count.Tie as tie

@@ -1,5 +1,4 @@
 -- `store::messages::put_times` meets its contract. Assumes nothing.
-use native.Mathlib.Omega.{arith}
 use borrow.Author.Needs.{needs}
 use Rattle.store.proofs.messages.put_times.Statement.{statement}
 use Rattle.store.proofs.messages.put_times.Tie as tie

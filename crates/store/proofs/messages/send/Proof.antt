@@ -1,6 +1,5 @@
 -- `store::messages::send` meets its contract. Assumes nothing.
 use Rattle.store.proofs.States.{put-send}
-use native.Mathlib.Omega.{arith}
 use borrow.Author.Needs.{needs}
 use Rattle.store.proofs.messages.send.Statement.{statement}
 use Rattle.store.proofs.messages.send.Tie as tie

@@ -1,6 +1,5 @@
 -- `store::messages::take_message` meets its contract. Assumes nothing.
 use Rattle.store.proofs.States.{put-take}
-use native.Mathlib.Omega.{arith}
 use borrow.Author.Needs.{needs}
 use Rattle.store.proofs.messages.take_message.Statement.{statement}
 use Rattle.store.proofs.messages.take_message.Tie as tie

@@ -1,7 +1,6 @@
 -- `store::nodes::node_at` meets its contract. Assumes nothing.
 use Rattle.store.proofs.Store.{node-read}
 use borrow.Author.Needs.{needs}
-use native.Mathlib.Omega.{arith}
 use Rattle.store.proofs.nodes.node_at.Statement.{statement}
 use Rattle.store.proofs.nodes.node_at.Tie as tie
 

@@ -1,9 +1,8 @@
 -- `store::plan::crash_at` meets its contract. Assumes nothing.
 use mathlib.Core.Path.{ap}
-use Rattle.store.specs.Store.{crashRow}
+use Rattle.store.specs.Inside.{crashRow}
 use Rattle.store.proofs.Store.{crash-read}
 use borrow.Author.Needs.{needs}
-use native.Mathlib.Omega.{arith}
 use Rattle.store.proofs.plan.crash_at.Statement.{statement}
 use Rattle.store.proofs.plan.crash_at.Tie as tie
 

@@ -1,7 +1,6 @@
 -- `store::plan::crash_count` meets its contract. Assumes nothing.
 use mathlib.Core.Path.{sym, _∙_}
 use Rattle.store.proofs.Store.{crashes-counted}
-use native.Mathlib.Omega.{arith}
 use borrow.Author.Needs.{needs}
 use Rattle.store.proofs.plan.crash_count.Statement.{statement}
 use Rattle.store.proofs.plan.crash_count.Tie as tie

@@ -1,6 +1,5 @@
 -- `store::plan::crashes_done` meets its contract. Assumes nothing.
 use Rattle.store.specs.Store.{stateIn}
-use native.Mathlib.Omega.{arith}
 use borrow.Author.Needs.{needs}
 use Rattle.store.proofs.plan.crashes_done.Statement.{statement}
 use Rattle.store.proofs.plan.crashes_done.Tie as tie

@@ -1,6 +1,5 @@
 -- `store::plan::end_tick` meets its contract. Assumes nothing.
 use Rattle.store.specs.Store.{planIn}
-use native.Mathlib.Omega.{arith}
 use borrow.Author.Needs.{needs}
 use Rattle.store.proofs.plan.end_tick.Statement.{statement}
 use Rattle.store.proofs.plan.end_tick.Tie as tie

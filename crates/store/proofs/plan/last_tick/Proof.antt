@@ -1,6 +1,5 @@
 -- `store::plan::last_tick` meets its contract. Assumes nothing.
 use Rattle.store.specs.Store.{stateIn}
-use native.Mathlib.Omega.{arith}
 use borrow.Author.Needs.{needs}
 use Rattle.store.proofs.plan.last_tick.Statement.{statement}
 use Rattle.store.proofs.plan.last_tick.Tie as tie

@@ -1,6 +1,5 @@
 -- `store::plan::longest_delay` meets its contract. Assumes nothing.
 use Rattle.store.specs.Store.{planIn}
-use native.Mathlib.Omega.{arith}
 use borrow.Author.Needs.{needs}
 use Rattle.store.proofs.plan.longest_delay.Statement.{statement}
 use Rattle.store.proofs.plan.longest_delay.Tie as tie

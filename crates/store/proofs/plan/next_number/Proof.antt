@@ -1,6 +1,5 @@
 -- `store::plan::next_number` meets its contract. Assumes nothing.
 use Rattle.store.specs.Store.{stateIn}
-use native.Mathlib.Omega.{arith}
 use borrow.Author.Needs.{needs}
 use Rattle.store.proofs.plan.next_number.Statement.{statement}
 use Rattle.store.proofs.plan.next_number.Tie as tie

@@ -1,6 +1,5 @@
 -- `store::plan::node_count` meets its contract. Assumes nothing.
 use Rattle.store.specs.Store.{planIn}
-use native.Mathlib.Omega.{arith}
 use borrow.Author.Needs.{needs}
 use Rattle.store.proofs.plan.node_count.Statement.{statement}
 use Rattle.store.proofs.plan.node_count.Tie as tie

@@ -1,6 +1,5 @@
 -- `store::plan::period` meets its contract. Assumes nothing.
 use Rattle.store.specs.Store.{planIn}
-use native.Mathlib.Omega.{arith}
 use borrow.Author.Needs.{needs}
 use Rattle.store.proofs.plan.period.Statement.{statement}
 use Rattle.store.proofs.plan.period.Tie as tie

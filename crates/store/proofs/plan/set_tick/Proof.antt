@@ -1,7 +1,6 @@
 -- `store::plan::set_tick` meets its contract. Assumes nothing.
 use mathlib.Core.Path.{_∙_}
 use Rattle.store.proofs.States.{put-tick}
-use native.Mathlib.Omega.{arith}
 use borrow.Author.Needs.{needs}
 use Rattle.store.proofs.plan.set_tick.Statement.{statement}
 use Rattle.store.proofs.plan.set_tick.Tie as tie

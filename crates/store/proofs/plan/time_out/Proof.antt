@@ -1,6 +1,5 @@
 -- `store::plan::time_out` meets its contract. Assumes nothing.
 use Rattle.store.specs.Store.{planIn}
-use native.Mathlib.Omega.{arith}
 use borrow.Author.Needs.{needs}
 use Rattle.store.proofs.plan.time_out.Statement.{statement}
 use Rattle.store.proofs.plan.time_out.Tie as tie

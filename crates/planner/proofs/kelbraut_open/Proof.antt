@@ -1,0 +1,38 @@
+-- `planner::kelbraut_open` meets its contract. Assumes nothing.
+use Rattle.planner.proofs.Answered.{ready, unopened}
+use borrow.Author.Needs.{needs}
+use Rattle.planner.proofs.kelbraut_open.Statement.{statement}
+use Rattle.planner.proofs.kelbraut_open.Tie as tie
+
+open-store-requires : tie.Need-open-store-requires
+open-store-requires c κs = search needs
+
+enum-told : tie.Need-enum-told
+enum-told c = search needs
+
+enum-known-opened : tie.Need-enum-known-opened
+enum-known-opened c = search needs
+
+same-length : tie.Need-same-length
+same-length c = search needs
+
+returns : tie.Need-returns
+returns c = let u = c .before .before .before .before .open-store .ensures in ready _ _ (u .0) _ (u .1) (c .enum-told .given .1)
+
+same-length-2 : tie.Need-same-length-2
+same-length-2 c = search needs
+
+returns-2 : tie.Need-returns-2
+returns-2 c = let u = c .before .before .before .before .before .open-store .ensures in unopened _ _ (u .0) _ (u .1) (c .before .opened .given .1)
+
+pub kelbraut-open-spec : {M : Type 1} → statement M
+kelbraut-open-spec =
+    tie.close
+    (tie.spec
+    open-store-requires
+    enum-told
+    enum-known-opened
+    same-length
+    returns
+    same-length-2
+    returns-2)

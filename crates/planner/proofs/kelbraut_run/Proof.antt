@@ -1,0 +1,50 @@
+-- `planner::kelbraut_run` meets its contract. Assumes nothing.
+use Rattle.planner.proofs.Answered.{finished, spent, unrun}
+use borrow.Author.Needs.{needs}
+use Rattle.planner.proofs.kelbraut_run.Statement.{statement}
+use Rattle.planner.proofs.kelbraut_run.Tie as tie
+
+run-requires : tie.Need-run-requires
+run-requires c κs = search needs
+
+enum-known-ran : tie.Need-enum-known-ran
+enum-known-ran c = search needs
+
+enum-known-ran-2 : tie.Need-enum-known-ran-2
+enum-known-ran-2 c = search needs
+
+enum-known-ran-3 : tie.Need-enum-known-ran-3
+enum-known-ran-3 c = search needs
+
+same-length : tie.Need-same-length
+same-length c = search needs
+
+returns : tie.Need-returns
+returns c = let u = c .before .before .before .before .before .run .ensures in finished _ _ (u .0) _ (u .1) (c .before .ran .given .1)
+
+same-length-2 : tie.Need-same-length-2
+same-length-2 c = search needs
+
+returns-2 : tie.Need-returns-2
+returns-2 c = let u = c .before .before .before .before .before .run .ensures in spent _ _ (u .0) _ (u .1) (c .before .ran2 .given .1)
+
+same-length-3 : tie.Need-same-length-3
+same-length-3 c = search needs
+
+returns-3 : tie.Need-returns-3
+returns-3 c = let u = c .before .before .before .before .before .run .ensures in unrun _ _ (u .0) _ (u .1) (c .before .ran3 .given .1)
+
+pub kelbraut-run-spec : {M : Type 1} → statement M
+kelbraut-run-spec =
+    tie.close
+    (tie.spec
+    run-requires
+    enum-known-ran
+    enum-known-ran-2
+    enum-known-ran-3
+    same-length
+    returns
+    same-length-2
+    returns-2
+    same-length-3
+    returns-3)
