@@ -1,10 +1,11 @@
 //! A seeded generator of run files, good and damaged.
 //!
-//! As a module: `file(seed, index)` gives the bytes of one file, `plan(seed, index)` an undamaged one,
-//! `spaced_plan(seed, index)` one whose crashes are all spaced by S.
+//! As a module: `file(seed, index)` gives the bytes of one file, `small_file(seed, index)` one of few
+//! events, `plan(seed, index)` an undamaged one, `spaced_plan(seed, index)` one whose crashes are all
+//! spaced by S.
 //! As a program: `generate SEED COUNT DIR` writes DIR/SEED-INDEX.run for each index below COUNT,
-//! `generate one SEED INDEX` writes that file to standard output. A file depends on its seed and
-//! index alone.
+//! `generate one SEED INDEX` writes that file to standard output; `generate small ..` does the same with
+//! files of few events. A file depends on its seed and index alone.
 #![allow(dead_code)]
 
 use std::fmt::Write as _;
@@ -15,10 +16,20 @@ use std::process::ExitCode;
 const FILE_BYTES: usize = 65_536;
 /// Most L lines.
 const MAX_DELAY_ROWS: u64 = 2_048;
-/// About how many events the heartbeats of a plan lead to.
-const HEARTBEAT_EVENTS: u64 = 6_000;
-/// Most events that the heartbeats of a damaged plan may lead to.
-const MOST_EVENTS: u64 = 20_000;
+
+/// How many events the heartbeats of a plan lead to.
+#[derive(Clone, Copy)]
+struct Size {
+    /// About how many.
+    events: u64,
+    /// At most, where the plan is damaged.
+    most_events: u64,
+    /// Whether some plans bring about 2,048 messages into flight, however many events that takes.
+    crowded: bool,
+}
+
+const USUAL: Size = Size { events: 6_000, most_events: 20_000, crowded: true };
+const SMALL: Size = Size { events: 240, most_events: 1_500, crowded: false };
 
 /// Splitmix64.
 pub struct Random(u64);
@@ -85,10 +96,19 @@ impl Draft {
 
 /// One file: about one in three is damaged.
 pub fn file(seed: u64, index: u64) -> Vec<u8> {
+    sized_file(seed, index, USUAL)
+}
+
+/// One file of few events: about one in three is damaged.
+pub fn small_file(seed: u64, index: u64) -> Vec<u8> {
+    sized_file(seed, index, SMALL)
+}
+
+fn sized_file(seed: u64, index: u64, size: Size) -> Vec<u8> {
     let mut random = Random::new(seed, index);
-    let bytes = draft(&mut random).bytes();
+    let bytes = draft(&mut random, size).bytes();
     if random.chance(3) {
-        damage(&mut random, bytes)
+        damage(&mut random, bytes, size)
     } else {
         bytes
     }
@@ -96,23 +116,23 @@ pub fn file(seed: u64, index: u64) -> Vec<u8> {
 
 /// One file that 01 accepts.
 pub fn plan(seed: u64, index: u64) -> Vec<u8> {
-    draft(&mut Random::new(seed, index)).bytes()
+    draft(&mut Random::new(seed, index), USUAL).bytes()
 }
 
 /// One file whose crashes are each S ticks or a little more after the one before.
 pub fn spaced_plan(seed: u64, index: u64) -> Vec<u8> {
     let mut random = Random::new(seed, index);
-    let mut draft = open_draft(&mut random);
+    let mut draft = open_draft(&mut random, USUAL);
     crash_spaced(&mut random, &mut draft, 0);
     put_delays(&mut random, &mut draft);
     draft.bytes()
 }
 
-fn draft(random: &mut Random) -> Draft {
-    if random.chance(8) {
+fn draft(random: &mut Random, size: Size) -> Draft {
+    if random.chance(8) && size.crowded {
         return crowded_draft(random);
     }
-    let mut draft = open_draft(random);
+    let mut draft = open_draft(random, size);
     match random.range(0, 6) {
         0 => {}
         1 | 2 => crash_anywhere(random, &mut draft),
@@ -128,14 +148,14 @@ fn draft(random: &mut Random) -> Draft {
 }
 
 /// The P line. The end tick keeps the events few.
-fn open_draft(random: &mut Random) -> Draft {
+fn open_draft(random: &mut Random, size: Size) -> Draft {
     let sizes = [1, 2, 3, 4, 5, 8, 9, 16, 17, 33, 63, 64];
     let nodes = if random.chance(2) { random.pick(&sizes) } else { random.range(1, 64) };
     let (most_period, most_delay) = random.pick(&[(3, 3), (10, 8), (1, 6), (6, 1), (40, 60), (1_000, 255)]);
     let period = random.range(1, most_period);
     let delay = random.range(1, most_delay);
     let above = random.pick(&[0, 0, 1, 2, delay, period, 50]);
-    let most_end = (HEARTBEAT_EVENTS * period / (2 * nodes)).clamp(1, 1_000_000);
+    let most_end = (size.events * period / (2 * nodes)).clamp(1, 1_000_000);
     let end = match random.range(0, 15) {
         0 => 0,
         1 => random.range(0, most_end),
@@ -245,25 +265,25 @@ fn put_delays(random: &mut Random, draft: &mut Draft) {
 }
 
 /// Damages a file in one to three places. A file that would then run for long is left whole.
-fn damage(random: &mut Random, bytes: Vec<u8>) -> Vec<u8> {
+fn damage(random: &mut Random, bytes: Vec<u8>, size: Size) -> Vec<u8> {
     let mut damaged = bytes.clone();
     for _ in 0..random.range(1, 3) {
         damage_once(random, &mut damaged);
     }
-    if runs_long(&damaged) {
+    if runs_long(&damaged, size.most_events) {
         bytes
     } else {
         damaged
     }
 }
 
-/// Whether the first line is a P line whose heartbeats alone make more than `MOST_EVENTS` events.
-fn runs_long(bytes: &[u8]) -> bool {
+/// Whether the first line is a P line whose heartbeats alone make more than this many events.
+fn runs_long(bytes: &[u8], most_events: u64) -> bool {
     let line = bytes.split(|byte| *byte == b'\n').next().unwrap_or(&[]);
     let fields: Vec<u64> =
         String::from_utf8_lossy(line).split(',').filter_map(|field| field.parse().ok()).collect();
     let [nodes, period, _, _, end] = fields[..] else { return false };
-    2 * u128::from(nodes) * u128::from(end) > u128::from(MOST_EVENTS) * u128::from(period)
+    2 * u128::from(nodes) * u128::from(end) > u128::from(most_events) * u128::from(period)
 }
 
 fn damage_once(random: &mut Random, bytes: &mut Vec<u8>) {
@@ -406,9 +426,13 @@ fn add_rows(random: &mut Random, bytes: &mut Vec<u8>) {
 pub fn main() -> ExitCode {
     let arguments: Vec<String> = std::env::args().skip(1).collect();
     let words: Vec<&str> = arguments.iter().map(String::as_str).collect();
-    let done = match words[..] {
-        ["one", seed, index] => write_one(seed, index),
-        [seed, count, directory] => write_many(seed, count, directory),
+    let (words, size) = match &words[..] {
+        ["small", rest @ ..] => (rest, SMALL),
+        all => (all, USUAL),
+    };
+    let done = match *words {
+        ["one", seed, index] => write_one(seed, index, size),
+        [seed, count, directory] => write_many(seed, count, directory, size),
         _ => None,
     };
     match done {
@@ -418,21 +442,21 @@ pub fn main() -> ExitCode {
             ExitCode::from(1)
         }
         None => {
-            eprintln!("usage: generate SEED COUNT DIR | generate one SEED INDEX");
+            eprintln!("usage: generate [small] SEED COUNT DIR | generate [small] one SEED INDEX");
             ExitCode::from(2)
         }
     }
 }
 
-fn write_one(seed: &str, index: &str) -> Option<io::Result<()>> {
-    let bytes = file(seed.parse().ok()?, index.parse().ok()?);
+fn write_one(seed: &str, index: &str, size: Size) -> Option<io::Result<()>> {
+    let bytes = sized_file(seed.parse().ok()?, index.parse().ok()?, size);
     Some(io::stdout().write_all(&bytes))
 }
 
-fn write_many(seed: &str, count: &str, directory: &str) -> Option<io::Result<()>> {
+fn write_many(seed: &str, count: &str, directory: &str, size: Size) -> Option<io::Result<()>> {
     let (seed, count): (u64, u64) = (seed.parse().ok()?, count.parse().ok()?);
     Some((0..count).try_for_each(|index| {
         let path = std::path::Path::new(directory).join(format!("{seed}-{index}.run"));
-        std::fs::write(path, file(seed, index))
+        std::fs::write(path, sized_file(seed, index, size))
     }))
 }

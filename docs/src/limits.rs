@@ -4,6 +4,8 @@
 pub const MAX_NODES: u64 = 64;
 /// Longest accepted run file, in bytes; also the length of the part that a run file is written to.
 pub const FILE_BYTES: usize = 65_536;
+/// A store's length.
+pub const STORE_BYTES: usize = 65_536;
 /// Most messages in flight after an event.
 pub const MAX_IN_FLIGHT: usize = 2_048;
 /// Most L lines of a run file.
@@ -47,6 +49,8 @@ pub const REFUSED_TIMEOUT: u8 = 4;
 pub const REFUSED_ORDER: u8 = 5;
 /// One L line more than `MAX_DELAY_ROWS`.
 pub const REFUSED_ROWS: u8 = 6;
+/// A store of another length, with a field out of range, or with an unused byte that is not zero.
+pub const REFUSED_STORE: u8 = 7;
 /// An event that would leave more than `MAX_IN_FLIGHT` messages in flight.
 pub const REFUSED_EVENT: u8 = 8;
 /// A lent part that is too short.

@@ -1,5 +1,6 @@
 //! Demand 3's words: no live node is listed; S; crashes that are spaced; the settled ring.
 
+use super::node::Node;
 use super::plan::Plan;
 use super::platform::Platform;
 use super::ring;
@@ -19,10 +20,15 @@ fn settling_time_of(plan: &Plan, row: usize) -> u64 {
     settling_time(plan.timeout, plan.delay, usize::from(plan.nodes) - row - 1)
 }
 
+/// The crashed nodes as a list.
+fn crashed(nodes: &[Node]) -> u64 {
+    nodes.iter().filter(|node| !node.alive).fold(0, |list, node| ring::with(list, node.number))
+}
+
 /// "no node's list holds a live node", crashed nodes' lists included.
-pub fn no_live_node_listed(platform: &Platform) -> bool {
-    let crashed = platform.crashed();
-    platform.nodes().iter().all(|node| node.dead_list & !crashed == 0)
+pub fn no_live_node_listed(nodes: &[Node]) -> bool {
+    let crashed = crashed(nodes);
+    nodes.iter().all(|node| node.dead_list & !crashed == 0)
 }
 
 /// "Where each crash done came at least S ticks after the one before."
@@ -45,18 +51,18 @@ pub fn settling_time_passed(platform: &mut Platform) -> bool {
 
 /// "every survivor lists exactly the crashed nodes, emits to the next survivor and observes the one
 /// before; a lone survivor is both to itself".
-pub fn settled(platform: &Platform) -> bool {
-    let nodes = platform.plan().nodes;
-    let crashed = platform.crashed();
-    platform.nodes().iter().filter(|node| node.alive).all(|node| {
+pub fn settled(nodes: &[Node]) -> bool {
+    let crashed = crashed(nodes);
+    let count = nodes.len() as u8;
+    nodes.iter().filter(|node| node.alive).all(|node| {
         node.dead_list == crashed
-            && node.observer == ring::first_unlisted_ahead(nodes, crashed, node.number)
-            && node.emitter == ring::first_unlisted_back(nodes, crashed, node.number)
+            && node.observer == ring::first_unlisted_ahead(count, crashed, node.number)
+            && node.emitter == ring::first_unlisted_back(count, crashed, node.number)
     })
 }
 
 /// What demand 3 claims of the platform as it stands.
 pub fn demand_3(platform: &mut Platform) -> bool {
     let owed = crashes_spaced(platform) && settling_time_passed(platform);
-    no_live_node_listed(platform) && (!owed || settled(platform))
+    no_live_node_listed(platform.nodes()) && (!owed || settled(platform.nodes()))
 }

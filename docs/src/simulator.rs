@@ -11,8 +11,11 @@
 //! - `queue`: what is pending, in the order of the events.
 //! - `platform`: events, step and run.
 //! - `settle`: demand 3's words about safety and settling.
+//! - `store`: the bytes of a platform, written, read and checked.
+//! - `exhaust`: all runs of a small ring.
 //! - `log`: log lines, written, read and cut into columns.
 
+pub mod exhaust;
 pub mod fields;
 pub mod limits;
 pub mod log;
@@ -23,6 +26,7 @@ pub mod queue;
 pub mod record;
 pub mod ring;
 pub mod settle;
+pub mod store;
 
 #[cfg(test)]
 mod tests;

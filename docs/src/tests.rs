@@ -7,6 +7,7 @@ use super::plan::{self, Crash};
 use super::platform::{Ending, Platform, Run, Step};
 use super::queue::{Cause, Pending};
 use super::settle;
+use super::store;
 
 #[path = "../../tests/generate.rs"]
 mod generate;
@@ -123,7 +124,7 @@ fn jumps_over_listed_nodes_in_a_run() {
     let mut platform = open("P,8,2,3,1,12\nC,0,2\nC,0,3\n");
     platform.run(u64::MAX);
     assert_eq!(platform.nodes()[4].dead_list, 0b1100);
-    assert!(settle::settled(&platform));
+    assert!(settle::settled(platform.nodes()));
     let reports = log("P,8,2,3,1,12\nC,0,2\nC,0,3\n");
     let of_2: Vec<&str> =
         reports.lines().filter(|line| line.starts_with("R,10,") && line.contains(",2,0")).collect();
@@ -218,11 +219,11 @@ fn settling_counts_what_lies_beyond_the_end_tick() {
     let mut early = open("P,3,3,4,1,4\nC,2,0\n");
     early.run(u64::MAX);
     assert!(!settle::settling_time_passed(&mut early));
-    assert!(!settle::settled(&early));
+    assert!(!settle::settled(early.nodes()));
     let mut late = open("P,3,3,4,1,8\nC,2,0\n");
     late.run(u64::MAX);
     assert!(settle::settling_time_passed(&mut late));
-    assert!(settle::settled(&late));
+    assert!(settle::settled(late.nodes()));
 }
 
 #[test]
@@ -255,10 +256,10 @@ fn unsettled_rings_are_told_from_settled_ones() {
     let mut platform = open("P,4,2,3,1,40\nC,5,1\n");
     let mut unsettled = 0;
     for_each_event(&mut platform, |platform| {
-        unsettled += usize::from(platform.crashes_done() == 1 && !settle::settled(platform));
+        unsettled += usize::from(platform.crashes_done() == 1 && !settle::settled(platform.nodes()));
     });
     assert!(unsettled > 0);
-    assert!(settle::settled(&platform) && settle::no_live_node_listed(&platform));
+    assert!(settle::settled(platform.nodes()) && settle::no_live_node_listed(platform.nodes()));
 }
 
 /// The next event by a plain search, as the paper lists the three classes.
@@ -332,6 +333,39 @@ fn messages_in_flight_are_in_range() {
             }
         }
     }
+}
+
+/// "the store that opening makes of an accepted file, and every one that steps and runs then leave, is in
+/// range"; and the platform read from it is the same and goes on in the same way.
+#[test]
+fn every_store_that_events_lead_to() {
+    for index in 0..40 {
+        let mut platform = Platform::open(plan::read(&generate::plan(SEED + 5, index)).unwrap());
+        for round in 0..100 {
+            let bytes = store::encode(&platform);
+            let held = store::decode(&bytes);
+            let case = format!("index {index}, round {round}");
+            assert!(store::check(&bytes) && held.is_some(), "{case}");
+            let mut held = held.unwrap();
+            assert_eq!(held.encode(), bytes, "{case}");
+            assert_eq!(held_state(&held.platform), held_state(&platform), "{case}");
+            let step = platform.step();
+            assert_eq!(held.platform.step(), step, "{case}");
+            assert_eq!(held_state(&held.platform), held_state(&platform), "{case}");
+            if !matches!(step, Step::Event(_)) || platform.run(3).ending != Ending::Spent {
+                break;
+            }
+        }
+    }
+}
+
+/// What a store holds of a platform.
+fn held_state(platform: &Platform) -> impl PartialEq + std::fmt::Debug {
+    (
+        (platform.plan().clone(), platform.nodes().to_vec(), platform.messages()),
+        (platform.in_flight(), platform.next_number(), platform.last_tick()),
+        (platform.crashes_done(), platform.crashed()),
+    )
 }
 
 /// Any bytes get a refusal or a run, and an accepted file comes back from the writer.

@@ -1,0 +1,558 @@
+//! All runs of a small ring: every delay from 1 to D of every message, every crash at every tick, up to an
+//! end tick. It asks demand 3's words of the state after each event.
+//!
+//! The search goes from tick to tick. Ticks are counted from the state's own, and what can no longer matter
+//! is left out, so that states which go on alike are one and are met once; where no new state comes up, the
+//! answer holds for every end tick. A run in which something is found comes back as a plan.
+
+use super::node::{Content, Node, Sends, Settings, Timer};
+use super::plan::{Crash, Delay, Plan};
+use super::ring;
+use super::settle;
+use std::collections::HashMap;
+
+/// The rules that the search goes by: the paper's, or wrong ones, of which the first two are "natural".
+#[derive(Clone, Copy, PartialEq, Eq, Debug)]
+pub enum Rules {
+    Paper,
+    /// "W instead of 2 × W after moving".
+    ShortWatch,
+    /// "timers before deliveries of the same tick".
+    TimersFirst,
+    /// Not a rule but a claim: S without its 2 × D.
+    ShortSettling,
+}
+
+/// What is searched: N, H, W, D, the end tick and the rules. W may be below H + D.
+#[derive(Clone, Copy, Debug)]
+pub struct Search {
+    pub nodes: u8,
+    pub period: u32,
+    pub timeout: u32,
+    pub delay: u32,
+    pub end: u32,
+    pub rules: Rules,
+}
+
+#[derive(Clone, Copy, PartialEq, Eq, Debug)]
+pub enum Finding {
+    /// A node's list holds a live node.
+    LiveNodeListed,
+    /// Crashes are spaced and S ticks have passed, but the ring is not settled.
+    Unsettled,
+}
+
+/// What is found, at which tick, and a run that leads to it.
+#[derive(Clone, PartialEq, Eq, Debug)]
+pub struct Found {
+    pub finding: Finding,
+    pub tick: u32,
+    pub plan: Plan,
+}
+
+#[derive(Clone, Debug)]
+pub struct Outcome {
+    /// States at the start of a tick, equal ones counted once.
+    pub states: usize,
+    pub events: u64,
+    /// Different runs up to the end tick: plans of crashes and delays of all messages sent.
+    pub runs: f64,
+    /// The ticks after which no new state came up; nothing where the end tick came first.
+    pub closed: Option<u32>,
+    pub found: Option<Found>,
+}
+
+/// A message in flight that may still change its receiver.
+#[derive(Clone, Copy, PartialEq, Eq, Debug)]
+struct Flight {
+    due: u32,
+    sender: u8,
+    receiver: u8,
+    content: Content,
+}
+
+/// The crashes done so far, as settling sees them.
+#[derive(Clone, Copy, PartialEq, Eq, Debug)]
+enum Crashes {
+    None,
+    /// Each came at least S ticks after the one before; the last one this many ticks ago, at most S.
+    Spaced(u32),
+    Close,
+}
+
+/// A state of the ring; ticks are counted from its own.
+#[derive(Clone, PartialEq, Eq, Debug)]
+struct State {
+    nodes: Vec<Node>,
+    /// By due tick, then in the order of sending.
+    flights: Vec<Flight>,
+    /// Bit d stands for messages due in d ticks that will do nothing.
+    idle: u32,
+    crashes: Crashes,
+}
+
+impl State {
+    fn open(search: &Search) -> State {
+        let settings = search.settings();
+        State {
+            nodes: (0..search.nodes).map(|number| Node::open(&settings, number)).collect(),
+            flights: Vec::new(),
+            idle: 0,
+            crashes: Crashes::None,
+        }
+    }
+
+    /// Whether the message can still change its receiver.
+    fn matters(&self, flight: &Flight) -> bool {
+        let receiver = &self.nodes[usize::from(flight.receiver)];
+        let listed = |subject| subject == receiver.number || ring::listed(receiver.dead_list, subject);
+        receiver.alive && !matches!(flight.content, Content::Report { subject } if listed(subject))
+    }
+
+    fn put(&mut self, flight: Flight) {
+        if self.matters(&flight) {
+            let place = self.flights.partition_point(|other| other.due <= flight.due);
+            self.flights.insert(place, flight);
+        } else {
+            self.idle |= 1 << flight.due;
+        }
+    }
+
+    /// The next timer due at this tick, "by node, watch before heartbeat".
+    fn due_timer(&self) -> Option<(usize, Timer)> {
+        let timers = |node: &Node| {
+            [Timer::Watch, Timer::Heartbeat].into_iter().find(|timer| node.due(*timer) == Some(0))
+        };
+        self.nodes.iter().find_map(|node| Some((usize::from(node.number), timers(node)?)))
+    }
+
+    /// In how many ticks the first pending thing is due.
+    fn earliest_due(&self) -> Option<u32> {
+        let timers = self.nodes.iter().flat_map(|node| [node.due(Timer::Watch), node.due(Timer::Heartbeat)]);
+        let idle = (self.idle != 0).then(|| self.idle.trailing_zeros());
+        timers.chain([idle, self.flights.first().map(|flight| flight.due)]).flatten().min()
+    }
+
+    /// The state at the start of the next tick, without what can no longer matter.
+    fn next_tick(mut self, search: &Search) -> State {
+        self.idle &= !1;
+        for flight in std::mem::take(&mut self.flights) {
+            self.put(flight);
+        }
+        self.idle >>= 1;
+        self.flights.iter_mut().for_each(|flight| flight.due -= 1);
+        for node in &mut self.nodes {
+            if node.alive {
+                node.watch = node.watch.map(|due| due - 1);
+                node.heartbeat = node.heartbeat.map(|due| due - 1);
+            } else {
+                *node = Node { alive: false, ..Node::open(&search.settings(), node.number) };
+            }
+        }
+        if let Crashes::Spaced(since) = &mut self.crashes {
+            *since = (*since + 1).min(search.settling_time(&self.nodes));
+        }
+        self
+    }
+
+    /// Puts the state into bytes, equal for equal states.
+    fn put_key(&self, key: &mut Vec<u8>) {
+        let due = |timer: Option<u32>| timer.map_or(0, |due| due as u8 + 1);
+        let crashes = match self.crashes {
+            Crashes::None => 0,
+            Crashes::Close => 1,
+            Crashes::Spaced(since) => 2 + since as u8,
+        };
+        let live = self.nodes.iter().fold(0, |live, node| live << 1 | u8::from(node.alive));
+        key.clear();
+        key.extend([live, self.idle as u8, crashes]);
+        for node in self.nodes.iter().filter(|node| node.alive) {
+            key.extend([
+                node.emitter,
+                node.observer,
+                due(node.watch),
+                due(node.heartbeat),
+                node.dead_list as u8,
+            ]);
+        }
+        for Flight { due, sender, receiver, content } in &self.flights {
+            let content = match content {
+                Content::Heartbeat => 254,
+                Content::NewObserver => 255,
+                Content::Report { subject } => *subject,
+            };
+            key.extend([*due as u8, sender << 4 | receiver, content]);
+        }
+    }
+}
+
+impl Search {
+    fn settings(&self) -> Settings {
+        Settings { nodes: self.nodes, period: self.period, timeout: self.timeout }
+    }
+
+    /// S after a crash that left these nodes.
+    fn settling_time(&self, nodes: &[Node]) -> u32 {
+        let survivors = nodes.iter().filter(|node| node.alive).count();
+        let time = settle::settling_time(self.timeout, self.delay, survivors) as u32;
+        if self.rules == Rules::ShortSettling {
+            time - 2 * self.delay
+        } else {
+            time
+        }
+    }
+
+    /// Searches to the end tick, or until something is found.
+    pub fn explore(&self) -> Outcome {
+        assert!(self.nodes <= 8 && 2 * self.timeout < 250 && self.delay < 8, "the search is for small rings");
+        let mut tree = Tree::new(self);
+        let mut layer = vec![0];
+        let mut closed = None;
+        for tick in 0..=self.end {
+            let before = tree.states.len();
+            for id in layer {
+                if let Some(finding) = tree.expand(id) {
+                    return tree.outcome(Some(tree.found(finding, id, tick)), None);
+                }
+            }
+            layer = (before..tree.states.len()).collect();
+            if layer.is_empty() {
+                closed = Some(tick);
+                break;
+            }
+        }
+        tree.outcome(None, closed)
+    }
+}
+
+/// What was chosen in one tick: who crashed, and the delays of the messages sent, in the order of sending.
+#[derive(Clone, Default, Debug)]
+struct Choice {
+    crashed: Vec<u8>,
+    delays: Vec<u8>,
+}
+
+/// The states met so far, each with the state and the choice that first led to it.
+struct Tree<'search> {
+    search: &'search Search,
+    ids: HashMap<Box<[u8]>, usize>,
+    states: Vec<State>,
+    led_by: Vec<(usize, Choice)>,
+    /// For each state that was gone on from, the states one tick later and in how many ways each is led to.
+    ways: Vec<Vec<(usize, u32)>>,
+    events: u64,
+    /// Of the state that is being gone on from: what is chosen so far, and the states led to.
+    chosen: Choice,
+    leads: Vec<usize>,
+    from: usize,
+    key: Vec<u8>,
+}
+
+impl<'search> Tree<'search> {
+    fn new(search: &'search Search) -> Tree<'search> {
+        let mut tree = Tree {
+            search,
+            ids: HashMap::new(),
+            states: Vec::new(),
+            led_by: Vec::new(),
+            ways: Vec::new(),
+            events: 0,
+            chosen: Choice::default(),
+            leads: Vec::new(),
+            from: 0,
+            key: Vec::new(),
+        };
+        tree.meet(State::open(search));
+        tree
+    }
+
+    /// The id of a state, which is kept where it is new.
+    fn meet(&mut self, state: State) -> usize {
+        state.put_key(&mut self.key);
+        if let Some(id) = self.ids.get(&self.key[..]) {
+            return *id;
+        }
+        let id = self.states.len();
+        self.ids.insert(self.key.clone().into(), id);
+        self.states.push(state);
+        self.led_by.push((self.from, self.chosen.clone()));
+        id
+    }
+
+    /// Goes on from a state by one tick, in every way; states are gone on from in the order of their ids.
+    fn expand(&mut self, id: usize) -> Option<Finding> {
+        self.from = id;
+        self.leads.clear();
+        self.chosen = Choice::default();
+        let finding = self.crash_from(self.states[id].clone(), 0);
+        self.leads.sort_unstable();
+        let ways = self.leads.chunk_by(|one, other| one == other).map(|led| (led[0], led.len() as u32));
+        self.ways.push(ways.collect());
+        finding
+    }
+
+    /// Crashes of this tick, by node: each live node from `number` on crashes or does not.
+    fn crash_from(&mut self, state: State, number: usize) -> Option<Finding> {
+        let Some(node) = state.nodes.get(number) else { return self.go_on(state) };
+        if !node.alive {
+            return self.crash_from(state, number + 1);
+        }
+        let finding = self.crash_from(state.clone(), number + 1);
+        if finding.is_some() {
+            return finding;
+        }
+        let mut other = state;
+        self.crash(&mut other, number);
+        self.chosen.crashed.push(number as u8);
+        let finding = self.after_event(&other).or_else(|| self.crash_from(other, number + 1));
+        if finding.is_none() {
+            self.chosen.crashed.pop();
+        }
+        finding
+    }
+
+    fn crash(&self, state: &mut State, number: usize) {
+        let settled = |since| since >= self.search.settling_time(&state.nodes);
+        state.crashes = match state.crashes {
+            Crashes::None => Crashes::Spaced(0),
+            Crashes::Spaced(since) if settled(since) => Crashes::Spaced(0),
+            _ => Crashes::Close,
+        };
+        state.nodes[number].alive = false;
+    }
+
+    /// Does the next event of this tick, or goes to the next tick where none is left.
+    fn go_on(&mut self, mut state: State) -> Option<Finding> {
+        let timer = state.due_timer();
+        let delivery = state.flights.first().is_some_and(|flight| flight.due == 0);
+        let settings = self.search.settings();
+        let (number, sends) = match timer {
+            Some(timer) if !delivery || self.search.rules == Rules::TimersFirst => {
+                self.expire(&mut state, timer)
+            }
+            _ if delivery => {
+                let Flight { sender, receiver, content, .. } = state.flights.remove(0);
+                let node = &mut state.nodes[usize::from(receiver)];
+                let alive = node.alive;
+                let sends = if alive { node.deliver(&settings, 0, sender, content) } else { Sends::none() };
+                (receiver, sends)
+            }
+            _ => return self.end_tick(state),
+        };
+        self.after_event(&state).or_else(|| self.send(state, number, &sends, 0))
+    }
+
+    fn expire(&self, state: &mut State, (number, timer): (usize, Timer)) -> (u8, Sends) {
+        let settings = self.search.settings();
+        let node = &mut state.nodes[number];
+        let sends = match timer {
+            Timer::Watch => node.expire_watch(&settings, 0),
+            Timer::Heartbeat => node.send_heartbeat(&settings, 0),
+        };
+        if self.search.rules == Rules::ShortWatch && timer == Timer::Watch {
+            node.watch = node.watch.map(|_| settings.timeout);
+        }
+        (number as u8, sends)
+    }
+
+    /// Puts the messages from `place` on in flight, with every delay.
+    fn send(&mut self, state: State, sender: u8, sends: &Sends, place: usize) -> Option<Finding> {
+        let Some(sent) = sends.as_slice().get(place) else { return self.go_on(state) };
+        for due in 1..=self.search.delay {
+            let mut other = state.clone();
+            other.put(Flight { due, sender, receiver: sent.receiver, content: sent.content });
+            self.chosen.delays.push(due as u8);
+            let finding = self.send(other, sender, sends, place + 1);
+            if finding.is_some() {
+                return finding;
+            }
+            self.chosen.delays.pop();
+        }
+        None
+    }
+
+    fn end_tick(&mut self, mut state: State) -> Option<Finding> {
+        state.idle &= !1;
+        let finding = self.unsettled(&state);
+        if finding.is_some() {
+            return finding;
+        }
+        let id = self.meet(state.next_tick(self.search));
+        self.leads.push(id);
+        None
+    }
+
+    /// What demand 3 claims after each event.
+    fn after_event(&mut self, state: &State) -> Option<Finding> {
+        self.events += 1;
+        if !settle::no_live_node_listed(&state.nodes) {
+            return Some(Finding::LiveNodeListed);
+        }
+        self.unsettled(state)
+    }
+
+    /// "from S ticks after a crash until the next", where crashes are spaced. The crashes to come are those
+    /// that the search has yet to choose, so that a run without them is among those that go on from here.
+    fn unsettled(&self, state: &State) -> Option<Finding> {
+        let Crashes::Spaced(since) = state.crashes else { return None };
+        let time = self.search.settling_time(&state.nodes);
+        let passed = state.earliest_due().is_none_or(|due| since + due >= time);
+        (passed && !settle::settled(&state.nodes)).then_some(Finding::Unsettled)
+    }
+
+    /// The choices that first led to a state, from the first tick on.
+    fn choices(&self, id: usize) -> Vec<Choice> {
+        let mut choices = Vec::new();
+        let mut at = id;
+        while at != 0 {
+            let (from, choice) = &self.led_by[at];
+            choices.push(choice.clone());
+            at = *from;
+        }
+        choices.reverse();
+        choices
+    }
+
+    /// What was found in going on from state `id`.
+    fn found(&self, finding: Finding, id: usize, tick: u32) -> Found {
+        let mut choices = self.choices(id);
+        choices.push(self.chosen.clone());
+        Found { finding, tick, plan: self.search.plan(&choices) }
+    }
+
+    fn outcome(&self, found: Option<Found>, closed: Option<u32>) -> Outcome {
+        let runs = if found.is_none() { self.runs() } else { 0.0 };
+        Outcome { states: self.states.len(), events: self.events, runs, closed, found }
+    }
+
+    /// How many runs there are up to the end tick.
+    fn runs(&self) -> f64 {
+        let mut counts = vec![0.0; self.states.len()];
+        counts[0] = 1.0;
+        for _ in 0..=self.search.end {
+            let mut next = vec![0.0; counts.len()];
+            for (id, leads) in self.ways.iter().enumerate().filter(|(id, _)| counts[*id] > 0.0) {
+                leads.iter().for_each(|(to, ways)| next[*to] += counts[id] * f64::from(*ways));
+            }
+            counts = next;
+        }
+        counts.iter().sum()
+    }
+}
+
+impl Search {
+    /// The plan of a run: a choice for each tick.
+    fn plan(&self, choices: &[Choice]) -> Plan {
+        let crashes = choices
+            .iter()
+            .zip(0..)
+            .flat_map(|(choice, tick)| choice.crashed.iter().map(move |node| Crash { tick, node: *node }));
+        let delays = choices.iter().flat_map(|choice| &choice.delays).zip(0..);
+        Plan {
+            nodes: self.nodes,
+            period: self.period,
+            timeout: self.timeout,
+            delay: self.delay,
+            end: self.end,
+            crashes: crashes.collect(),
+            delays: delays.map(|(delay, number)| Delay { number, delay: u32::from(*delay) }).collect(),
+        }
+    }
+}
+
+#[cfg(test)]
+mod tests {
+    use super::super::platform::{Platform, Step};
+    use super::*;
+
+    const SMALL: Search = Search { nodes: 3, period: 1, timeout: 3, delay: 2, end: 40, rules: Rules::Paper };
+
+    /// What a state and a platform have in common at the start of a tick: the live nodes, with their timers
+    /// counted from that tick, and the messages that matter, by due tick.
+    fn common(platform: &Platform, tick: u32) -> (Vec<Node>, Vec<Flight>) {
+        let count = |timer: Option<u32>| timer.map(|due| due - tick);
+        let live = platform.nodes().iter().filter(|node| node.alive);
+        let nodes =
+            live.map(|node| Node { watch: count(node.watch), heartbeat: count(node.heartbeat), ..*node });
+        let state =
+            State { nodes: platform.nodes().to_vec(), flights: Vec::new(), idle: 0, crashes: Crashes::None };
+        let mut flights: Vec<Flight> = platform
+            .messages()
+            .into_iter()
+            .map(|(due, message)| Flight {
+                due: due - tick,
+                sender: message.sender,
+                receiver: message.receiver,
+                content: message.content,
+            })
+            .filter(|flight| state.matters(flight))
+            .collect();
+        flights.sort_by_key(|flight| flight.due);
+        (nodes.collect(), flights)
+    }
+
+    /// The platform comes to each state of the search by the plan of the choices that led to it.
+    #[test]
+    fn the_platform_comes_to_the_same_states() {
+        let mut tree = Tree::new(&SMALL);
+        let mut id = 0;
+        while id < tree.states.len() && id < 2_000 {
+            assert_eq!(tree.expand(id), None);
+            let choices = tree.choices(id);
+            let tick = choices.len() as u32;
+            if let Some(end) = tick.checked_sub(1) {
+                let mut platform = Platform::open(Plan { end, ..SMALL.plan(&choices) });
+                platform.run(u64::MAX);
+                let state = &tree.states[id];
+                let live: Vec<Node> = state.nodes.iter().filter(|node| node.alive).copied().collect();
+                assert_eq!((live, state.flights.clone()), common(&platform, tick), "{choices:?}");
+            }
+            id += 1;
+        }
+        assert!(id > 1_000);
+    }
+
+    /// Each node crashes at one of the ticks or not at all, and with D = 1 no delay is left to choose.
+    #[test]
+    fn runs_are_counted() {
+        let outcome = Search { nodes: 2, period: 2, delay: 1, end: 20, ..SMALL }.explore();
+        assert_eq!((outcome.runs, outcome.found), (22.0 * 22.0, None));
+    }
+
+    /// At tick 2 each node that has not crashed by then sends, with a delay of 1, 2 or 3.
+    #[test]
+    fn delays_are_chosen() {
+        let search = Search { nodes: 2, period: 2, timeout: 5, delay: 3, end: 2, ..SMALL };
+        let both_live = 3.0 * 3.0;
+        let one_crashed = 2.0 * 3.0 * 3.0;
+        let both_crashed = 3.0 * 3.0;
+        assert_eq!(search.explore().runs, both_live + one_crashed + both_crashed);
+    }
+
+    #[test]
+    fn nothing_is_found_by_the_rules() {
+        let outcome = SMALL.explore();
+        assert_eq!(outcome.found, None);
+        assert!(outcome.closed.is_some() && outcome.states > 4_000);
+    }
+
+    /// The run that is found lists a live node at that tick by the platform's events too.
+    #[test]
+    fn a_time_out_one_tick_short_lists_a_live_node() {
+        let found = Search { timeout: 2, ..SMALL }.explore().found.expect("a live node is listed");
+        assert_eq!((found.finding, found.tick), (Finding::LiveNodeListed, 2));
+        let mut platform = Platform::open(found.plan);
+        while settle::no_live_node_listed(platform.nodes()) {
+            assert!(matches!(platform.step(), Step::Event(_)));
+        }
+        assert_eq!(platform.last_tick(), found.tick);
+    }
+
+    #[test]
+    fn wrong_rules_are_found() {
+        let finding = |rules| Search { rules, ..SMALL }.explore().found.map(|found| found.finding);
+        assert_eq!(finding(Rules::ShortWatch), Some(Finding::LiveNodeListed));
+        assert_eq!(finding(Rules::TimersFirst), Some(Finding::LiveNodeListed));
+        assert_eq!(finding(Rules::ShortSettling), Some(Finding::Unsettled));
+    }
+}

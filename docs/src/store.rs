@@ -1,0 +1,581 @@
+//! The store: "65,536 lent bytes, opened from an accepted run file, its unused part zero". Its fields
+//! and their ranges are those of docs/LAYOUTS.md and of document 01.
+//!
+//! `check` is number 7: "other length, a field out of range, or an unused byte not zero".
+
+use super::limits::*;
+use super::node::{Content, Node};
+use super::plan::{self, Crash, Delay, Plan};
+use super::platform::Platform;
+use super::queue::Message;
+use super::ring;
+use std::ops::Range;
+
+/// A field of the layout: numbers of `width` bytes, the lowest first, in places one after another.
+#[derive(Clone, Copy, Debug)]
+struct Field {
+    start: usize,
+    width: usize,
+    places: usize,
+}
+
+const fn field(start: usize, width: usize, places: usize) -> Field {
+    Field { start, width, places }
+}
+
+const NODES: Field = field(0, 1, 1);
+const LONGEST_DELAY: Field = field(1, 1, 1);
+const PERIOD: Field = field(2, 2, 1);
+const TIMEOUT: Field = field(4, 2, 1);
+const CRASHES: Field = field(6, 1, 1);
+const CRASHES_DONE: Field = field(7, 1, 1);
+const END: Field = field(8, 4, 1);
+const LAST_TICK: Field = field(12, 4, 1);
+const NEXT_NUMBER: Field = field(16, 8, 1);
+const DELAYS: Field = field(24, 2, 1);
+const MESSAGES: Field = field(26, 2, 1);
+const UNUSED_HEAD: Field = field(28, 1, 100);
+const EMITTER: Field = field(128, 1, 64);
+const OBSERVER: Field = field(192, 1, 64);
+const WATCH: Field = field(256, 4, 64);
+const HEARTBEAT: Field = field(512, 4, 64);
+const DEAD_LIST: Field = field(768, 8, 64);
+const UNUSED_MARK: Field = field(1_280, 1, 512);
+const CRASH_TICK: Field = field(1_792, 4, 64);
+const CRASH_NODE: Field = field(2_048, 1, 64);
+const DELAY_NUMBER: Field = field(2_112, 4, 2_048);
+const DELAY_TICKS: Field = field(10_304, 1, 2_048);
+const MESSAGE_NUMBER: Field = field(12_352, 8, 2_048);
+const MESSAGE_DUE: Field = field(28_736, 4, 2_048);
+const MESSAGE_KIND: Field = field(36_928, 1, 2_048);
+const MESSAGE_SENDER: Field = field(38_976, 1, 2_048);
+const MESSAGE_RECEIVER: Field = field(41_024, 1, 2_048);
+const MESSAGE_SUBJECT: Field = field(43_072, 1, 2_048);
+const UNUSED_TAIL: Field = field(45_120, 1, 20_416);
+
+/// A store of unused bytes.
+static ZEROS: [u8; STORE_BYTES] = [0; STORE_BYTES];
+
+/// How many places of the fields that have more than one are used.
+#[derive(Clone, Copy)]
+struct Counts {
+    nodes: usize,
+    crashes: usize,
+    delays: usize,
+    messages: usize,
+}
+
+impl Counts {
+    /// The counts in the bytes; nothing where there are more rows or messages than a store may have.
+    fn read(bytes: &[u8]) -> Option<Counts> {
+        let count = |field| get(bytes, field, 0) as usize;
+        let counts = Counts {
+            nodes: count(NODES),
+            crashes: count(CRASHES),
+            delays: count(DELAYS),
+            messages: count(MESSAGES),
+        };
+        let room = (1..=MAX_NODES as usize).contains(&counts.nodes)
+            && counts.crashes <= counts.nodes
+            && counts.delays <= MAX_DELAY_ROWS
+            && counts.messages <= MAX_IN_FLIGHT;
+        room.then_some(counts)
+    }
+
+    /// Every field of the store with the number of its places that are used.
+    fn fields(&self) -> [(Field, usize); 29] {
+        let Counts { nodes, crashes, delays, messages } = *self;
+        [
+            (NODES, 1),
+            (LONGEST_DELAY, 1),
+            (PERIOD, 1),
+            (TIMEOUT, 1),
+            (CRASHES, 1),
+            (CRASHES_DONE, 1),
+            (END, 1),
+            (LAST_TICK, 1),
+            (NEXT_NUMBER, 1),
+            (DELAYS, 1),
+            (MESSAGES, 1),
+            (UNUSED_HEAD, 0),
+            (EMITTER, nodes),
+            (OBSERVER, nodes),
+            (WATCH, nodes),
+            (HEARTBEAT, nodes),
+            (DEAD_LIST, nodes),
+            (UNUSED_MARK, 0),
+            (CRASH_TICK, crashes),
+            (CRASH_NODE, crashes),
+            (DELAY_NUMBER, delays),
+            (DELAY_TICKS, delays),
+            (MESSAGE_NUMBER, messages),
+            (MESSAGE_DUE, messages),
+            (MESSAGE_KIND, messages),
+            (MESSAGE_SENDER, messages),
+            (MESSAGE_RECEIVER, messages),
+            (MESSAGE_SUBJECT, messages),
+            (UNUSED_TAIL, 0),
+        ]
+    }
+
+    /// The unused bytes of each field: the spare ones, and the places beyond the counts.
+    fn unused(&self) -> impl Iterator<Item = Range<usize>> {
+        let unused = |(Field { start, width, places }, used): (Field, usize)| {
+            start + used * width..start + places * width
+        };
+        self.fields().into_iter().map(unused)
+    }
+}
+
+/// The number at a place of a field.
+fn get(bytes: &[u8], Field { start, width, .. }: Field, place: usize) -> u64 {
+    let from = start + place * width;
+    bytes[from..from + width].iter().rev().fold(0, |number, byte| number << 8 | u64::from(*byte))
+}
+
+fn put(bytes: &mut [u8], Field { start, width, .. }: Field, place: usize, number: u64) {
+    let from = start + place * width;
+    bytes[from..from + width].copy_from_slice(&number.to_le_bytes()[..width]);
+}
+
+/// A timer: 0 off, else one more than its tick.
+fn timer(number: u64) -> Option<u32> {
+    (number as u32).checked_sub(1)
+}
+
+/// A message of a store with its due tick. No rule looks at the subject of an H or O, and a lent store
+/// may hold any node there.
+struct Flight {
+    due: u32,
+    message: Message,
+    subject: u8,
+}
+
+/// What a store's bytes hold, its ranges not yet looked at.
+struct Parts {
+    plan: Plan,
+    nodes: Vec<Node>,
+    flights: Vec<Flight>,
+    next_number: u64,
+    crashes_done: usize,
+    last_tick: u32,
+}
+
+impl Parts {
+    /// Nothing where the length, a count, an unused byte or a message's kind is no store's.
+    fn read(bytes: &[u8]) -> Option<Parts> {
+        if bytes.len() != STORE_BYTES {
+            return None;
+        }
+        let counts = Counts::read(bytes)?;
+        if !counts.unused().all(|range| bytes[range.clone()] == ZEROS[range]) {
+            return None;
+        }
+        let plan = read_plan(bytes, &counts);
+        let crashes_done = get(bytes, CRASHES_DONE, 0) as usize;
+        let crashed = |node| plan.crashes.iter().take(crashes_done).any(|row| row.node == node);
+        Some(Parts {
+            nodes: (0..plan.nodes).map(|number| read_node(bytes, number, !crashed(number))).collect(),
+            flights: (0..counts.messages).map(|place| read_flight(bytes, place)).collect::<Option<_>>()?,
+            plan,
+            next_number: get(bytes, NEXT_NUMBER, 0),
+            crashes_done,
+            last_tick: get(bytes, LAST_TICK, 0) as u32,
+        })
+    }
+
+    fn in_range(&self) -> bool {
+        let Parts { plan, crashes_done, last_tick, .. } = self;
+        *crashes_done <= plan.crashes.len()
+            && *last_tick <= plan.end
+            && self.next_number <= MAX_NEXT_NUMBER
+            && plan.crashes[*crashes_done..].iter().all(|row| row.tick >= *last_tick)
+            && self.nodes.iter().all(|node| self.node_in_range(node))
+            && self.flights.iter().all(|flight| self.flight_in_range(flight))
+            && self.numbers_rise()
+            && may_be_held(plan)
+    }
+
+    /// Out of range is "a live node that lists itself, observes itself with the watch on or sends to itself
+    /// with the heartbeat on", and "a live node's timer .. due before the last event's tick".
+    fn node_in_range(&self, node: &Node) -> bool {
+        let Plan { nodes, period, timeout, .. } = self.plan;
+        let last = u64::from(self.last_tick);
+        let up_to = |due: Option<u32>, most| due.is_none_or(|tick| u64::from(tick) <= last + u64::from(most));
+        let live = |due: Option<u32>, other: u8| {
+            due.is_none_or(|tick| tick >= self.last_tick && other != node.number)
+        };
+        node.emitter < nodes
+            && node.observer < nodes
+            && (u64::from(nodes) == MAX_NODES || node.dead_list >> nodes == 0)
+            && up_to(node.watch, 2 * timeout)
+            && up_to(node.heartbeat, period)
+            && (!node.alive
+                || !ring::listed(node.dead_list, node.number)
+                    && live(node.watch, node.emitter)
+                    && live(node.heartbeat, node.observer))
+    }
+
+    fn flight_in_range(&self, Flight { due, message, subject }: &Flight) -> bool {
+        let Plan { nodes, delay, .. } = self.plan;
+        message.sender < nodes
+            && message.receiver < nodes
+            && *subject < nodes
+            && message.sender != message.receiver
+            && *due >= self.last_tick
+            && u64::from(*due) <= u64::from(self.last_tick) + u64::from(delay)
+    }
+
+    /// No message's number is another's too, and all are below the next.
+    fn numbers_rise(&self) -> bool {
+        let numbers: Vec<u64> = self.flights.iter().map(|flight| flight.message.number).collect();
+        numbers.windows(2).all(|pair| pair[0] < pair[1])
+            && numbers.last().is_none_or(|number| *number < self.next_number)
+    }
+}
+
+/// Whether a run file may hold the plan's P line and rows: written out, it is accepted as the same plan.
+fn may_be_held(plan: &Plan) -> bool {
+    plan::read(&plan.bytes()).is_ok_and(|read| read == *plan)
+}
+
+fn read_plan(bytes: &[u8], counts: &Counts) -> Plan {
+    let number = |field| get(bytes, field, 0);
+    let crash =
+        |row| Crash { tick: get(bytes, CRASH_TICK, row) as u32, node: get(bytes, CRASH_NODE, row) as u8 };
+    let delay =
+        |row| Delay { number: get(bytes, DELAY_NUMBER, row), delay: get(bytes, DELAY_TICKS, row) as u32 };
+    Plan {
+        nodes: number(NODES) as u8,
+        period: number(PERIOD) as u32,
+        timeout: number(TIMEOUT) as u32,
+        delay: number(LONGEST_DELAY) as u32,
+        end: number(END) as u32,
+        crashes: (0..counts.crashes).map(crash).collect(),
+        delays: (0..counts.delays).map(delay).collect(),
+    }
+}
+
+fn read_node(bytes: &[u8], number: u8, alive: bool) -> Node {
+    let place = usize::from(number);
+    Node {
+        number,
+        alive,
+        emitter: get(bytes, EMITTER, place) as u8,
+        observer: get(bytes, OBSERVER, place) as u8,
+        watch: timer(get(bytes, WATCH, place)),
+        heartbeat: timer(get(bytes, HEARTBEAT, place)),
+        dead_list: get(bytes, DEAD_LIST, place),
+    }
+}
+
+/// Nothing for an unknown kind.
+fn read_flight(bytes: &[u8], place: usize) -> Option<Flight> {
+    let subject = get(bytes, MESSAGE_SUBJECT, place) as u8;
+    let content = match get(bytes, MESSAGE_KIND, place) as u8 {
+        b'H' => Content::Heartbeat,
+        b'O' => Content::NewObserver,
+        b'R' => Content::Report { subject },
+        _ => return None,
+    };
+    let message = Message {
+        number: get(bytes, MESSAGE_NUMBER, place),
+        sender: get(bytes, MESSAGE_SENDER, place) as u8,
+        receiver: get(bytes, MESSAGE_RECEIVER, place) as u8,
+        content,
+    };
+    Some(Flight { due: get(bytes, MESSAGE_DUE, place) as u32, message, subject })
+}
+
+/// Whether a call takes these bytes for a store; otherwise it is refused by 7.
+pub fn check(bytes: &[u8]) -> bool {
+    Parts::read(bytes).is_some_and(|parts| parts.in_range())
+}
+
+/// Whether the byte at this place of a store in range holds something.
+pub fn is_used(bytes: &[u8], place: usize) -> bool {
+    Counts::read(bytes).is_some_and(|counts| !counts.unused().any(|range| range.contains(&place)))
+}
+
+/// A platform as a store holds it.
+#[derive(Clone, Debug)]
+pub struct Held {
+    pub platform: Platform,
+    /// The subjects other than 0 that the store gives its H and O messages, by message number.
+    idle_subjects: Vec<(u64, u8)>,
+}
+
+impl From<Platform> for Held {
+    fn from(platform: Platform) -> Held {
+        Held { platform, idle_subjects: Vec::new() }
+    }
+}
+
+/// What a store holds; nothing where it is out of range. A store does not say how many events led to it.
+pub fn decode(bytes: &[u8]) -> Option<Held> {
+    let Parts { plan, nodes, flights, next_number, crashes_done, last_tick } =
+        Parts::read(bytes).filter(Parts::in_range)?;
+    let idle_subjects = flights
+        .iter()
+        .filter(|flight| flight.subject != subject_of(flight.message.content))
+        .map(|flight| (flight.message.number, flight.subject))
+        .collect();
+    let messages = flights.into_iter().map(|Flight { due, message, .. }| (due, message)).collect();
+    let platform = Platform::resume(plan, nodes, messages, next_number, crashes_done, last_tick);
+    Some(Held { platform, idle_subjects })
+}
+
+/// The store of a platform.
+pub fn encode(platform: &Platform) -> Vec<u8> {
+    let mut bytes = vec![0; STORE_BYTES];
+    put_plan(&mut bytes, platform.plan());
+    put(&mut bytes, CRASHES_DONE, 0, platform.crashes_done() as u64);
+    put(&mut bytes, LAST_TICK, 0, u64::from(platform.last_tick()));
+    put(&mut bytes, NEXT_NUMBER, 0, platform.next_number());
+    put(&mut bytes, MESSAGES, 0, platform.in_flight() as u64);
+    platform.nodes().iter().for_each(|node| put_node(&mut bytes, node));
+    for (place, (due, message)) in platform.messages().iter().enumerate() {
+        put_message(&mut bytes, place, *due, message);
+    }
+    bytes
+}
+
+impl Held {
+    /// The store, with the subjects that no rule looks at.
+    pub fn encode(&self) -> Vec<u8> {
+        let mut bytes = encode(&self.platform);
+        for (place, (_, message)) in self.platform.messages().iter().enumerate() {
+            if let Some((_, subject)) =
+                self.idle_subjects.iter().find(|(number, _)| *number == message.number)
+            {
+                put(&mut bytes, MESSAGE_SUBJECT, place, u64::from(*subject));
+            }
+        }
+        bytes
+    }
+}
+
+fn put_plan(bytes: &mut [u8], plan: &Plan) {
+    put(bytes, NODES, 0, u64::from(plan.nodes));
+    put(bytes, LONGEST_DELAY, 0, u64::from(plan.delay));
+    put(bytes, PERIOD, 0, u64::from(plan.period));
+    put(bytes, TIMEOUT, 0, u64::from(plan.timeout));
+    put(bytes, CRASHES, 0, plan.crashes.len() as u64);
+    put(bytes, END, 0, u64::from(plan.end));
+    put(bytes, DELAYS, 0, plan.delays.len() as u64);
+    for (row, Crash { tick, node }) in plan.crashes.iter().enumerate() {
+        put(bytes, CRASH_TICK, row, u64::from(*tick));
+        put(bytes, CRASH_NODE, row, u64::from(*node));
+    }
+    for (row, Delay { number, delay }) in plan.delays.iter().enumerate() {
+        put(bytes, DELAY_NUMBER, row, *number);
+        put(bytes, DELAY_TICKS, row, u64::from(*delay));
+    }
+}
+
+fn put_node(bytes: &mut [u8], node: &Node) {
+    let due = |timer: Option<u32>| timer.map_or(0, |tick| u64::from(tick) + 1);
+    let place = usize::from(node.number);
+    put(bytes, EMITTER, place, u64::from(node.emitter));
+    put(bytes, OBSERVER, place, u64::from(node.observer));
+    put(bytes, WATCH, place, due(node.watch));
+    put(bytes, HEARTBEAT, place, due(node.heartbeat));
+    put(bytes, DEAD_LIST, place, node.dead_list);
+}
+
+/// The subject of an R, 0 for H and O.
+fn subject_of(content: Content) -> u8 {
+    match content {
+        Content::Report { subject } => subject,
+        Content::Heartbeat | Content::NewObserver => 0,
+    }
+}
+
+fn put_message(bytes: &mut [u8], place: usize, due: u32, message: &Message) {
+    let kind = match message.content {
+        Content::Heartbeat => b'H',
+        Content::NewObserver => b'O',
+        Content::Report { .. } => b'R',
+    };
+    put(bytes, MESSAGE_NUMBER, place, message.number);
+    put(bytes, MESSAGE_DUE, place, u64::from(due));
+    put(bytes, MESSAGE_KIND, place, u64::from(kind));
+    put(bytes, MESSAGE_SENDER, place, u64::from(message.sender));
+    put(bytes, MESSAGE_RECEIVER, place, u64::from(message.receiver));
+    put(bytes, MESSAGE_SUBJECT, place, u64::from(subject_of(message.content)));
+}
+
+#[cfg(test)]
+mod tests {
+    use super::*;
+
+    fn open(file: &str) -> Platform {
+        Platform::open(plan::read(file.as_bytes()).expect("the file is accepted"))
+    }
+
+    /// Five nodes in the midst of a run: node 4 has just listed node 3, so O and R are in flight beside H.
+    fn in_midst() -> Platform {
+        let mut platform = open("P,5,2,6,3,60\nC,5,3\nC,40,1\nL,2,1\nL,7,2\n");
+        platform.run(50);
+        assert_eq!((platform.crashes_done(), platform.last_tick(), platform.in_flight()), (1, 13, 7));
+        platform
+    }
+
+    /// The store of `in_midst` with one number changed.
+    fn changed(field: Field, place: usize, number: u64) -> Vec<u8> {
+        let mut bytes = encode(&in_midst());
+        put(&mut bytes, field, place, number);
+        bytes
+    }
+
+    #[test]
+    fn the_fields_fill_the_store_one_after_another() {
+        let none = Counts { nodes: 0, crashes: 0, delays: 0, messages: 0 };
+        let end = none.fields().into_iter().fold(0, |end, (field, _)| {
+            assert_eq!(field.start, end);
+            end + field.width * field.places
+        });
+        assert_eq!(end, STORE_BYTES);
+    }
+
+    #[test]
+    fn an_opened_store_byte_by_byte() {
+        let bytes = encode(&open("P,2,2,3,1,6\nC,3,1\nL,258,1\n"));
+        let used = [
+            (0, &[2, 1, 2, 0, 3, 0, 1, 0, 6][..]),
+            (24, &[1]),
+            (128, &[1, 0]),
+            (192, &[1, 0]),
+            (256, &[4, 0, 0, 0, 4]),
+            (512, &[3, 0, 0, 0, 3]),
+            (1_792, &[3]),
+            (2_048, &[1]),
+            (2_112, &[2, 1]),
+            (10_304, &[1]),
+        ];
+        let mut expected = vec![0; STORE_BYTES];
+        for (start, part) in used {
+            expected[start..start + part.len()].copy_from_slice(part);
+        }
+        assert_eq!(bytes, expected);
+    }
+
+    #[test]
+    fn other_lengths() {
+        let mut bytes = encode(&in_midst());
+        assert!(check(&bytes));
+        bytes.push(0);
+        assert!(!check(&bytes));
+        bytes.truncate(STORE_BYTES - 1);
+        assert!(!check(&bytes));
+        assert!(!check(&[]));
+    }
+
+    #[test]
+    fn every_unused_byte_is_zero() {
+        let bytes = encode(&in_midst());
+        let mut unused = 0;
+        for place in (0..STORE_BYTES).filter(|place| !is_used(&bytes, *place)) {
+            let mut other = bytes.clone();
+            other[place] = 1;
+            assert!(!check(&other), "byte {place}");
+            unused += 1;
+        }
+        assert_eq!(unused, STORE_BYTES - 28 - 5 * 18 - 2 * 5 - 2 * 5 - 7 * 16);
+    }
+
+    #[test]
+    fn numbers_at_their_bounds() {
+        let (last, period, timeout, delay) = (13, 2, 6, 3);
+        let messages = in_midst().messages();
+        let (first, second) = (messages[0].1.number, messages[1].1.number);
+        let next = in_midst().next_number();
+        let cases = [
+            (NODES, 0, 0, false),
+            (NODES, 0, 65, false),
+            (LONGEST_DELAY, 0, 0, false),
+            (LONGEST_DELAY, 0, 5, false),
+            (PERIOD, 0, 0, false),
+            (PERIOD, 0, 4, false),
+            (TIMEOUT, 0, 65_535, true),
+            (TIMEOUT, 0, 4, false),
+            (CRASHES, 0, 6, false),
+            (CRASHES_DONE, 0, 2, true),
+            (CRASHES_DONE, 0, 3, false),
+            (END, 0, 1_000_000, true),
+            (END, 0, 1_000_001, false),
+            (END, 0, 39, false),
+            (LAST_TICK, 0, last - 1, false),
+            (LAST_TICK, 0, last + 1, true),
+            (LAST_TICK, 0, last + 2, false),
+            (NEXT_NUMBER, 0, MAX_NEXT_NUMBER, true),
+            (NEXT_NUMBER, 0, MAX_NEXT_NUMBER + 1, false),
+            (NEXT_NUMBER, 0, next - 1, false),
+            (DELAYS, 0, 2_049, false),
+            (MESSAGES, 0, 2_049, false),
+            (EMITTER, 0, 5, false),
+            (EMITTER, 0, 0, false),
+            (EMITTER, 3, 3, true),
+            (OBSERVER, 0, 5, false),
+            (OBSERVER, 0, 0, false),
+            (OBSERVER, 3, 3, true),
+            (WATCH, 0, 0, true),
+            (WATCH, 0, last, false),
+            (WATCH, 0, last + 1, true),
+            (WATCH, 0, last + 2 * timeout + 1, true),
+            (WATCH, 0, last + 2 * timeout + 2, false),
+            (WATCH, 3, 1, true),
+            (WATCH, 3, last + 2 * timeout + 2, false),
+            (HEARTBEAT, 0, 0, true),
+            (HEARTBEAT, 0, last, false),
+            (HEARTBEAT, 0, last + period + 1, true),
+            (HEARTBEAT, 0, last + period + 2, false),
+            (HEARTBEAT, 3, 1, true),
+            (DEAD_LIST, 0, 0b11110, true),
+            (DEAD_LIST, 0, 0b1, false),
+            (DEAD_LIST, 0, 0b100000, false),
+            (DEAD_LIST, 3, 0b11111, true),
+            (CRASH_TICK, 0, 0, true),
+            (CRASH_TICK, 0, 41, false),
+            (CRASH_TICK, 1, last, true),
+            (CRASH_TICK, 1, last - 1, false),
+            (CRASH_TICK, 1, 61, false),
+            (CRASH_NODE, 1, 3, false),
+            (CRASH_NODE, 1, 5, false),
+            (DELAY_NUMBER, 0, 7, false),
+            (DELAY_NUMBER, 1, 999_999, true),
+            (DELAY_NUMBER, 1, 1_000_000, false),
+            (DELAY_TICKS, 0, 0, false),
+            (DELAY_TICKS, 0, 4, false),
+            (MESSAGE_NUMBER, 0, second, false),
+            (MESSAGE_NUMBER, 1, first, false),
+            (MESSAGE_NUMBER, 6, next, false),
+            (MESSAGE_DUE, 0, last, true),
+            (MESSAGE_DUE, 0, last - 1, false),
+            (MESSAGE_DUE, 0, last + delay, true),
+            (MESSAGE_DUE, 0, last + delay + 1, false),
+            (MESSAGE_KIND, 0, u64::from(b'R'), true),
+            (MESSAGE_KIND, 0, u64::from(b'X'), false),
+            (MESSAGE_SENDER, 0, 5, false),
+            (MESSAGE_RECEIVER, 0, 5, false),
+            (MESSAGE_RECEIVER, 0, u64::from(messages[0].1.sender), false),
+            (MESSAGE_SUBJECT, 0, 4, true),
+            (MESSAGE_SUBJECT, 0, 5, false),
+        ];
+        for (field, place, number, passes) in cases {
+            assert_eq!(check(&changed(field, place, number)), passes, "{field:?} place {place}: {number}");
+        }
+    }
+
+    /// The bytes of every store in range come back from what is read from it.
+    #[test]
+    fn subjects_that_no_rule_looks_at_stay() {
+        let bytes = changed(MESSAGE_SUBJECT, 0, 4);
+        let mut held = decode(&bytes).unwrap();
+        assert!(matches!(held.platform.messages()[0].1.content, Content::Heartbeat));
+        assert_eq!(held.encode(), bytes);
+        assert_ne!(encode(&held.platform), bytes);
+        held.platform.run(u64::MAX);
+        assert_eq!(held.encode(), encode(&held.platform));
+    }
+}

@@ -1,0 +1,55 @@
+#!/bin/sh
+# The comparisons with the simulator for as long as one likes, each round with a fresh seed: run files through the rehearsal
+# program, the platform's calls, the reader of run files, log lines, node records. Builds all of them first. Prints what it tries,
+# stops at the first difference and says how to repeat it.
+#
+# Usage: tests/endless.sh [SEED [ROUNDS]]: the seed of the first round, by default from the clock, and how many rounds, by default
+# until it is stopped. REHEARSE names another program than the proved one.
+
+set -eu
+
+cd "$(dirname "$0")/.."
+seed=${1:-$(date +%s)}
+rounds=${2:-0}
+out=target/tests
+began=$(date +%s)
+
+# build COMMAND..: what it prints is shown only where it fails.
+build() {
+    mkdir -p "$out"
+    "$@" > "$out/endless.log" 2>&1 || {
+        tail -n 30 "$out/endless.log" >&2
+        echo "endless: $* fails" >&2
+        exit 1
+    }
+}
+
+# try COMMAND..: one comparison; the last line that it prints is shown.
+try() {
+    if ! "$@" > "$out/endless.log" 2>&1; then
+        tail -n 30 "$out/endless.log" >&2
+        echo "endless: round $round, seed $seed: a difference; to repeat: $*" >&2
+        exit 1
+    fi
+    echo "  $* | $(grep -v ': passed$' "$out/endless.log" | tail -n 1)"
+}
+
+echo "endless: building"
+build sh tests/simulator.sh
+[ -n "${REHEARSE:-}" ] || build rt check rehearse
+for test in platform files lines host; do
+    build sh "tests/$test.sh"
+done
+
+round=1
+while [ "$rounds" -eq 0 ] || [ "$round" -le "$rounds" ]; do
+    echo "endless: round $round, seed $seed, $(($(date +%s) - began)) s"
+    try sh tests/rehearse.sh "$seed" 500
+    try "$out/platform" "$seed" 300
+    try "$out/files" "$seed" 400
+    try "$out/lines" "$seed" 200000
+    try "$out/host" "$seed"
+    seed=$((seed + 1000))
+    round=$((round + 1))
+done
+echo "endless: $rounds rounds agree"

@@ -1,0 +1,200 @@
+//! The platform's four calls over the simulator and its store, with one mistake at a time: what tests/platform.rs has to find.
+
+use super::calls::{refused, simulated, Answer, Call};
+use simulator::limits::*;
+use simulator::plan;
+use simulator::platform::Platform;
+use simulator::store::{self, Held};
+use std::slice::{from_raw_parts, from_raw_parts_mut};
+use std::sync::atomic::{AtomicUsize, Ordering};
+
+#[derive(Clone, Copy, PartialEq, Eq, Debug)]
+pub enum Mistake {
+    None,
+    EveryFileRefused,
+    LineNotCounted,
+    OpensAnyLength,
+    OldBytesLeft,
+    StepLeavesStore,
+    StepWritesAllOfLog,
+    StepTakesShortLog,
+    FieldsOfRefusedStep,
+    DoneMovesTheTick,
+    RenewedByAnyone,
+    RunDoesOneEvent,
+    CountsOneMore,
+    DoneForSpent,
+    SpentForDone,
+    RefusedRunTakenBack,
+    FewerInFlight,
+    UnusedNotLookedAt,
+    PastNotLookedAt,
+    WriterClearsTheRest,
+    WriterTakesShortPart,
+}
+
+use Mistake::*;
+
+pub const MISTAKES: [Mistake; 20] = [
+    EveryFileRefused,
+    LineNotCounted,
+    OpensAnyLength,
+    OldBytesLeft,
+    StepLeavesStore,
+    StepWritesAllOfLog,
+    StepTakesShortLog,
+    FieldsOfRefusedStep,
+    DoneMovesTheTick,
+    RenewedByAnyone,
+    RunDoesOneEvent,
+    CountsOneMore,
+    DoneForSpent,
+    SpentForDone,
+    RefusedRunTakenBack,
+    FewerInFlight,
+    UnusedNotLookedAt,
+    PastNotLookedAt,
+    WriterClearsTheRest,
+    WriterTakesShortPart,
+];
+
+static MADE: AtomicUsize = AtomicUsize::new(0);
+
+/// The calls make this mistake from now on.
+pub fn make(mistake: Mistake) {
+    MADE.store(mistake as usize, Ordering::Relaxed);
+}
+
+fn is_made(mistake: Mistake) -> bool {
+    MADE.load(Ordering::Relaxed) == mistake as usize
+}
+
+fn open(file: &[u8], store: &mut [u8]) -> Answer {
+    let plan = match plan::read(file) {
+        Err(refusal) => {
+            let line = if is_made(LineNotCounted) { 1 } else { refusal.line as u64 };
+            return [refusal.number.into(), line, 0, 0, 0, 0];
+        }
+        Ok(_) if is_made(EveryFileRefused) => return refused(REFUSED_FORM),
+        Ok(plan) => plan,
+    };
+    let bytes = store::encode(&Platform::open(plan));
+    if store.len() != STORE_BYTES {
+        if is_made(OpensAnyLength) {
+            let length = store.len().min(STORE_BYTES);
+            store[..length].copy_from_slice(&bytes[..length]);
+        }
+        return refused(REFUSED_STORE);
+    }
+    let kept = if is_made(OldBytesLeft) { STORE_BYTES - 1 } else { STORE_BYTES };
+    store[..kept].copy_from_slice(&bytes[..kept]);
+    [0; 6]
+}
+
+/// The number in the first four bytes.
+fn number(bytes: &[u8]) -> u32 {
+    u32::from_le_bytes(bytes[..4].try_into().expect("four bytes"))
+}
+
+/// What the call takes the store to hold.
+fn hold(store: &[u8]) -> Option<Held> {
+    let mut seen = store.to_vec();
+    if store.len() == STORE_BYTES && is_made(UnusedNotLookedAt) {
+        seen[60_000..].fill(0);
+    }
+    if store.len() == STORE_BYTES && is_made(PastNotLookedAt) && seen[26] > 0 {
+        let due = number(&seen[28_736..]).max(number(&seen[12..]));
+        seen[28_736..28_740].copy_from_slice(&due.to_le_bytes());
+    }
+    store::decode(&seen)
+}
+
+fn call(call: Call, store: &mut [u8], part: &mut [u8]) -> Answer {
+    let mut held = hold(store);
+    let before = store.to_vec();
+    let (call, rest) = match call {
+        Call::Run { budget } if is_made(RunDoesOneEvent) && budget > 1 => (Call::Run { budget: 1 }, budget - 1),
+        _ => (call, 0),
+    };
+    let mut answer = if part.len() == LINE_BYTES - 1 && call == Call::Step && is_made(StepTakesShortLog)
+        || part.len() == FILE_BYTES - 1 && call == Call::Write && is_made(WriterTakesShortPart)
+    {
+        let mut longer = [&part[..], &[0]].concat();
+        let answer = simulated(call, held.as_mut(), &mut longer);
+        part.copy_from_slice(&longer[..longer.len() - 1]);
+        answer
+    } else {
+        simulated(call, held.as_mut(), part)
+    };
+    if let Some(held) = &held {
+        store.copy_from_slice(&held.encode());
+    }
+    answer[1] += if answer[0] == 0 && answer[2] == 1 { rest } else { 0 };
+    spoil(call, &mut answer, &before, store, part);
+    answer
+}
+
+/// What is wrong after the call.
+fn spoil(call: Call, answer: &mut Answer, before: &[u8], store: &mut [u8], part: &mut [u8]) {
+    match (call, answer[0]) {
+        (Call::Step, 0) if is_made(StepLeavesStore) => store.copy_from_slice(before),
+        (Call::Step, 0) if is_made(StepWritesAllOfLog) => part[answer[5] as usize..].fill(b' '),
+        (Call::Step, 8) if is_made(FieldsOfRefusedStep) => answer[1] = u64::from(b'S'),
+        (Call::Step, 0) if is_made(DoneMovesTheTick) && answer[1] == u64::from(b'E') => {
+            store[12..16].copy_from_slice(&before[8..12]);
+        }
+        (Call::Step, 0) if is_made(RenewedByAnyone) && answer[1] == u64::from(b'H') => {
+            let (watch, timeout) = (256 + 4 * answer[3] as usize, number(&[store[4], store[5], 0, 0]));
+            store[watch..watch + 4].copy_from_slice(&(answer[2] as u32 + timeout + 1).to_le_bytes());
+        }
+        (Call::Step, 0) if is_made(FewerInFlight) && store[27] == 8 && before != &*store => {
+            store.copy_from_slice(before);
+            *answer = refused(REFUSED_EVENT);
+        }
+        (Call::Run { .. }, 0) if is_made(CountsOneMore) => answer[1] += 1,
+        (Call::Run { .. }, 0) if is_made(DoneForSpent) => answer[2] = 0,
+        (Call::Run { budget }, 0) if is_made(SpentForDone) && answer[1] == budget => answer[2] = 1,
+        (Call::Run { .. }, 8) if is_made(RefusedRunTakenBack) => store.copy_from_slice(before),
+        (Call::Write, 0) if is_made(WriterClearsTheRest) => part[answer[1] as usize..].fill(0),
+        _ => {}
+    }
+}
+
+/// Puts the numbers behind their pointers and answers the first.
+unsafe fn answered(answer: Answer, pointers: &[*mut u64]) -> u64 {
+    for (place, pointer) in pointers.iter().enumerate() {
+        **pointer = answer[place + 1];
+    }
+    answer[0]
+}
+
+#[no_mangle]
+unsafe extern "C" fn kelbraut_open(file: *const u8, size: usize, store: *mut u8, room: usize, line: *mut u64) -> u64 {
+    answered(open(from_raw_parts(file, size), from_raw_parts_mut(store, room)), &[line])
+}
+
+#[no_mangle]
+unsafe extern "C" fn kelbraut_step(
+    store: *mut u8,
+    size: usize,
+    log: *mut u8,
+    room: usize,
+    letter: *mut u64,
+    tick: *mut u64,
+    node: *mut u64,
+    other: *mut u64,
+    length: *mut u64,
+) -> u64 {
+    let answer = call(Call::Step, from_raw_parts_mut(store, size), from_raw_parts_mut(log, room));
+    answered(answer, &[letter, tick, node, other, length])
+}
+
+#[no_mangle]
+unsafe extern "C" fn kelbraut_run(store: *mut u8, size: usize, budget: u64, events: *mut u64, spent: *mut u64) -> u64 {
+    answered(call(Call::Run { budget }, from_raw_parts_mut(store, size), &mut []), &[events, spent])
+}
+
+#[no_mangle]
+unsafe extern "C" fn kelbraut_write(store: *mut u8, size: usize, out: *mut u8, room: usize, length: *mut u64) -> u64 {
+    answered(call(Call::Write, from_raw_parts_mut(store, size), from_raw_parts_mut(out, room)), &[length])
+}

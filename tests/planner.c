@@ -1,0 +1,119 @@
+/*
+ * The four calls of a rehearsal from C, as the header declares them: a run in pieces leaves the store that steps leave, the
+ * run file is written back, and a refused call writes the numbers of its answer and nothing else.
+ */
+#include <inttypes.h>
+#include <stdio.h>
+#include <stdlib.h>
+#include <string.h>
+
+#include "kelbraut.h"
+
+#define CHECK(holds)                                                    \
+    do {                                                                \
+        if (!(holds)) {                                                 \
+            fprintf(stderr, "planner: line %d: " #holds "\n", __LINE__); \
+            exit(1);                                                    \
+        }                                                               \
+    } while (0)
+
+/* What stands behind the pointers before a call; no call may leave it there. */
+#define BEFORE UINT64_C(0x5a5a5a5a5a5a5a5a)
+
+static const char FILE_TEXT[] = "P,6,5,27,2,90\nC,30,1\nC,35,2\nL,3,1\nL,40,1\n";
+static const char OVERFULL[] = "P,64,1,34,33,200\n";
+static const char SHORT_TIME_OUT[] = "P,2,2,2,1,6\n";
+
+static uint8_t store[KELBRAUT_STORE], kept[KELBRAUT_STORE], part[KELBRAUT_FILE_PART + 8];
+static uint64_t a, b, c, d, e;
+
+static uint64_t open_text(const char *text, size_t size, size_t store_size) {
+    a = BEFORE;
+    return kelbraut_open((const uint8_t *)text, size, store, store_size, &a);
+}
+
+static uint64_t step(size_t store_size, size_t log_size) {
+    a = b = c = d = e = BEFORE;
+    return kelbraut_step(store, store_size, part, log_size, &a, &b, &c, &d, &e);
+}
+
+static uint64_t run(size_t store_size, uint64_t budget) {
+    a = b = BEFORE;
+    return kelbraut_run(store, store_size, budget, &a, &b);
+}
+
+static uint64_t write_file(size_t store_size, size_t part_size) {
+    a = BEFORE;
+    return kelbraut_write(store, store_size, part, part_size, &a);
+}
+
+/* The bytes of the part from a place on are as they were filled. */
+static int unwritten(size_t from) {
+    while (from < sizeof part && part[from] == 0xa5) {
+        from++;
+    }
+    return from == sizeof part;
+}
+
+static void steps_and_runs(void) {
+    uint64_t stepped = 0, ran = 0, answer;
+    CHECK(open_text(FILE_TEXT, sizeof FILE_TEXT - 1, sizeof store) == KELBRAUT_ACCEPTED && a == 0);
+    CHECK(run(sizeof store, 0) == KELBRAUT_ACCEPTED && a == 0 && b == 1);
+    for (;; stepped++) {
+        memset(part, 0xa5, sizeof part);
+        CHECK(step(sizeof store, KELBRAUT_LOG_PART) == KELBRAUT_ACCEPTED);
+        CHECK(part[0] == a && e <= KELBRAUT_LOG_PART && part[e - 1] == '\n' && unwritten(e));
+        if (a == KELBRAUT_END) {
+            break;
+        }
+        CHECK(b <= 90 && c < 6 && d < 6);
+    }
+    CHECK(b == 90 && c == 4);
+    memcpy(kept, store, sizeof store);
+    CHECK(open_text(FILE_TEXT, sizeof FILE_TEXT - 1, sizeof store) == KELBRAUT_ACCEPTED);
+    do {
+        answer = run(sizeof store, 7);
+        ran += a;
+        CHECK(answer == KELBRAUT_ACCEPTED && (b == 0 || (b == 1 && a == 7)));
+    } while (b == 1);
+    CHECK(ran == stepped && memcmp(store, kept, sizeof store) == 0);
+    CHECK(run(sizeof store, UINT64_MAX) == KELBRAUT_ACCEPTED && a == 0 && b == 0);
+}
+
+static void written_back(void) {
+    memset(part, 0xa5, sizeof part);
+    CHECK(write_file(sizeof store, sizeof part) == KELBRAUT_ACCEPTED && a == sizeof FILE_TEXT - 1);
+    CHECK(memcmp(part, FILE_TEXT, a) == 0 && unwritten(a));
+}
+
+static void refusals(void) {
+    memset(part, 0xa5, sizeof part);
+    CHECK(open_text(FILE_TEXT, 0, sizeof store) == KELBRAUT_BAD_LENGTH && a == 0);
+    CHECK(open_text(SHORT_TIME_OUT, sizeof SHORT_TIME_OUT - 1, 0) == KELBRAUT_SHORT_TIME_OUT && a == 1);
+    CHECK(open_text(FILE_TEXT, sizeof FILE_TEXT - 2, sizeof store) == KELBRAUT_BAD_FORM && a == 5);
+    CHECK(open_text(FILE_TEXT, sizeof FILE_TEXT - 1, sizeof store - 1) == KELBRAUT_BAD_STORE && a == 0);
+    CHECK(step(sizeof store - 1, 0) == KELBRAUT_BAD_STORE && (a | b | c | d | e) == 0);
+    CHECK(step(sizeof store, KELBRAUT_LOG_PART - 1) == KELBRAUT_SHORT_PART && (a | b | c | d | e) == 0);
+    CHECK(run(sizeof store - 1, 1) == KELBRAUT_BAD_STORE && (a | b) == 0);
+    CHECK(write_file(sizeof store - 1, 0) == KELBRAUT_BAD_STORE && a == 0);
+    CHECK(write_file(sizeof store, KELBRAUT_FILE_PART - 1) == KELBRAUT_SHORT_PART && a == 0);
+    CHECK(memcmp(store, kept, sizeof store) == 0 && unwritten(0));
+}
+
+static void overfull(void) {
+    CHECK(open_text(OVERFULL, sizeof OVERFULL - 1, sizeof store) == KELBRAUT_ACCEPTED);
+    CHECK(run(sizeof store, UINT64_MAX) == KELBRAUT_OVERFULL && a == 2048 && b == 0);
+    memcpy(kept, store, sizeof store);
+    CHECK(step(sizeof store, sizeof part) == KELBRAUT_OVERFULL && (a | b | c | d | e) == 0);
+    CHECK(run(sizeof store, 1) == KELBRAUT_OVERFULL && a == 0 && b == 0);
+    CHECK(run(sizeof store, 0) == KELBRAUT_ACCEPTED && a == 0 && b == 1);
+    CHECK(memcmp(store, kept, sizeof store) == 0 && unwritten(0));
+}
+
+int main(void) {
+    steps_and_runs();
+    written_back();
+    refusals();
+    overfull();
+    return 0;
+}

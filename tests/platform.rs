@@ -1,0 +1,488 @@
+//! The platform's four calls through the static library, beside the simulator: opening, step, run and the run-file writer.
+//! Every call must give the same answer and leave the same lent bytes: on files good and damaged, on steps and runs mixed at
+//! random, on stores of which every single byte is changed in turn, on lent stores that no file leads to, and on 01's edges.
+//!
+//! Usage: platform [SEED [COUNT]]. A difference prints its seed and index, the call and the file, and the program fails.
+//!
+//! Built with `--cfg mock`, it tests itself: the four calls are then those of mock.rs, which make one mistake after another,
+//! and each mistake has to be found.
+
+mod calls;
+#[allow(dead_code)]
+#[path = "generate.rs"]
+mod generate;
+#[cfg(mock)]
+mod mock;
+mod stores;
+
+use calls::{proved, refused, simulated, Answer, Call};
+use generate::Random;
+use simulator::limits::*;
+use simulator::plan;
+use simulator::platform::Platform;
+use simulator::settle;
+use simulator::store::{self, Held};
+use std::process::ExitCode;
+
+/// The seed where none is given.
+const SEED: u64 = 20_261_115;
+/// How many files are generated where no count is given.
+const COUNT: u64 = 300;
+/// Calls on the store of one file.
+const CALLS: u64 = 40;
+/// Calls on one lent store.
+const LENT_CALLS: u64 = 8;
+/// Bytes on both sides of a lent part that no call may touch.
+const MARGIN: usize = 32;
+const MARGIN_BYTE: u8 = 0x5a;
+
+/// Bytes lent to a call, between their margins.
+#[derive(Clone)]
+struct Lent(Vec<u8>);
+
+impl Lent {
+    fn new(part: &[u8]) -> Lent {
+        let margin = [MARGIN_BYTE; MARGIN];
+        Lent([&margin, part, &margin].concat())
+    }
+
+    /// A part of this length that holds a pattern.
+    fn filled(length: usize) -> Lent {
+        Lent::new(&(0..length).map(|place| (place * 37 + 11) as u8).collect::<Vec<u8>>())
+    }
+
+    fn part(&self) -> &[u8] {
+        &self.0[MARGIN..self.0.len() - MARGIN]
+    }
+
+    fn part_mut(&mut self) -> &mut [u8] {
+        let end = self.0.len() - MARGIN;
+        &mut self.0[MARGIN..end]
+    }
+
+    /// Whether the part holds `left`, and the margins are whole.
+    fn holds(&self, what: &str, left: &[u8]) -> Result<(), String> {
+        let margins = [&self.0[..MARGIN], &self.0[self.0.len() - MARGIN..]];
+        if margins.iter().any(|margin| margin.iter().any(|byte| *byte != MARGIN_BYTE)) {
+            return Err(format!("the bytes around the {what} are written"));
+        }
+        if self.part() == left {
+            return Ok(());
+        }
+        let place = (0..left.len()).find(|place| self.part()[*place] != left[*place]).unwrap_or(0);
+        Err(format!("byte {place} of the {what} is {}, not {}", self.part()[place], left[place]))
+    }
+}
+
+// ---- the comparison
+
+/// What came up, for the summary.
+#[derive(Default)]
+struct Seen {
+    opened: u64,
+    calls: u64,
+    /// How often each number was answered, 0 where accepted.
+    numbers: [u64; 10],
+    spent: u64,
+    done: u64,
+}
+
+fn same(what: &str, answer: Answer, wanted: Answer) -> Result<(), String> {
+    if answer == wanted {
+        return Ok(());
+    }
+    Err(format!("{what} answers {answer:?}, not {wanted:?}"))
+}
+
+impl Seen {
+    fn count(&mut self, answer: Answer) {
+        self.calls += 1;
+        if let Some(count) = self.numbers.get_mut(answer[0] as usize) {
+            *count += 1;
+        }
+    }
+
+    /// Opens the store both ways. What it then holds, where the file is accepted.
+    fn open(&mut self, file: &[u8], store: &mut Lent) -> Result<Option<Held>, String> {
+        let before = store.part().to_vec();
+        let (wanted, held) = match plan::read(file) {
+            Err(refusal) => ([refusal.number.into(), refusal.line as u64, 0, 0, 0, 0], None),
+            Ok(_) if before.len() != STORE_BYTES => (refused(REFUSED_STORE), None),
+            Ok(plan) => ([0; 6], Some(Held::from(Platform::open(plan)))),
+        };
+        let what = format!("opening {} bytes", before.len());
+        let answer = proved::open(file, store.part_mut());
+        self.count(answer);
+        self.opened += u64::from(answer[0] == 0);
+        same(&what, answer, wanted)?;
+        store.holds("store", &held.as_ref().map_or(before, Held::encode)).map_err(|error| format!("{what}: {error}"))?;
+        Ok(held)
+    }
+
+    /// Makes the call both ways. `held` is what the store holds, before and after.
+    fn call(&mut self, call: Call, store: &mut Lent, part: &mut Lent, held: &mut Option<Held>) -> Result<Answer, String> {
+        let (before, mut part_left) = (store.part().to_vec(), part.part().to_vec());
+        let wanted = simulated(call, held.as_mut(), &mut part_left);
+        let store_left = held.as_ref().map_or(before, Held::encode);
+        let answer = proved::call(call, store.part_mut(), part.part_mut());
+        self.count(answer);
+        if let (Call::Run { .. }, 0) = (call, answer[0]) {
+            self.spent += answer[2];
+            self.done += 1 - answer[2].min(1);
+        }
+        let told = |error| format!("{call:?} with a part of {} bytes: {error}", part_left.len());
+        same("the call", answer, wanted).map_err(told)?;
+        store.holds("store", &store_left).map_err(told)?;
+        part.holds("part", &part_left).map_err(told)?;
+        if !store::check(&store_left) {
+            *held = None;
+        }
+        Ok(answer)
+    }
+}
+
+fn shown(file: &[u8]) -> String {
+    let start = String::from_utf8_lossy(&file[..file.len().min(400)]).into_owned();
+    format!("the file, {} bytes:\n{}", file.len(), start.trim_end())
+}
+
+// ---- generated files, steps and runs mixed at random
+
+fn some_call(random: &mut Random) -> (Call, usize) {
+    let (few, any, more) = (random.range(0, 12), random.range(0, 100), random.range(0, 400));
+    let huge = random.pick(&[more, more, 1 << 32, u64::MAX]);
+    match random.range(0, 9) {
+        0..=4 => (Call::Step, random.pick(&[39, 40, 40, 40, 41, 34 + few, any]) as usize),
+        5..=8 => (Call::Run { budget: random.pick(&[0, 1, 2, few, few, more, huge]) }, 0),
+        _ => (Call::Write, random.pick(&[FILE_BYTES, FILE_BYTES, FILE_BYTES + 1, 70_000, FILE_BYTES - 1, 0])),
+    }
+}
+
+/// A length that is no store's.
+fn some_room(random: &mut Random) -> usize {
+    random.pick(&[0, 1, STORE_BYTES - 1, STORE_BYTES + 1, 2 * STORE_BYTES])
+}
+
+/// One file: opened, in parts of other lengths too, then called at random to its end or for some calls.
+fn sequence(seen: &mut Seen, file: &[u8], random: &mut Random) -> Result<(), String> {
+    seen.open(file, &mut Lent::filled(some_room(random)))?;
+    let mut store = Lent::filled(STORE_BYTES);
+    let mut held = seen.open(file, &mut store)?;
+    if held.is_none() {
+        return Ok(());
+    }
+    for place in 0..CALLS {
+        let (call, room) = some_call(random);
+        seen.call(call, &mut store, &mut Lent::filled(room), &mut held).map_err(|error| format!("call {place}: {error}"))?;
+        if held.is_none() {
+            return Err(format!("call {place}: {call:?} leaves a store out of range"));
+        }
+    }
+    let mut other = Lent::new(&[store.part(), &[0; 2]].concat()[..some_room(random).min(STORE_BYTES + 1)]);
+    let (call, room) = some_call(random);
+    seen.call(call, &mut other, &mut Lent::filled(room), &mut None).map(|_| ())
+}
+
+// ---- lent stores
+
+/// The store of a plan after some of its events.
+fn reached(file: &[u8], events: u64) -> Vec<u8> {
+    let mut platform = Platform::open(plan::read(file).expect("the file is accepted"));
+    platform.run(events);
+    store::encode(&platform)
+}
+
+/// A store that is reached and then changed in a few bytes, mostly within range.
+fn changed_store(file: &[u8], random: &mut Random) -> Vec<u8> {
+    let mut bytes = reached(file, random.pick(&[0, 40, 300, 2_000]));
+    let used: Vec<usize> = (0..STORE_BYTES).filter(|place| store::is_used(&bytes, *place)).collect();
+    for _ in 0..random.range(1, 12) {
+        let before = bytes.clone();
+        stores::change(&mut bytes, &used, random);
+        if !store::check(&bytes) && !random.chance(40) {
+            bytes = before;
+        }
+    }
+    bytes
+}
+
+/// Calls at random on a store that no file leads to.
+fn lent_sequence(seen: &mut Seen, bytes: &[u8], random: &mut Random) -> Result<(), String> {
+    let mut store = Lent::new(bytes);
+    let mut held = store::decode(bytes);
+    for place in 0..LENT_CALLS {
+        let (call, room) = some_call(random);
+        let told = |error| format!("call {place} on a lent store: {error}");
+        seen.call(call, &mut store, &mut Lent::filled(room), &mut held).map_err(told)?;
+    }
+    Ok(())
+}
+
+/// A store of a plan's that is changed, and one with any state in range.
+fn lent(seen: &mut Seen, file: &[u8], random: &mut Random) -> Result<(), String> {
+    lent_sequence(seen, &changed_store(file, random), random)?;
+    let any = stores::any(&plan::read(file).expect("the file is accepted"), random);
+    if !store::check(&any) {
+        return Err("a lent store is out of range".to_string());
+    }
+    lent_sequence(seen, &any, random)
+}
+
+fn generated(seen: &mut Seen, seed: u64, count: u64) -> Result<(), String> {
+    for index in 0..count {
+        let mut random = Random::new(seed ^ 0x7061_7274, index);
+        let (file, good) = (generate::file(seed, index), generate::plan(seed, index));
+        let told = |file: &[u8], error| format!("seed {seed} index {index}: {error}\n{}", shown(file));
+        sequence(seen, &file, &mut random).map_err(|error| told(&file, error))?;
+        lent(seen, &good, &mut random).map_err(|error| told(&good, error))?;
+    }
+    Ok(())
+}
+
+// ---- every single byte changed in turn
+
+/// Four other values of a byte, or fewer where some are its own.
+fn other_values(byte: u8, place: usize) -> Vec<u8> {
+    let mut values = vec![byte.wrapping_add(1), 0, 255, byte ^ 1 << (place % 8)];
+    values.sort_unstable();
+    values.dedup();
+    values.retain(|value| *value != byte);
+    values
+}
+
+/// The store with one byte changed, called. A byte that holds something gets every value and every call, one that holds
+/// nothing one value and one call, by turns.
+fn changed_byte(seen: &mut Seen, bytes: &[u8], place: usize) -> Result<(), String> {
+    let calls = [(Call::Step, LINE_BYTES), (Call::Run { budget: 0 }, 0), (Call::Write, FILE_BYTES)];
+    let used = store::is_used(bytes, place);
+    let values = other_values(bytes[place], place);
+    let values = if used { &values[..] } else { &values[place % values.len()..][..1] };
+    for value in values {
+        let mut changed = bytes.to_vec();
+        changed[place] = *value;
+        let held = store::decode(&changed);
+        for (call, room) in if used { &calls[..] } else { &calls[place % 3..][..1] } {
+            let (mut store, mut part) = (Lent::new(&changed), Lent::filled(*room));
+            seen.call(*call, &mut store, &mut part, &mut held.clone())
+                .map_err(|error| format!("byte {place} set to {value}: {error}"))?;
+        }
+    }
+    Ok(())
+}
+
+/// A store as opened, one in the midst of a run with O and R in flight, and one with many messages.
+fn changed_bytes(seen: &mut Seen) -> Result<(), String> {
+    let midst = "P,5,2,6,3,60\nC,5,3\nC,40,1\nL,2,1\nL,7,2\n";
+    let many = "P,24,2,25,20,300\nC,3,7\nC,3,8\nC,90,0\nL,1,3\nL,40,7\nL,600,19\n";
+    for (file, events) in [(midst, 0), (midst, 50), (many, 900)] {
+        let bytes = reached(file.as_bytes(), events);
+        for place in 0..STORE_BYTES {
+            changed_byte(seen, &bytes, place)
+                .map_err(|error| format!("after {events} events, {error}\n{}", shown(file.as_bytes())))?;
+        }
+    }
+    Ok(())
+}
+
+// ---- 01's edges
+
+/// A store opened from the file, and what it holds.
+fn opened(seen: &mut Seen, file: &str) -> Result<(Lent, Option<Held>), String> {
+    let mut store = Lent::filled(STORE_BYTES);
+    let held = seen.open(file.as_bytes(), &mut store)?;
+    Ok((store, held))
+}
+
+/// Opens the file and makes the calls one after another, each with this answer. The steps' lines, one after another.
+fn answers(seen: &mut Seen, file: &str, calls: &[(Call, Answer)]) -> Result<String, String> {
+    let (mut store, mut held) = opened(seen, file)?;
+    let mut lines = Vec::new();
+    for (call, wanted) in calls {
+        let room = if *call == Call::Write { FILE_BYTES } else { LINE_BYTES };
+        let mut part = Lent::filled(room);
+        let answer = seen.call(*call, &mut store, &mut part, &mut held)?;
+        same(&format!("{call:?}"), answer, *wanted)?;
+        if *call == Call::Step {
+            lines.extend_from_slice(&part.part()[..answer[5] as usize]);
+        }
+    }
+    String::from_utf8(lines).map_err(|error| error.to_string())
+}
+
+const fn ran(number: u64, events: u64, spent: u64) -> Answer {
+    [number, events, spent, 0, 0, 0]
+}
+
+fn refused_files(seen: &mut Seen) -> Result<(), String> {
+    let mut long = b"P,2,2,3,1,6\nC,3,1\n".to_vec();
+    long.resize(FILE_BYTES + 1, b'\n');
+    let mut many = b"P,2,2,7,5,6\n".to_vec();
+    (0..=MAX_DELAY_ROWS).for_each(|number| many.extend_from_slice(format!("L,{number},5\n").as_bytes()));
+    for (file, number, line) in [
+        (&long[..], 1, 0),
+        (b"", 1, 0),
+        (&long[..FILE_BYTES], 2, 3),
+        (b"P,02,", 2, 1),
+        (b"P,02,2,3,1,6\n", 2, 1),
+        (b"P,65,2,3,1,6\n", 3, 1),
+        (b"P,2,2,2,1,6\n", 4, 1),
+        (b"P,2,2,3,1,6\nC,3,1\nC,3,0\n", 5, 3),
+        (&many, 6, MAX_DELAY_ROWS as u64 + 2),
+    ] {
+        for room in [STORE_BYTES, 0] {
+            let answer = proved::open(file, Lent::filled(room).part_mut());
+            same("opening", answer, [number, line, 0, 0, 0, 0]).map_err(|error| format!("{error}\n{}", shown(file)))?;
+            seen.open(file, &mut Lent::filled(room))?;
+        }
+    }
+    Ok(())
+}
+
+/// 2,048 in flight pass, 2,049 are refused; the store is then as just before that event, and the file comes back.
+fn full_flight(seen: &mut Seen) -> Result<(), String> {
+    let all = Call::Run { budget: u64::MAX };
+    let (full, over) = ("P,64,1,33,32,200\n", "P,64,1,34,33,200\n");
+    let mut platform = Platform::open(plan::read(full.as_bytes()).expect("the file is accepted"));
+    let events = platform.run(u64::MAX).events;
+    let last = "E,200,64,2048,0000000000000000\n";
+    let done = [0, u64::from(b'E'), 200, 64, 2_048, last.len() as u64];
+    let lines = answers(seen, full, &[(all, ran(0, events, 0)), (Call::Step, done), (Call::Step, done)])?;
+    if lines != last.repeat(2) {
+        return Err(format!("the last line of {full:?} is {lines:?}"));
+    }
+    let eight = refused(REFUSED_EVENT);
+    let calls = [
+        (Call::Run { budget: 2_048 }, ran(0, 2_048, 1)),
+        (Call::Run { budget: 0 }, ran(0, 0, 1)),
+        (Call::Run { budget: 1 }, ran(8, 0, 0)),
+        (all, ran(8, 0, 0)),
+        (Call::Step, eight),
+        (Call::Write, [0, over.len() as u64, 0, 0, 0, 0]),
+        (Call::Step, eight),
+    ];
+    answers(seen, over, &calls)?;
+    let fullest = [0, u64::from(b'S'), 32, 63, 0, "S,32,63,0,0000000000000000\n".len() as u64];
+    let by_step = [(Call::Run { budget: 2_047 }, ran(0, 2_047, 1)), (Call::Step, fullest), (Call::Step, eight)];
+    answers(seen, over, &by_step)?;
+    answers(seen, over, &[(all, ran(8, 2_048, 0)), (Call::Step, eight)]).map(|_| ())
+}
+
+fn worked_log(seen: &mut Seen) -> Result<(), String> {
+    let (file, log) = (
+        "P,2,2,3,1,6\nC,3,1\n",
+        "S,2,0,1,0000000000000000\nS,2,1,0,0000000000000000\nC,3,1,1,0000000000000000\nX,3,1,0,0000000000000000\n\
+         H,3,0,1,0000000000000000\nS,4,0,1,0000000000000000\nX,5,1,0,0000000000000000\nW,6,0,1,0000000000000002\n\
+         E,6,1,0,0000000000000002\n",
+    );
+    let fields = |line: &str| {
+        let column: Vec<&str> = line.split(',').collect();
+        let number = |place: usize| column[place].parse().expect("a number");
+        [0, u64::from(line.as_bytes()[0]), number(1), number(2), number(3), line.len() as u64]
+    };
+    let calls: Vec<(Call, Answer)> = log.split_inclusive('\n').map(|line| (Call::Step, fields(line))).collect();
+    let lines = answers(seen, file, &calls)?;
+    if lines != log {
+        return Err(format!("the log of {file:?} is\n{lines}"));
+    }
+    let run = |budget| Call::Run { budget };
+    let done = (run(0), ran(0, 0, 0));
+    answers(seen, file, &[(run(0), ran(0, 0, 1)), (run(7), ran(0, 7, 1)), (run(1), ran(0, 1, 0)), done])?;
+    answers(seen, file, &[(run(8), ran(0, 8, 0)), done])?;
+    answers(seen, "P,1,1,2,1,5\n", &[done, (run(u64::MAX), ran(0, 0, 0))]).map(|_| ())
+}
+
+/// 63 survivors, W 100, D 5: S is 140. A run of 64 nodes has settled by then.
+fn settling(seen: &mut Seen) -> Result<(), String> {
+    if settle::settling_time(100, 5, 63) != 140 {
+        return Err("S is not 140".to_string());
+    }
+    let (mut store, mut held) = opened(seen, "P,64,20,100,5,400\nC,33,9\n")?;
+    let mut settled = 0;
+    while held.as_mut().is_some_and(|held| held.platform.earliest_due().is_some_and(|due| due <= 33 + 200)) {
+        let budget = Call::Run { budget: 25 };
+        seen.call(budget, &mut store, &mut Lent::filled(0), &mut held)?;
+        let mut platform = store::decode(store.part()).expect("the store is in range").platform;
+        if platform.crashes_done() == 1 && platform.earliest_due().is_some_and(|due| due >= 33 + 140) {
+            settled += 1;
+            if !settle::settled(platform.nodes()) {
+                return Err(format!("not settled at tick {}", platform.last_tick()));
+            }
+        }
+    }
+    if settled == 0 {
+        return Err("the settled ring was not looked at".to_string());
+    }
+    Ok(())
+}
+
+/// An event on a lent store may bring the next number above its bound: it is done, and the next call gets 7.
+fn last_number(seen: &mut Seen) -> Result<(), String> {
+    let mut bytes = reached(b"P,2,2,3,1,6\nC,3,1\n", 0);
+    bytes[16..24].copy_from_slice(&MAX_NEXT_NUMBER.to_le_bytes());
+    for (call, room) in [(Call::Step, LINE_BYTES), (Call::Run { budget: 3 }, 0)] {
+        let (mut store, mut held) = (Lent::new(&bytes), store::decode(&bytes));
+        seen.call(call, &mut store, &mut Lent::filled(room), &mut held)?;
+        let answer = seen.call(Call::Run { budget: 0 }, &mut store, &mut Lent::filled(0), &mut held)?;
+        same("a run after it", answer, refused(REFUSED_STORE))?;
+    }
+    Ok(())
+}
+
+fn edges(seen: &mut Seen) -> Result<(), String> {
+    refused_files(seen)?;
+    worked_log(seen)?;
+    full_flight(seen)?;
+    settling(seen)?;
+    last_number(seen)
+}
+
+// ----
+
+fn all(seen: &mut Seen, seed: u64, count: u64) -> Result<(), String> {
+    edges(seen)?;
+    generated(seen, seed, count)?;
+    changed_bytes(seen)
+}
+
+/// Every kind of answer has to come up.
+fn summary(seen: &Seen, count: u64) -> Result<(), String> {
+    let Seen { opened, calls, numbers, spent, done } = seen;
+    println!("platform: {calls} calls agree, {opened} stores opened; answers by number: {numbers:?}; {spent} runs spent, {done} done");
+    if count > 0 && (numbers.contains(&0) || *spent == 0 || *done == 0) {
+        return Err("an answer never came up".to_string());
+    }
+    Ok(())
+}
+
+/// Each of the mock's mistakes is found.
+#[cfg(mock)]
+fn mistakes(seed: u64) -> Result<(), String> {
+    for mistake in mock::MISTAKES {
+        mock::make(mistake);
+        match all(&mut Seen::default(), seed, 40) {
+            Ok(()) => return Err(format!("not found: {mistake:?}")),
+            Err(error) => println!("platform: {mistake:?} is found: {}", error.lines().next().unwrap_or("")),
+        }
+    }
+    mock::make(mock::Mistake::None);
+    Ok(())
+}
+
+#[cfg(not(mock))]
+fn mistakes(_: u64) -> Result<(), String> {
+    Ok(())
+}
+
+fn main() -> ExitCode {
+    let mut words = std::env::args().skip(1).map(|word| word.parse().expect("SEED and COUNT are numbers"));
+    let (seed, count) = (words.next().unwrap_or(SEED), words.next().unwrap_or(COUNT));
+    println!("platform: seed {seed}, {count} generated files");
+    let mut seen = Seen::default();
+    let compared = mistakes(seed).and_then(|()| all(&mut seen, seed, count)).and_then(|()| summary(&seen, count));
+    if let Err(difference) = compared {
+        eprintln!("platform: {difference}");
+        return ExitCode::FAILURE;
+    }
+    println!("platform: passed");
+    ExitCode::SUCCESS
+}

@@ -1,0 +1,107 @@
+#!/bin/sh
+# The rehearsal program beside the simulator: the same bytes for generated run files, good and damaged, for a few large ones,
+# for files at and beyond the greatest length, and for input that comes in pieces. Stops at the first difference, prints its seed
+# and keeps its file. tests/simulator.sh builds the simulator and the generator.
+#
+# Usage: tests/rehearse.sh [SEED [COUNT]]; REHEARSE names another program to compare.
+
+set -eu
+
+cd "$(dirname "$0")/.."
+seed=${1:-20261115}
+count=${2:-2000}
+rehearse=${REHEARSE:-target/bin/rehearse}
+out=target/tests
+work=$out/rehearse-$seed
+
+fail() {
+    echo "rehearse: $1" >&2
+    exit 1
+}
+
+# same NAME FILE: both programs write the same bytes. Of the status only a crash is told.
+same() {
+    status=0
+    "$rehearse" < "$2" > "$work/proved" || status=$?
+    "$out/simulate" < "$2" > "$work/simulated"
+    if [ "$status" -ge 126 ] || ! cmp -s "$work/simulated" "$work/proved"; then
+        cp "$2" "$out/rehearse-failed.run"
+        cmp "$work/simulated" "$work/proved" >&2 || true
+        fail "$1: the logs differ, status $status; the file is kept as $out/rehearse-failed.run"
+    fi
+    lines=$((lines + $(wc -l < "$work/proved")))
+    files=$((files + 1))
+}
+
+# generated KIND COUNT: files of the generator; KIND is `small` or nothing.
+generated() {
+    "$out/generate" $1 "$seed" "$2" "$work"
+    index=0
+    while [ "$index" -lt "$2" ]; do
+        same "seed $seed index $index ${1:-usual}" "$work/$seed-$index.run"
+        index=$((index + 1))
+    done
+}
+
+# named NAME LINES: a file of these lines.
+named() {
+    printf "$2" > "$work/named.run"
+    same "$1" "$work/named.run"
+}
+
+# padded LENGTH: a good file, then line feeds up to this length, so that its first bytes are no other file of good form.
+padded() {
+    { printf 'P,2,2,3,1,6\nC,3,1\n'; head -c $(($1 - 18)) /dev/zero | tr '\0' '\n'; } > "$work/padded.run"
+    same "$1 bytes" "$work/padded.run"
+}
+
+large() {
+    named '2,048 in flight' 'P,64,1,33,32,200\n'
+    named '2,049 in flight' 'P,64,1,34,33,200\n'
+    {
+        printf 'P,64,7,40,21,900\n'
+        for node in $(seq 0 63); do printf 'C,%d,%d\n' $((node * 11)) $(((node * 27) % 64)); done
+        for number in $(seq 0 2047); do printf 'L,%d,%d\n' $((number * 3)) $((number % 21 + 1)); done
+    } > "$work/large.run"
+    same 'every node crashes, 2,048 L lines' "$work/large.run"
+}
+
+worked_log() {
+    printf 'P,2,2,3,1,6\nC,3,1\n' | "$rehearse" > "$work/worked" || true
+    printf 'S,2,0,1,0000000000000000
+S,2,1,0,0000000000000000
+C,3,1,1,0000000000000000
+X,3,1,0,0000000000000000
+H,3,0,1,0000000000000000
+S,4,0,1,0000000000000000
+X,5,1,0,0000000000000000
+W,6,0,1,0000000000000002
+E,6,1,0,0000000000000002
+' > "$work/expected"
+    cmp "$work/expected" "$work/worked" || fail "the log of 01's first example differs"
+}
+
+# A file that comes a few bytes at a time, and one longer than a pipe holds.
+pieces() {
+    { printf 'P,2,2'; sleep 0.2; printf ',3,1,6\nC,3'; sleep 0.2; printf ',1\n'; } | "$rehearse" > "$work/pieces" || true
+    cmp "$work/expected" "$work/pieces" || fail 'input in pieces is read otherwise'
+    cat "$work/padded.run" | "$rehearse" > "$work/pieces" || true
+    printf '1,0\n' | cmp - "$work/pieces" || fail 'a long input through a pipe is read otherwise'
+}
+
+[ -x "$rehearse" ] || fail "there is no program $rehearse"
+echo "rehearse: $rehearse, seed $seed, $count generated files"
+mkdir -p "$work"
+trap 'rm -rf "$work"' EXIT
+files=0
+lines=0
+worked_log
+named 'no bytes' ''
+named 'one node' 'P,1,1,2,1,5\n'
+named 'a byte that is no text' 'P,2,2,3,1,6\n\000\377\n'
+for length in 65536 65537 131072 200000; do padded "$length"; done
+pieces
+large
+generated '' $((count / 50))
+generated small "$count"
+echo "rehearse: $files files, $lines lines agree"

@@ -1,0 +1,101 @@
+//! Stores that no run file leads to, all of them in range: a plan with any fields of nodes and any messages that the ranges
+//! allow. Rules can be told apart on them that no run tells apart, as a watch renewed by a heartbeat from anyone.
+
+use super::generate::Random;
+use simulator::limits::*;
+use simulator::node::{Content, Node};
+use simulator::plan::Plan;
+use simulator::platform::Platform;
+use simulator::queue::Message;
+use simulator::store;
+
+/// Where a store has the subjects of its messages.
+const SUBJECTS: usize = 43_072;
+
+/// A store of the plan at a tick of its run, with everything else at random.
+pub fn any(plan: &Plan, random: &mut Random) -> Vec<u8> {
+    let last = random.range(0, u64::from(plan.end)) as u32;
+    let past = plan.crashes.iter().filter(|row| row.tick < last).count() as u64;
+    let crashes_done = random.range(past, plan.crashes.len() as u64) as usize;
+    let is_crashed = |number| plan.crashes[..crashes_done].iter().any(|row| row.node == number);
+    let density = random.range(0, 4);
+    let nodes = (0..plan.nodes).map(|number| node(plan, last, number, !is_crashed(number), density, random)).collect();
+    let messages = messages(plan, last, random);
+    let next_number = messages.last().map_or(0, |(_, message)| message.number + 1);
+    let next_number = random.pick(&[next_number, next_number + 1, MAX_NEXT_NUMBER]);
+    let mut bytes = store::encode(&Platform::resume(plan.clone(), nodes, messages.clone(), next_number, crashes_done, last));
+    for (place, (_, message)) in messages.iter().enumerate() {
+        if !matches!(message.content, Content::Report { .. }) {
+            bytes[SUBJECTS + place] = random.range(0, u64::from(plan.nodes) - 1) as u8;
+        }
+    }
+    bytes
+}
+
+fn some_node(plan: &Plan, random: &mut Random) -> u8 {
+    random.range(0, u64::from(plan.nodes) - 1) as u8
+}
+
+/// A node other than `number`, of a ring that has one.
+fn other_node(plan: &Plan, number: u8, random: &mut Random) -> u8 {
+    let nodes = u64::from(plan.nodes);
+    let any = random.range(1, nodes - 1);
+    ((u64::from(number) + random.pick(&[1, nodes - 1, any, any])) % nodes) as u8
+}
+
+/// Off, or due from the last tick to `most` ticks after it.
+fn timer(last: u32, most: u32, random: &mut Random) -> Option<u32> {
+    let later = random.range(0, u64::from(most)) as u32;
+    random.pick(&[None, Some(last), Some(last + later.min(3)), Some(last + later), Some(last + later), Some(last + most)])
+}
+
+/// A live node does not list itself, nor have itself as emitter or observer with the timer on; a crashed one may.
+fn node(plan: &Plan, last: u32, number: u8, alive: bool, density: u64, random: &mut Random) -> Node {
+    let alone = plan.nodes == 1;
+    let list = (0..plan.nodes).filter(|_| random.range(1, 4) <= density).fold(0, |list, node| list | 1u64 << node);
+    let mut node = Node {
+        number,
+        alive,
+        emitter: if alone { 0 } else { other_node(plan, number, random) },
+        observer: if alone { 0 } else { other_node(plan, number, random) },
+        watch: timer(last, 2 * plan.timeout, random).filter(|_| !alone),
+        heartbeat: timer(last, plan.period, random).filter(|_| !alone),
+        dead_list: list & !(1 << number),
+    };
+    if node.watch.is_none() || !alive {
+        node.emitter = random.pick(&[node.emitter, number]);
+    }
+    if node.heartbeat.is_none() || !alive {
+        node.observer = random.pick(&[node.observer, number]);
+    }
+    if !alive {
+        node.watch = random.pick(&[node.watch, Some(0)]);
+        node.dead_list = list;
+    }
+    node
+}
+
+fn messages(plan: &Plan, last: u32, random: &mut Random) -> Vec<(u32, Message)> {
+    let count = if plan.nodes == 1 { 0 } else { random.pick(&[0, 1, 5, 5, 40, 40, 300, 2_040, 2_048]) };
+    let gap = random.pick(&[1, 3, 1_000_000]);
+    let mut number = 0;
+    let one = |_| {
+        number += random.range(1, gap);
+        let sender = some_node(plan, random);
+        let subject = some_node(plan, random);
+        let content = random.pick(&[Content::Heartbeat, Content::NewObserver, Content::Report { subject }]);
+        let receiver = other_node(plan, sender, random);
+        let due = last + random.range(0, u64::from(plan.delay)) as u32;
+        (due, Message { number, sender, receiver, content })
+    };
+    (0..count).map(one).collect()
+}
+
+/// Changes a byte that holds something, often to what another such byte could be.
+pub fn change(bytes: &mut [u8], used: &[usize], random: &mut Random) {
+    let place = random.pick(used);
+    let old = bytes[place];
+    let (bit, node) = (1 << random.range(0, 7), random.range(0, 64) as u8);
+    let (letter, another) = (random.pick(b"HOR"), bytes[random.pick(used)]);
+    bytes[place] = random.pick(&[old ^ bit, old.wrapping_add(1), old.wrapping_sub(1), node, letter, another]);
+}
