@@ -14,7 +14,7 @@ use Rattle.model.specs.Platform.{State, Entry, Outcome, did, ended, refu
 
 module _ (p : Plan) where
   -- where no event is done, none ever is
-  stuck : (k : ℕ) (s : State) → left s (try p s) ≡ s → steps p k s ≡ s
+  pub stuck : (k : ℕ) (s : State) → left s (try p s) ≡ s → steps p k s ≡ s
   unfolding steps
   stuck zero s e = refl
   stuck (suc k) s e = rw e (stuck k s e)

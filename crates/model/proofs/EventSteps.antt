@@ -14,7 +14,7 @@ use Rattle.node.specs.Node.{H, O, R, Turn, silent, alone, due, reports, onHeart
 use Rattle.runfile.specs.Plan.{Crash, Plan}
 use Rattle.model.specs.Platform.{InFlight, State, Event, alive, survivors, delayOf, numbered, nodeOf, taken, messageAt, without, received, apply, crash as crashE, message as messageE, watch as watchE, heartbeat as beatE}
 use Rattle.model.specs.Range.{noCrash, Known, rowAt, Accepted, FlightRange, NotBefore, Sound}
-use Rattle.model.specs.Demand3.{S, settledBy, Spaced}
+use Rattle.model.specs.Claims.{S, settledBy, Spaced}
 use Rattle.model.proofs.RingOrder.{cnt, gap}
 use Rattle.model.proofs.RingSearch.{Found}
 use Rattle.model.proofs.RingLists.{ordOf, numbers-cnt}

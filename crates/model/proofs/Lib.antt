@@ -64,6 +64,8 @@ pub mod RangesKept
 pub mod NextNumber
 -- e from the calls alone
 pub mod Calls
+-- which nodes have crashed
+pub mod Crashed
 -- ---- the platform's events are those of the proof, and the theorems
 
 -- a state as the proof sees it
@@ -74,9 +76,9 @@ pub mod EventSteps
 pub mod Opened
 -- any number of events
 pub mod Reached
--- a settled node in the words of Demand3
+-- a settled node in the words of Claims
 pub mod SettledNode
--- SAFETY, SETTLING, RANGES, ANY CALLS
+-- SAFETY, SETTLING, RANGES, WHO HAS CRASHED
 pub mod Theorems
 -- ---- for the layers above: tests for number 7, plans, the search of the next event
 

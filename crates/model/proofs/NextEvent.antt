@@ -17,7 +17,7 @@ use Rattle.node.specs.Node.{alone}
 use Rattle.runfile.specs.Plan.{Crash, Plan, hits}
 use Rattle.model.specs.Platform.{InFlight, State, Event, Entry, crash, message, watch, heartbeat, alive, crashEntries, messageEntries, timerEntry, timerEntries, pending, earlier, first, upTo, nextEvent, nodeOf, noMessage, messageAt}
 use Rattle.model.specs.Range.{noCrash, rowAt, Plain, NotBefore}
-use Rattle.model.specs.Demand3.{NoneLeftBefore}
+use Rattle.model.specs.Claims.{NoneLeftBefore}
 
 -- ---- the first with the least tick
 
@@ -435,7 +435,7 @@ module _ (p : Plan) (pl : Plain p) (s : State) where
           at true e = (leb-true (f .tick) (p .end) e, fd f a)
           at false e = by (suc (p .end)) (leb-false (f .tick) (p .end) e)
 
-  -- nothing pending before u, in the words of Demand3 and by parts
+  -- nothing pending before u, in the words of Claims and by parts
   pub by-parts : (u : ℕ) → NoneLeftBefore p s u → NotBefore p s u u u
   unfolding NoneLeftBefore pending
   by-parts u h = not-before u u u

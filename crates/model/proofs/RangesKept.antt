@@ -117,10 +117,13 @@ without-has (a ∷ ms) (suc i) m h = go (List·Memᴰ·cases-cons h) (without-ha
         up (inl e) = inl e
         up (inr q) = inr (List·Memᴰ·tail q)
 
+pub at-in : {A : Type 0} (z : A) (xs : List A) (i : ℕ) → i < length xs → List·Memᴰ (getD xs i z) xs
+at-in z [] i h = absurd (omega arith)
+at-in z (x ∷ xs) zero h = List·Memᴰ·head refl
+at-in z (x ∷ xs) (suc i) h = List·Memᴰ·tail (at-in z xs i (omega arith))
+
 pub at-mem : (ms : List InFlight) (i : ℕ) → i < length ms → List·Memᴰ (getD ms i noMessage) ms
-at-mem [] i h = absurd (omega arith)
-at-mem (m ∷ ms) zero h = List·Memᴰ·head refl
-at-mem (m ∷ ms) (suc i) h = List·Memᴰ·tail (at-mem ms i (omega arith))
+at-mem ms i h = at-in noMessage ms i h
 
 later-fields : (n h w t u : ℕ) (a : Node) → t ≤ u → NodeRange n h w t a → NodeRange n h w u a
 later-fields n h w t u a l f = record { emitter = f .emitter; observer = f .observer; list = f .list; watch = omega (arith, f .watch); heartbeat = omega (arith, f .heartbeat) }

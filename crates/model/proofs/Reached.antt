@@ -7,7 +7,7 @@ use native.Mathlib.Omega.{arith}
 use Rattle.runfile.specs.Plan.{Plan}
 use Rattle.model.specs.Platform.{State, alive, survivors, start, apply, Outcome, try, left, steps, after}
 use Rattle.model.specs.Range.{rowAt, Plain, Accepted, NotBefore, Sound}
-use Rattle.model.specs.Demand3.{Spaced, S, settledBy}
+use Rattle.model.specs.Claims.{Spaced, S, settledBy}
 use Rattle.model.proofs.Invariant.{Inv}
 use Rattle.model.proofs.InvariantKept.{opened-inv, step-inv}
 use Rattle.model.proofs.Phases.{span}

@@ -16,7 +16,7 @@ use Rattle.node.specs.Node.{alone}
 use Rattle.runfile.specs.Plan.{Crash, Plan}
 use Rattle.model.specs.Platform.{InFlight, State, Entry, crash, message, watch, heartbeat, alive, crashEntries, messageEntries, timerEntry, timerEntries, pending, earlier, first, upTo, nextEvent, nodeOf, noMessage, messageAt}
 use Rattle.model.specs.Range.{noCrash, rowAt, Plain, NotBefore}
-use Rattle.model.specs.Demand3.{NoneLeftBefore}
+use Rattle.model.specs.Claims.{NoneLeftBefore}
 use Rattle.model.proofs.NextEvent.{Under, nextCrash, soon, next-soon, crashes-in, crash-in, msg-in, Ticks, timer-in, one-in}
 use Rattle.model.proofs.RangesKept.{at-mem}
 
@@ -75,7 +75,7 @@ module _ (p : Plan) (pl : Plain p) (s : State) where
         go r l (inl q) = on _ (f .tick) (q .1) (nb .watch (r .i) l)
         go r l (inr q) = on _ (f .tick) (q .1) (nb .heartbeat (r .i) l)
 
-  -- nothing pending before u, by parts and in the words of Demand3
+  -- nothing pending before u, by parts and in the words of Claims
   pub none-left-before : (u : ℕ) → NotBefore p s u u u → NoneLeftBefore p s u
   unfolding NoneLeftBefore pending
   none-left-before u nb e m = go (List·Memᴰ·append-cases (crashEntries (drop (s .done) (p .crashes))) m)

@@ -1,4 +1,4 @@
--- A settled node in the words of Demand3: its list is the number of the crashed nodes, its neighbours are the nearest survivors.
+-- A settled node in the words of Claims: its list is the number of the crashed nodes, its neighbours are the nearest survivors.
 -- Assumes nothing.
 use mathlib.Core.Path.{_≡_, refl, sym, ap, _∙_}
 use mathlib.Core.Logic.{_≢_}
@@ -18,7 +18,7 @@ use Rattle.ring.proofs.Lists.{listed-listing, listing-lt}
 use Rattle.runfile.specs.Plan.{Plan, Crash, hits}
 use Rattle.model.specs.Platform.{State, alive, nextSurvivor, survivorBefore, withCrashed, crashedList, nodeOf}
 use Rattle.model.specs.Range.{noCrash, Accepted, Sound}
-use Rattle.model.specs.Demand3.{SettledAt}
+use Rattle.model.specs.Claims.{SettledAt}
 use Rattle.model.proofs.RingOrder.{Order, cnt, gap, gap-inj, First}
 use Rattle.model.proofs.RingSearch.{nextDown, nextUp, first-down, up-f}
 use Rattle.model.proofs.RingLists.{ordOf, listed-none, back-down, next-up, some-cnt}

@@ -1,23 +1,25 @@
--- THE THEOREMS: demand 3 and the ranges, of the definitions, for any ring order. Each statement stands in specs/Demand3.antt.
--- Assumes nothing.
-use mathlib.Core.Path.{sym, subst}
-use mathlib.Core.List.{List}
+-- THE THEOREMS: what demand 3 claims, and the ranges, of every state that a file leads to, for any ring order. Each statement stands in
+-- specs/Claims.antt. Assumes nothing.
 use Prim.Native.Nat.{ℕ}
 use Rattle.ring.proofs.Counts.{jumps-covers, jumps-le}
 use Rattle.runfile.specs.Plan.{Plan}
-use Rattle.model.specs.Platform.{Call, after, events}
+use Rattle.model.specs.Platform.{firstEvents, after}
 use Rattle.model.specs.Range.{Plain, Accepted}
-use Rattle.model.specs.Demand3.{Safe, LogRoundedUp, K, Settles, Demand3, AnyCalls, NeverOutOfRange}
+use Rattle.model.specs.Claims.{CrashedAre, Safe, LogRoundedUp, K, Settles, NeverOutOfRange}
 use Rattle.model.proofs.NextEvent.{by-parts}
 use Rattle.model.proofs.RangesKept.{steps-range, after-range}
 use Rattle.model.proofs.NextNumber.{next-small}
-use Rattle.model.proofs.Calls.{calls-after}
+use Rattle.model.proofs.Crashed.{crashed-are}
 use Rattle.model.proofs.Reached.{after-inv, settled}
 use Rattle.model.proofs.SettledNode.{settled-at}
 
 -- K is the base-two logarithm, rounded up
 pub logarithm : (m : ℕ) → LogRoundedUp m (K m)
 logarithm m = record { enough = jumps-covers m; least = λ j h. jumps-le j m h }
+
+-- after any number of events the crashed nodes are exactly those whose C line's event is among these
+pub crashed : (p : Plan) → Plain p → (e : ℕ) → CrashedAre p (firstEvents p e) (after p e)
+crashed p pl e = crashed-are p pl e
 
 -- after any number of events no node's list holds a live node
 pub safety : (p : Plan) → Accepted p → (e : ℕ) → Safe p (after p e)
@@ -27,17 +29,6 @@ safety p ac e = record { unlisted = λ j k h. ((after-inv p ac e) .base .listed 
 pub settling : (p : Plan) → Accepted p → (e : ℕ) → Settles p (after p e)
 settling p ac e = record { settled = λ i d sp nl j jN l. settled-at p ac (after p e) (after-range p (ac .plain) e) j jN l (settled p ac e i d sp (by-parts p (ac .plain) (after p e) _ nl) j jN l) }
 
-pub demand3 : (p : Plan) → Accepted p → Demand3 p
-demand3 p ac = record { safe = safety p ac; settles = settling p ac }
-
 -- whatever W, every state that a file leads to is in range, and events keep every range but the cap from any state
 pub ranges : (p : Plan) → Plain p → NeverOutOfRange p
 ranges p pl = record { reached = λ e. record { sound = after-range p pl e; cap = next-small p pl e }; kept = λ s r k. steps-range p pl k s r }
-
--- any list of steps and runs on one store just opened
-pub any-calls : (p : Plan) → Accepted p → (cs : List Call) → AnyCalls p cs
-any-calls p ac cs = record {
-  reaches = calls-after p cs;
-  safe = subst (Safe p) (sym (calls-after p cs)) (safety p ac (events p cs));
-  settles = subst (Settles p) (sym (calls-after p cs)) (settling p ac (events p cs));
-}

@@ -12,7 +12,7 @@ use Rattle.node.specs.Node.{reports, opening, onHeartbeat, onObserver, onReport
 use Rattle.runfile.specs.Plan.{Plan, within, startRanges, longEnough, crashRange, risingFrom, rising, hits, noneTwice, crashOrder, delayOrder, fewDelays, every, startTest, crashTest, delayTest, planTest}
 use Rattle.model.specs.Platform.{alive, survivors, start, crashEntries, messageEntries, timerEntry, timerEntries, pending, earlier, first, upTo, nextEvent, delayIn, delayOf, numbered, nodeOf, taken, without, received, apply, fits, tried, try, left, steps, after}
 use Rattle.model.specs.Range.{Accepted, NotBefore}
-use Rattle.model.specs.Demand3.{S, settledBy, Spaced, NoneLeftBefore, SettledAt}
+use Rattle.model.specs.Claims.{S, settledBy, Spaced, NoneLeftBefore, SettledAt}
 use Rattle.model.proofs.NextEvent.{Best, best}
 use Rattle.model.proofs.Theorems.{settling}
 use Rattle.model.proofs.Plans.{accepted}

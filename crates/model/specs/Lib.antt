@@ -2,4 +2,4 @@
 pub mod Platform
 pub mod Lines
 pub mod Range
-pub mod Demand3
+pub mod Claims

@@ -204,7 +204,16 @@ unfoldable pub eventCount : Plan → ℕ → State → ℕ
 eventCount p zero s = zero
 eventCount p (suc k) s = elim (try p s) [ did e s' ↦ suc (eventCount p k s') | ended ↦ zero | refused ↦ zero ]
 
--- the state after the first e events of a file; where it has fewer, after all of them
+-- the events that k tries from s do, in order
+unfoldable pub eventsFrom : Plan → ℕ → State → List Entry
+eventsFrom p zero s = []
+eventsFrom p (suc k) s = elim (try p s) [ did e s' ↦ e ∷ eventsFrom p k s' | ended ↦ [] | refused ↦ [] ]
+
+-- the first e events of a file; where it has fewer, all of them
+unfoldable pub firstEvents : Plan → ℕ → List Entry
+firstEvents p e = eventsFrom p e (start p)
+
+-- the state after them
 unfoldable pub after : Plan → ℕ → State
 after p e = steps p e (start p)
 

@@ -8,4 +8,4 @@ pub mod Lines
 pub mod Stepping
 pub mod Running
 pub mod Answers
-pub mod Theorems
+pub mod CallLists

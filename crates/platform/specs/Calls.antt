@@ -140,3 +140,23 @@ writeFile store out =
     (record { answer = Unwritten shortPart; out = out })
     (record { answer = Bytes (length text); out = put out 0 text }))
     (record { answer = Unwritten badStore; out = out })
+
+-- ---- the number that refuses a call, 0 where it is not refused
+
+unfoldable pub openRefusal : Opened → ℕ
+openRefusal Ready = 0
+openRefusal (Unopened number line) = number
+
+unfoldable pub stepRefusal : Stepped → ℕ
+stepRefusal (Did line size) = 0
+stepRefusal (Done line size) = 0
+stepRefusal (Unstepped number) = number
+
+unfoldable pub runRefusal : Ran → ℕ
+runRefusal (Finished n) = 0
+runRefusal (Spent n) = 0
+runRefusal (Unrun number n) = number
+
+unfoldable pub writeRefusal : Wrote → ℕ
+writeRefusal (Bytes size) = 0
+writeRefusal (Unwritten number) = number

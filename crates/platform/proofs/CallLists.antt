@@ -1,29 +1,23 @@
--- THE THEOREM: demand 3 for any list of calls on one store just opened from an accepted file, of the calls' definitions on bytes; and
--- what a call leaves of a lent store. The statements stand in specs/Demand3.antt. Assumes nothing.
+-- What any list of calls leaves of a store that was opened from an accepted file, and what one call leaves of a lent store in range.
+-- Assumes nothing.
 use mathlib.Core.Path.{_≡_, refl, sym, ap, _∙_, subst}
 use mathlib.Core.Bool.{Bool, true, false, cond}
 use mathlib.Core.List.{List, [], _∷_, map}
 use Prim.Native.Nat.{ℕ, _+_, _≤_, _<_}
 use native.Mathlib.Omega.{arith}
-use borrow.Author.Tests.{eq-eqb}
 use lib.Dec.{leb, ltb}
-use lib.ListN.{length, getD}
+use lib.ListN.{getD}
 use Rattle.ring.specs.Ring.{numbers}
-use Rattle.runfile.specs.Plan.{Plan, planText, planTest}
-use Rattle.runfile.specs.File.{accepted, fileOf}
-use Rattle.runfile.proofs.RoundTrip.{written-back, accepted-plan, accepted-order}
+use Rattle.runfile.specs.Plan.{Plan, planTest}
 use Rattle.ring.specs.Limits.{mostNext, lineRoom}
 use Rattle.model.specs.Platform.{State, Call, step as stepOf, run as runOf, start, try, left, steps, after, called, calls}
-use Rattle.model.specs.Range.{Plain, Accepted}
-use Rattle.model.proofs.Plans as plans
+use Rattle.model.specs.Range.{Plain}
 use Rattle.model.proofs.Calls.{steps-add, calls-after}
-use Rattle.model.proofs.Theorems.{safety, settling, ranges}
-use Rattle.model.specs.Demand3.{Safe, Settles}
-use Rattle.store.specs.Store.{storeSize, encode, planIn, stateIn, storeInRange}
-use Rattle.platform.specs.declared.Opened.the-variants.{Ready}
-use Rattle.platform.specs.Calls.{badStore, openPlan, openAnswer, openFile}
-use Rattle.platform.specs.Demand3.{Call as Lent, sized, storeAfter, storeAfterAll, NoneAnswers, eventsOf, AfterCalls, Demand3, Kept}
-use Rattle.platform.proofs.Stores.{Holds, plain-of, plan-of, state-of, in-range-of, in-range, call-store, call-not-7, writes, Lends, lends, steps-hold}
+use Rattle.model.proofs.Theorems.{ranges}
+use Rattle.store.specs.Store.{encode, planIn, stateIn, storeInRange}
+use Rattle.platform.specs.Calls.{badStore}
+use Rattle.platform.specs.CallLists.{Call as Lent, sized, storeAfter, storeAfterAll, NoneAnswers, eventsOf, Kept}
+use Rattle.platform.proofs.Stores.{Holds, plain-of, plan-of, state-of, in-range-of, in-range, call-store, call-not-7, Lends, lends, steps-hold}
 
 -- a call does some number of events
 called-steps : (p : Plan) (c : Call) (s : State) → (k : ℕ) × (called p c s ≡ steps p k s)
@@ -40,10 +34,10 @@ module _ (p : Plan) (good : planTest p ≡ true) (order : p .order ≡ numbers 0
   plain = plain-of p order good
 
   -- every state that the file leads to is one that the store holds, below the cap
-  after-small : (e : ℕ) → after p e .next ≤ mostNext
+  pub after-small : (e : ℕ) → after p e .next ≤ mostNext
   after-small e = (ranges p plain) .reached e .cap
 
-  after-holds : (e : ℕ) → Holds p (after p e)
+  pub after-holds : (e : ℕ) → Holds p (after p e)
   after-holds e = record { good = good; order = order; sound = (ranges p plain) .reached e .sound; small = omega (arith, after-small e) }
 
   -- a call leads from such a state to such a state
@@ -60,7 +54,7 @@ module _ (p : Plan) (good : planTest p ≡ true) (order : p .order ≡ numbers 0
       let one : storeAfter c (encode p (after p e)) ≡ encode p (called p (sized c) (after p e)) = call-store p (after p e) (after-holds e) (after-small e) c in
       ap (storeAfterAll cs) (one ∙ ap (encode p) (w .1)) ∙ calls-store cs (w .0) ∙ ap (λ (s : State). encode p (calls p (map sized cs) s)) (sym (w .1))
 
-  none-seven : (cs : List Lent) (e : ℕ) → NoneAnswers badStore cs (encode p (after p e))
+  pub none-seven : (cs : List Lent) (e : ℕ) → NoneAnswers badStore cs (encode p (after p e))
   unfolding NoneAnswers
   none-seven [] e = tt
   none-seven (c ∷ cs) e =
@@ -68,45 +62,16 @@ module _ (p : Plan) (good : planTest p ≡ true) (order : p .order ≡ numbers 0
       let one : storeAfter c (encode p (after p e)) ≡ encode p (called p (sized c) (after p e)) = call-store p (after p e) (after-holds e) (after-small e) c in
       (call-not-7 p (after p e) (after-holds e) (after-small e) c, subst (NoneAnswers badStore cs) (sym (one ∙ ap (encode p) (w .1))) (none-seven cs (w .0)))
 
-  opened-at : start p ≡ after p 0
+  pub opened-at : start p ≡ after p 0
   unfolding after steps
   opened-at = refl
 
-  events-done : (cs : List Lent) → storeAfterAll cs (encode p (start p)) ≡ encode p (after p (eventsOf p cs))
+  pub events-done : (cs : List Lent) → storeAfterAll cs (encode p (start p)) ≡ encode p (after p (eventsOf p cs))
   unfolding eventsOf
   events-done cs =
       ap (λ (s : State). storeAfterAll cs (encode p s)) opened-at
       ∙ calls-store cs 0
       ∙ ap (encode p) (ap (calls p (map sized cs)) (sym opened-at) ∙ calls-after p (map sized cs))
-
-  -- what the store after the first e events says
-  left-after : (file : List ℕ) (cs : List Lent) (store : List ℕ) → planText p ≡ file → store ≡ encode p (after p (eventsOf p cs)) → AfterCalls file p cs store
-  left-after file cs store text done =
-      let e : ℕ = eventsOf p cs in
-      let ac : Accepted p = plans.accepted p order good in
-      let state : stateIn store ≡ after p e = ap stateIn done ∙ state-of p (after p e) (after-holds e) in
-      record {
-        events = done;
-        plan = ap planIn done ∙ plan-of p (after p e) (after-holds e);
-        safe = subst (Safe p) (sym state) (safety p ac e);
-        settles = subst (Settles p) (sym state) (settling p ac e);
-        inRange = ap storeInRange done ∙ in-range p (after p e) (after-holds e) (after-small e);
-        written = λ out room. rw (done, ← text) (writes p (after p e) (after-holds e) (after-small e) out room);
-      }
-
-  demand3-of : (file : List ℕ) → planText p ≡ file → Demand3 file p (encode p (start p))
-  demand3-of file text = record {
-    left = λ cs. left-after file cs (storeAfterAll cs (encode p (start p))) text (events-done cs);
-    noneSeven = λ cs. subst (λ (s : State). NoneAnswers badStore cs (encode p s)) (sym opened-at) (none-seven cs 0);
-  }
-
--- DEMAND 3: for every accepted file and every lent store of its length, opening answers ready, and whatever steps and runs follow, the
--- demand holds of the store that they leave
-pub demand3 : (file store : List ℕ) (p : Plan) → fileOf file ≡ accepted p → length store ≡ storeSize
-    → (openFile file store .answer ≡ Ready) × Demand3 file p (openFile file store .store)
-unfolding openFile openAnswer openPlan
-demand3 file store p ok size =
-    rw (ok, eq-eqb (length store) storeSize size) (refl, demand3-of p (accepted-plan file p ok) (accepted-order file p ok) file (written-back file p ok))
 
 -- ---- a lent store
 

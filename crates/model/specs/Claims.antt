@@ -1,13 +1,32 @@
--- DEMAND 3: between two crashes the platform settles, and no live node is ever listed. The statements, in the words of the
--- customer's terms and of document 01's 'The platform'; proofs/Theorems.antt proves them. Assumes nothing.
+-- What demand 3 claims of one state, in the words of the customer's terms and of document 01's 'The platform': which nodes have crashed,
+-- that no live node is listed, that every survivor is settled; and the ranges. proofs/Theorems.antt proves it of every state that a file
+-- leads to. Assumes nothing.
 use mathlib.Core.Path.{_≡_}
 use mathlib.Core.Bool.{true, false}
 use mathlib.Core.List.{List, List·Memᴰ}
 use Prim.Native.Nat.{ℕ, suc, _+_, _*_, _^_, _≤_, _<_}
 use Rattle.ring.specs.Ring.{listed, jumps}
-use Rattle.runfile.specs.Plan.{Plan}
-use Rattle.model.specs.Platform.{State, Entry, Call, alive, survivors, nextSurvivor, survivorBefore, crashedList, start, nodeOf, pending, steps, after, events, calls}
+use Rattle.runfile.specs.Plan.{Crash, Plan}
+use Rattle.model.specs.Platform.{State, Entry, crash, alive, survivors, nextSurvivor, survivorBefore, crashedList, nodeOf, pending, steps, after}
 use Rattle.model.specs.Range.{rowAt, Sound, InRange}
+
+-- ---- crashed nodes
+
+-- the event of a C line
+abbrev pub crashOf : Crash → Entry
+crashOf r = record { tick = r .tick; event = crash (r .node) }
+
+-- 'Crashed is each node whose C line's event is among them'; `alive` goes by how many C lines are done
+pub record CrashedAmong (p : Plan) (es : List Entry) (k : ℕ) : Type 0 where
+  pub row : Crash
+  pub planned : List·Memᴰ row (p .crashes)
+  pub node : row .node ≡ k
+  pub among : List·Memᴰ (crashOf row) es
+
+-- after these events, the nodes that `alive` calls dead are exactly those
+pub record CrashedAre (p : Plan) (es : List Entry) (s : State) : Type 0 where
+  pub dead : (k : ℕ) → CrashedAmong p es k → alive p (s .done) k ≡ false
+  pub only : (k : ℕ) → alive p (s .done) k ≡ false → CrashedAmong p es k
 
 -- ---- safety
 
@@ -53,19 +72,6 @@ pub record SettledAt (p : Plan) (s : State) (j : ℕ) : Type 0 where
 pub record Settles (p : Plan) (s : State) : Type 0 where
   pub settled : (i : ℕ) → s .done ≡ suc i → Spaced p (suc i) → NoneLeftBefore p s (settledBy p i)
       → (j : ℕ) → j < p .n → alive p (s .done) j ≡ true → SettledAt p s j
-
--- ---- the demand, of the first e events of a file, for every e, and of any list of calls
-
-pub record Demand3 (p : Plan) : Type 0 where
-  pub safe : (e : ℕ) → Safe p (after p e)
-  pub settles : (e : ℕ) → Settles p (after p e)
-
--- One store just opened, any list of steps and runs on it: the events done are the first e, e from the calls alone, and what
--- they leave is safe and settles.
-pub record AnyCalls (p : Plan) (cs : List Call) : Type 0 where
-  pub reaches : calls p cs (start p) ≡ after p (events p cs)
-  pub safe : Safe p (calls p cs (start p))
-  pub settles : Settles p (calls p cs (start p))
 
 -- ---- nothing that the rules lead to is out of range, whatever W
 
