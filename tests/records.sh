@@ -1,0 +1,182 @@
+#!/bin/sh
+# The nodes beside the rehearsal: tests/records.c drives a record for each node of a run file through the calls of a host in C,
+# and its log has to be the rehearsal program's, byte for byte: what is rehearsed is what the nodes do. The files are those
+# named below, most of 48 nodes, and generated ones; refused ones are left out. Mistakes planted in tests/records.c have to be
+# found. Stops at the first difference, prints its seed and keeps its file. tests/simulator.sh builds the generator.
+#
+# Usage: tests/records.sh [SEED [COUNT]]: COUNT small generated files, a fifth as many large ones; REHEARSE names another program.
+
+set -eu
+
+cd "$(dirname "$0")/.."
+seed=${1:-20261115}
+count=${2:-600}
+rehearse=${REHEARSE:-target/bin/rehearse}
+out=target/tests
+work=$out/records-$seed
+library=target/staticlib/libhost.a
+seconds=20
+
+fail() {
+    echo "records: $1" >&2
+    exit 1
+}
+
+# The library is built where there is none, or where a source is newer than it.
+build() {
+    mkdir -p "$out" "$work"
+    if [ ! -e "$library" ] || [ -n "$(find crates crates.txt -newer "$library")" ]; then
+        rt staticlib host > "$out/host.log" 2>&1 || {
+            tail -n 20 "$out/host.log" >&2
+            exit 1
+        }
+    fi
+    compile 0 "$out/records"
+}
+
+# compile MISTAKE PROGRAM
+compile() {
+    gcc -std=c11 -Wall -Wextra -Werror -O2 -DMISTAKE="$1" -Iinclude tests/records.c "$library" -o "$2"
+}
+
+# differ NAME FILE WORDS: fails and keeps the file.
+differ() {
+    cp "$2" "$out/records-failed.run"
+    fail "$1: $3; the file is kept as $out/records-failed.run"
+}
+
+# rehearsed NAME FILE: the log of the rehearsal program, for comparison. Of its status only a crash is told, and too long a time.
+rehearsed() {
+    status=0
+    timeout "$seconds" "$rehearse" < "$2" > "$work/rehearsed" || status=$?
+    [ "$status" -lt 124 ] || differ "$1" "$2" "$rehearse ends with status $status"
+}
+
+# same NAME FILE: after `rehearsed`, the records' log is the same.
+same() {
+    status=0
+    timeout "$seconds" "$out/records" < "$2" > "$work/records" || status=$?
+    if [ "$status" -ne 0 ] || ! cmp "$work/rehearsed" "$work/records" >&2; then
+        differ "$1" "$2" "the nodes do otherwise than is rehearsed, status $status"
+    fi
+    cut -c 1 "$work/records" >> "$work/letters"
+    IFS=, read -r letter nodes rest < "$2"
+    files=$((files + 1))
+    [ "$nodes" -lt 48 ] || wide=$((wide + 1))
+}
+
+# generated KIND COUNT: files of the generator that are not refused; KIND is `small` or nothing.
+generated() {
+    "$out/generate" $1 "$seed" "$2" "$work"
+    index=0
+    while [ "$index" -lt "$2" ]; do
+        name="seed $seed index $index ${1:-large}"
+        rehearsed "$name" "$work/$seed-$index.run"
+        case $(head -n 1 "$work/rehearsed") in
+            [1-6],*) refused=$((refused + 1)) ;;
+            *) same "$name" "$work/$seed-$index.run" ;;
+        esac
+        index=$((index + 1))
+    done
+}
+
+# named NAME COMMAND..: the file that the command writes, which may not be refused.
+named() {
+    name=$1
+    shift
+    "$@" > "$work/named.run"
+    rehearsed "$name" "$work/named.run"
+    same "$name" "$work/named.run"
+}
+
+# ring P-LINE [CRASHES..]: a file of this P line. Each five numbers are C lines: how many, from which tick on, how many ticks
+# apart, from which of 48 nodes on, how many nodes apart.
+ring() {
+    echo "$1"
+    shift
+    while [ $# -gt 0 ]; do
+        for place in $(seq 0 $(($1 - 1))); do
+            echo "C,$(($2 + place * $3)),$((($4 + place * $5) % 48))"
+        done
+        shift 5
+    done
+}
+
+# 2,048 L lines: every second message, delays 1 to 21.
+ring_with_delays() {
+    ring "$@"
+    for place in $(seq 0 2047); do
+        echo "L,$((place * 2)),$((place * 8 % 21 + 1))"
+    done
+}
+
+# 48 nodes, of which 20 crash, every second one, soon after each other.
+many_delays() {
+    ring_with_delays P,48,7,28,21,900 20 60 17 30 46
+}
+
+small_rings() {
+    named "01's worked example" ring P,2,2,3,1,6 1 3 0 1 0
+    named 'one node' ring P,1,1,2,1,5
+    named 'up to the greatest tick' ring P,3,1000,1255,255,1000000 1 500000 0 1 0
+}
+
+rings_of_48() {
+    named 'eight neighbours crash at one tick' ring P,48,100,120,20,4000 8 730 0 20 1
+    named 'eight neighbours about node 0' ring P,48,100,120,20,4000 4 730 0 0 1 4 730 0 44 1
+    named 'crashes spaced by S' ring P,48,10,30,10,4000 32 57 110 5 17
+    named 'all but one crash, going back' ring P,48,10,30,10,1500 47 57 3 5 47
+    named 'all crash, going ahead' ring P,48,10,30,10,1500 48 57 9 5 1
+    named 'all crash, going ahead, L lines' ring_with_delays P,48,10,31,21,1500 48 57 9 5 1
+    named '2,048 L lines' many_delays
+}
+
+full_rings() {
+    named '2,048 in flight' ring P,64,1,33,32,200
+    named '2,049 in flight' ring P,64,1,34,33,200
+    named 'reports bring 2,049 into flight' ring P,48,1,43,42,500 1 100 0 9 0
+}
+
+# mistaken MISTAKE STATUS: tests/records.c with this mistake ends so on the file of many delays, and writes another log.
+mistaken() {
+    compile "$1" "$work/mistaken"
+    status=0
+    timeout "$seconds" "$work/mistaken" < "$work/mistaken.run" > "$work/records" 2> "$work/mistaken.err" || status=$?
+    [ "$status" -eq "$2" ] || fail "mistake $1: status $status"
+    ! cmp -s "$work/rehearsed" "$work/records" || fail "mistake $1 is not found"
+}
+
+mistakes() {
+    many_delays > "$work/mistaken.run"
+    rehearsed 'mistakes' "$work/mistaken.run"
+    for mistake in 1 2 3 4 5; do
+        mistaken "$mistake" 0
+    done
+    mistaken 6 1
+    grep -q '^records: kelbraut_node_timers of node 0 at tick 7 answers 9$' "$work/mistaken.err" || fail 'mistake 6: another call'
+}
+
+# counted: how many lines there were of each letter, and of 8,0. All of them have to come up.
+counted() {
+    for letter in C H O R X W S E 8; do
+        lines=$(grep -c "^$letter" "$work/letters") || fail "no line of letter $letter came up"
+        printf ' %s %d' "$letter" "$lines"
+    done
+}
+
+[ -x "$rehearse" ] || fail "there is no program $rehearse"
+[ -x "$out/generate" ] || fail "there is no program $out/generate; tests/simulator.sh builds it"
+echo "records: $rehearse, seed $seed, $count small and $((count / 5)) large generated files"
+trap 'rm -rf "$work"' EXIT
+build
+# A program that writes without end is stopped at 64 megabytes.
+ulimit -f 131072
+files=0 wide=0 refused=0
+small_rings
+rings_of_48
+full_rings
+mistakes
+generated '' $((count / 5))
+generated small "$count"
+lines=$(counted)
+echo "records: $files files, $wide of them with 48 nodes or more, agree; $refused refused; 6 mistakes found; lines:$lines"
