@@ -73,7 +73,7 @@ module _ (b : List ℕ) (p : Plan) (s : State) (ok : storeInRange b ≡ true) (p
   write-in out room = rw (ok, plan, le-ltb (length out) fileRoom room)
 
 -- a step's outcome leaves the encoding of the state that it leads to
-outcome-store : (p : Plan) (s : State) (o : Outcome) (log : List ℕ) → stepOutcome p s o (encode p s) log .store ≡ encode p (left s o)
+pub outcome-store : (p : Plan) (s : State) (o : Outcome) (log : List ℕ) → stepOutcome p s o (encode p s) log .store ≡ encode p (left s o)
 unfolding stepOutcome left
 outcome-store p s (did e s') log = refl
 outcome-store p s ended log = refl

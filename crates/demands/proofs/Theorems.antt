@@ -1,0 +1,34 @@
+-- THE THEOREMS: the customer's three demands. The statements stand in specs/Demands.antt. Assumes nothing.
+use Rattle.runfile.proofs.RoundTrip.{written-back, accepted-plan, accepted-order, read-back}
+use Rattle.logline.proofs.LineTrip.{written-of-read, read-of-written}
+use Rattle.demands.specs.Demands.{Demand1, Demand2, Demand3}
+use Rattle.demands.proofs.Demand1.{open-down, step-down, run-down, run-bad-store, write-down, open-record-down, deliver-down, fire-down, line-taken, line-only, line-down, table-down}
+use Rattle.demands.proofs.Demand2.{next-events, file-again}
+use Rattle.demands.proofs.Demand3.{any-calls}
+
+-- refused by number, with nothing lent to the call written, and all else accepted
+pub demand1 : Demand1
+demand1 = record {
+  fileTaken = read-back;
+  fileOnly = λ file p ok. (written-back file p ok, accepted-plan file p ok, accepted-order file p ok);
+  opening = open-down;
+  stepping = step-down;
+  running = run-down;
+  badStore = run-bad-store;
+  writing = write-down;
+  nodeOpen = open-record-down;
+  nodeDeliver = deliver-down;
+  nodeTimers = fire-down;
+  lineTaken = line-taken;
+  lineOnly = line-only;
+  lineWriting = line-down;
+  table = table-down;
+}
+
+-- every event and line as 01 fixes them, and the same bytes when read and written again
+pub demand2 : Demand2
+demand2 = record { events = next-events; fileAgain = file-again; lineAgain = written-of-read; lineBack = read-of-written }
+
+-- no live node is ever listed, and the platform settles between two crashes
+pub demand3 : Demand3
+demand3 = any-calls

@@ -1,0 +1,211 @@
+-- THE THREE DEMANDS of the customer's terms, each as a record of what holds of the calls' definitions, which the calls' contracts promise
+-- for every input. proofs/Theorems.antt proves them. Assumes nothing.
+use mathlib.Core.Path.{_≡_}
+use mathlib.Core.Logic.{_≢_}
+use mathlib.Core.Bool.{Bool, true, false, cond, not, _&&_}
+use mathlib.Core.List.{List, [], _∷_}
+use mathlib.Core.Option.{Option, none, some}
+use Prim.Native.Nat.{ℕ, _+_, _^_, _≤_, _<_}
+use lib.Dec.{eqb, leb, ltb}
+use lib.ListN.{length, take}
+use Rattle.ring.specs.Limits.{mostNodes, mostInFlight, lineRoom}
+use Rattle.ring.specs.Ring.{numbers, tableAnswer}
+use Rattle.text.specs.Put.{put}
+use Rattle.runfile.specs.Plan.{Plan, planTest, planText}
+use Rattle.runfile.specs.File.{Answer, accepted, refused as turnedDown, fileOf}
+use Rattle.logline.specs.declared.Line.{Line}
+use Rattle.logline.specs.declared.Read.the-variants.{Accepted as Read}
+use Rattle.logline.specs.declared.Written.{Written}
+use Rattle.logline.specs.declared.Written.the-variants.{Bytes as Put, Refused as Unput}
+use Rattle.logline.specs.Line.{Ranges, upTo, unknown, ranges, within, readOf, lineText, writtenOf, outOf}
+use Rattle.model.specs.Platform.{State, Entry, nextEvent, apply, try, steps, eventCount, runAnswer, firstEvents, after}
+use Rattle.model.specs.Lines.{linesFrom}
+use Rattle.model.specs.Claims.{CrashedAre, Safe, Settles}
+use Rattle.host.specs.Record.{recordSize, decode, openable, sound}
+use Rattle.host.specs.Call.{tickTaken, messageTaken, partSize, openAnswer, openLeaves, deliverAnswer, deliverLeaves, deliverSends, timersAnswer, timersLeaves, timersSends}
+use Rattle.store.specs.Store.{storeSize, encode, planIn, stateIn, storeInRange}
+use Rattle.platform.specs.declared.Opened.the-variants.{Ready}
+use Rattle.platform.specs.declared.Ran.{Ran}
+use Rattle.platform.specs.declared.Ran.the-variants.{Done as Finished, Spent, Refused as Unrun}
+use Rattle.platform.specs.declared.Wrote.the-variants.{Bytes}
+use Rattle.platform.specs.Calls.{fileRoom, linesText, openFile, step, ran, run, writeFile, openRefusal, stepRefusal, runRefusal, writeRefusal}
+use Rattle.platform.specs.CallLists.{Call, storeAfterAll, NoneAnswers, eventsOf}
+
+-- ---- DEMAND 1: 'Refused by number, with nothing lent to the call written .. All else is accepted, and every call returns, with no duty on
+-- the caller beforehand'. That a call returns whatever it is lent is in its contract, which asks for nothing.
+
+-- a place of 01's table 'Where a call is turned down': whether its rule is broken, and its number
+pub record Place : Type 0 where
+  pub broken : Bool
+  pub number : ℕ
+
+abbrev pub place : Bool → ℕ → Place
+place broken number = record { broken = broken; number = number }
+
+-- 'Places are tried downwards': the number of the first whose rule is broken, 0 where none is
+unfoldable pub firstBroken : List Place → ℕ
+firstBroken [] = 0
+firstBroken (x ∷ xs) = cond (x .broken) (x .number) (firstBroken xs)
+
+-- a call is refused by the first place whose rule it breaks, accepted where it breaks none, and a refused one leaves what it was lent
+pub record TurnsDown (number : ℕ) (places : List Place) (Untouched : Type 0) : Type 0 where
+  pub first : number ≡ firstBroken places
+  pub untouched : number ≢ 0 → Untouched
+
+-- opening: the file's own number, 1 to 6, then the store's length
+unfoldable pub fileNumber : Answer → ℕ
+fileNumber (accepted p) = 0
+fileNumber (turnedDown number line) = number
+
+unfoldable pub openPlaces : List ℕ → List ℕ → List Place
+openPlaces file store =
+    let number : ℕ = fileNumber (fileOf file) in
+    place (not (eqb number 0)) number ∷ place (not (eqb (length store) storeSize)) 7 ∷ []
+
+-- the next event would leave 'more than 2,048 in flight after it'
+unfoldable pub overfullBy : Plan → State → Option Entry → Bool
+overfullBy p s none = false
+overfullBy p s (some e) = ltb mostInFlight (length (apply p s (e .tick) (e .event) .flight))
+
+unfoldable pub overfull : Plan → State → Bool
+overfull p s = overfullBy p s (nextEvent p s)
+
+unfoldable pub stepPlaces : List ℕ → List ℕ → List Place
+stepPlaces store log =
+    place (not (storeInRange store)) 7 ∷ place (ltb (length log) 40) 9 ∷ place (overfull (planIn store) (stateIn store)) 8 ∷ []
+
+-- a run stands before such an event with some of its budget left
+unfoldable pub stopped : Plan → State → ℕ → Bool
+stopped p s budget = ltb (eventCount p budget s) budget && overfull p (steps p budget s)
+
+unfoldable pub runPlaces : List ℕ → ℕ → List Place
+runPlaces store budget = place (not (storeInRange store)) 7 ∷ place (stopped (planIn store) (stateIn store) budget) 8 ∷ []
+
+-- the events that a run answers
+unfoldable pub eventsDone : Ran → ℕ
+eventsDone (Finished n) = n
+eventsDone (Spent n) = n
+eventsDone (Unrun number n) = n
+
+-- 'Nothing lent changes, but for a run's earlier events': a refused run leaves what a run of just these events leaves
+unfoldable pub keepsEarlier : List ℕ → ℕ → Type 0
+keepsEarlier store budget = run store budget .store ≡ run store (eventsDone (run store budget .answer)) .store
+
+unfoldable pub writePlaces : List ℕ → List ℕ → List Place
+writePlaces store out = place (not (storeInRange store)) 7 ∷ place (ltb (length out) 65536) 9 ∷ []
+
+-- node calls: 'A node call tries 10, 12, 11, then 9'; opening 10, then 3
+unfoldable pub recordPlaces : List ℕ → ℕ → ℕ → ℕ → ℕ → List Place
+recordPlaces s number nodes h w = place (not (eqb (length s) recordSize)) 10 ∷ place (not (openable number nodes h w)) 3 ∷ []
+
+unfoldable pub deliverPlaces : List ℕ → ℕ → ℕ → ℕ → ℕ → List ℕ → List Place
+deliverPlaces s tick kind sender subject part =
+    place (not (sound s)) 10 ∷ place (not (tickTaken (decode s) tick)) 12
+    ∷ place (not (messageTaken (decode s) kind sender subject)) 11 ∷ place (ltb (length part) 56) 9 ∷ []
+
+unfoldable pub timersPlaces : List ℕ → ℕ → List ℕ → List Place
+timersPlaces s tick part = place (not (sound s)) 10 ∷ place (not (tickTaken (decode s) tick)) 12 ∷ place (ltb (length part) 56) 9 ∷ []
+
+-- the log writer: letter, range, part
+unfoldable pub letterUnknown : Ranges → Bool
+letterUnknown (upTo node other) = false
+letterUnknown unknown = true
+
+unfoldable pub outside : Ranges → Line → Bool
+outside (upTo node other) l = not (within l node other)
+outside unknown l = true
+
+unfoldable pub linePlaces : Line → List ℕ → List Place
+linePlaces l out =
+    place (letterUnknown (ranges (l .letter))) 2 ∷ place (outside (ranges (l .letter)) l) 3 ∷ place (ltb (length out) 40) 9 ∷ []
+
+unfoldable pub lineRefusal : Written → ℕ
+lineRefusal (Put size) = 0
+lineRefusal (Unput number) = number
+
+-- 'N outside 1 to 64, or a list with a bit from N on, is refused by 3'
+unfoldable pub tablePlaces : ℕ → ℕ → List Place
+tablePlaces n d = place (not (leb 1 n && leb n mostNodes)) 3 ∷ place (not (ltb d (2 ^ n))) 3 ∷ []
+
+pub record Demand1 : Type 0 where
+  -- a run file is accepted exactly where it is the text of a plan that the rules allow
+  pub fileTaken : (p : Plan) → planTest p ≡ true → p .order ≡ numbers 0 (p .n) → fileOf (planText p) ≡ accepted p
+  pub fileOnly : (file : List ℕ) (p : Plan) → fileOf file ≡ accepted p → (planText p ≡ file) × (planTest p ≡ true) × (p .order ≡ numbers 0 (p .n))
+  -- the platform's calls
+  pub opening : (file store : List ℕ) → TurnsDown (openRefusal (openFile file store .answer)) (openPlaces file store) (openFile file store .store ≡ store)
+  pub stepping : (store log : List ℕ)
+      → TurnsDown (stepRefusal (step store log .answer)) (stepPlaces store log) ((step store log .store ≡ store) × (step store log .log ≡ log))
+  pub running : (store : List ℕ) (budget : ℕ) → TurnsDown (runRefusal (run store budget .answer)) (runPlaces store budget) (keepsEarlier store budget)
+  pub badStore : (store : List ℕ) (budget : ℕ) → storeInRange store ≡ false → run store budget .store ≡ store
+  pub writing : (store out : List ℕ) → TurnsDown (writeRefusal (writeFile store out .answer)) (writePlaces store out) (writeFile store out .out ≡ out)
+  -- a host's calls
+  pub nodeOpen : (s : List ℕ) (number nodes h w : ℕ)
+      → TurnsDown (openAnswer s number nodes h w) (recordPlaces s number nodes h w) (openLeaves s number nodes h w ≡ s)
+  pub nodeDeliver : (s : List ℕ) (tick kind sender subject : ℕ) (part : List ℕ)
+      → TurnsDown (deliverAnswer s tick kind sender subject part) (deliverPlaces s tick kind sender subject part)
+      ((deliverLeaves s tick kind sender subject part ≡ s) × (deliverSends s tick kind sender subject part ≡ part))
+  pub nodeTimers : (s : List ℕ) (tick : ℕ) (part : List ℕ)
+      → TurnsDown (timersAnswer s tick part) (timersPlaces s tick part) ((timersLeaves s tick part ≡ s) × (timersSends s tick part ≡ part))
+  -- log lines and forwarding tables
+  pub lineTaken : (l : Line) → letterUnknown (ranges (l .letter)) ≡ false → outside (ranges (l .letter)) l ≡ false → l .list < 2 ^ 64 → readOf (lineText l) ≡ Read l
+  pub lineOnly : (text : List ℕ) (l : Line) → readOf text ≡ Read l
+      → (lineText l ≡ text) × (letterUnknown (ranges (l .letter)) ≡ false) × (outside (ranges (l .letter)) l ≡ false)
+  pub lineWriting : (l : Line) (out : List ℕ) → TurnsDown (lineRefusal (writtenOf l (length out))) (linePlaces l out) (outOf l out ≡ out)
+  pub table : (n d : ℕ) → tableAnswer n d ≡ firstBroken (tablePlaces n d)
+
+-- ---- DEMAND 2: 'Every event does what the ring detector of Bosilca et al. does, as document 01 fixes it, in 01's order, and writes 01's
+-- line of five columns. A run file or log that is read and written again has the same bytes'
+
+-- a file's store as opening leaves it, after some calls
+abbrev pub storeOf : List ℕ → List ℕ → List Call → List ℕ
+storeOf file store cs = storeAfterAll cs (openFile file store .store)
+
+-- of a file, whose plan is p, opened in a lent store: the next call on what any list of calls leaves does the next events that 01 fixes
+pub record NextEvents (p : Plan) (cs : List Call) (store : List ℕ) : Type 0 where
+  -- a step does one, and writes its lines, or the last line where none is left
+  pub stepStore : (log : List ℕ) → lineRoom ≤ length log → step store log .store ≡ encode p (steps p 1 (after p (eventsOf p cs)))
+  pub stepLines : (log : List ℕ) → lineRoom ≤ length log → step store log .log ≡ put log 0 (linesText (linesFrom p 1 (after p (eventsOf p cs))))
+  -- a run does its budget's, and answers how many it did
+  pub runStore : (budget : ℕ) → run store budget .store ≡ encode p (steps p budget (after p (eventsOf p cs)))
+  pub runAnswers : (budget : ℕ)
+      → run store budget .answer ≡ ran (runAnswer p budget (after p (eventsOf p cs))) (eventCount p budget (after p (eventsOf p cs)))
+
+pub record Demand2 : Type 0 where
+  -- events and lines
+  pub events : (file store : List ℕ) (p : Plan) → fileOf file ≡ accepted p → length store ≡ storeSize
+      → (cs : List Call) → NextEvents p cs (storeOf file store cs)
+  -- a run file that is read and written again, whatever calls came between
+  pub fileAgain : (file store : List ℕ) (p : Plan) → fileOf file ≡ accepted p → length store ≡ storeSize
+      → (cs : List Call) (out : List ℕ) → fileRoom ≤ length out
+      → writeFile (storeOf file store cs) out ≡ record { answer = Bytes (length file); out = put out 0 file }
+  -- a log's line that is read and written again, and one that is written and read
+  pub lineAgain : (text : List ℕ) (l : Line) (out : List ℕ) → readOf text ≡ Read l → lineRoom ≤ length out
+      → (writtenOf l (length out) ≡ Put (length text)) × (outOf l out ≡ put out 0 text)
+  pub lineBack : (l : Line) (out : List ℕ) (size : ℕ) → writtenOf l (length out) ≡ Put size → l .list < 2 ^ 64 → readOf (take size (outOf l out)) ≡ Read l
+
+-- ---- DEMAND 3: 'Between two crashes, the platform settles and no live node is ever listed'
+
+-- `store` is what any list of steps and runs, refused ones included, leaves of a store just opened from a file whose plan is p
+pub record AfterCalls (p : Plan) (cs : List Call) (store : List ℕ) : Type 0 where
+  -- the events done are the first e, and the store is the encoding of the state after them
+  pub events : store ≡ encode p (after p (eventsOf p cs))
+  -- it holds that file's plan
+  pub plan : planIn store ≡ p
+  -- crashed is each node whose C line's event is among them
+  pub crashed : CrashedAre p (firstEvents p (eventsOf p cs)) (stateIn store)
+  -- no node's list holds a live node
+  pub safe : Safe p (stateIn store)
+  -- where each crash done came at least S ticks after the one before, and S ticks have passed since the last, every survivor lists
+  -- exactly the crashed nodes, emits to the next survivor and observes the one before
+  pub settles : Settles p (stateIn store)
+  -- it is in range, the cap on the next number included
+  pub inRange : storeInRange store ≡ true
+
+-- of every file that is accepted, for which W is at least H + D, and every lent store of its length
+pub record Demand3 : Type 0 where
+  pub longEnough : (file : List ℕ) (p : Plan) → fileOf file ≡ accepted p → p .h + p .d ≤ p .w
+  pub opens : (file store : List ℕ) (p : Plan) → fileOf file ≡ accepted p → length store ≡ storeSize → openFile file store .answer ≡ Ready
+  pub left : (file store : List ℕ) (p : Plan) → fileOf file ≡ accepted p → length store ≡ storeSize
+      → (cs : List Call) → AfterCalls p cs (storeOf file store cs)
+  pub noneSeven : (file store : List ℕ) (p : Plan) → fileOf file ≡ accepted p → length store ≡ storeSize
+      → (cs : List Call) → NoneAnswers 7 cs (openFile file store .store)
