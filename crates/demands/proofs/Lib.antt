@@ -2,4 +2,6 @@
 pub mod Demand1
 pub mod Demand3
 pub mod Demand2
+pub mod OneEvent
+pub mod Nodes
 pub mod Theorems

@@ -7,3 +7,4 @@ pub mod Codec
 pub mod Turns
 pub mod Range
 pub mod Sent
+pub mod Accepted

@@ -90,6 +90,8 @@ pub mod Plans
 pub mod Tests
 -- the search of the next event
 pub mod Search
+-- an event that is done
+pub mod Happened
 -- ---- worked instances
 
 -- the starred logs, and a state that settles

@@ -118,6 +118,17 @@ plan-accepted p io t =
       four = leb-true _ _ (b .1);
     }
 
+-- the upper ends of H and W, for node records
+pub plan-most : (p : Plan) → planTest p ≡ true → (p .h ≤ mostH) × (p .w ≤ mostW)
+unfolding planTest startTest startRanges
+plan-most p t =
+    let a = and-split (startTest p) (crashTest p && delayTest p) t in
+    let b = and-split (startRanges p) (longEnough p) (a .0) in
+    let n = and-split (within 1 mostNodes (p .n)) _ (b .0) in
+    let h = and-split (within 1 mostH (p .h)) _ (n .1) in
+    let w = and-split (within 1 mostW (p .w)) _ (h .1) in
+    ((within-range 1 mostH (p .h) (h .0)) .1, (within-range 1 mostW (p .w) (w .0)) .1)
+
 pub plan-plain : (p : Plan) → InOrder (p .n) (p .order) → planTest p ≡ true → Plain p
 plan-plain p io t = (plan-accepted p io t) .plain
 

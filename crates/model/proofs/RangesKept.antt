@@ -276,6 +276,11 @@ module _ (p : Plan) (pl : Plain p) where
   abbrev pub Shape : ℕ → Type 0
   Shape j = ((1 < p .n) × (j < p .n) × (nodeOf (start p) j ≡ ringed j)) ⊎ ((nodeOf (start p) j ≡ alone j 0) × (1 < p .n → ¬ (j < p .n)))
 
+  -- a node at opening
+  pub start-node : (j : ℕ) → j < p .n → nodeOf (start p) j ≡ opening (p .order) (p .h) (p .w) j
+  unfolding start
+  start-node j h = getD-map (opening (p .order) (p .h) (p .w)) (p .n) 0 j (alone j 0) h ∙ ap (opening (p .order) (p .h) (p .w)) (zero-add j)
+
   pub shape : (j : ℕ) → Shape j
   unfolding start opening
   shape j = go (decLt j (p .n)) (decLt 1 (p .n))
@@ -283,13 +288,10 @@ module _ (p : Plan) (pl : Plain p) where
       size : length (p .order) ≡ p .n
       size = pl .order .size
 
-      at : j < p .n → nodeOf (start p) j ≡ opening (p .order) (p .h) (p .w) j
-      at h = getD-map (opening (p .order) (p .h) (p .w)) (p .n) 0 j (alone j 0) h ∙ ap (opening (p .order) (p .h) (p .w)) (zero-add j)
-
       go : Dec (j < p .n) → Dec (1 < p .n) → Shape j
       go (no a) d = inr (List·getD-eq-default ((start p) .nodes) (alone j 0) {n = j} (rw (length-map, length-numbers) (omega arith)), λ x. a)
-      go (yes a) (yes b) = inl (b, a, at a ∙ rw (size, lt-ltb 1 (p .n) b))
-      go (yes a) (no b) = inr (at a ∙ rw (size, le-ltb 1 (p .n) (omega arith)), λ x. absurd (b x))
+      go (yes a) (yes b) = inl (b, a, start-node j a ∙ rw (size, lt-ltb 1 (p .n) b))
+      go (yes a) (no b) = inr (start-node j a ∙ rw (size, le-ltb 1 (p .n) (omega arith)), λ x. absurd (b x))
 
   pub start-range : Sound p (start p)
   unfolding start Rises
