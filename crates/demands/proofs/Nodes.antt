@@ -27,7 +27,7 @@ use Rattle.model.proofs.RangesKept.{start-node, after-range}
 use Rattle.model.proofs.Reached.{after-inv}
 use Rattle.model.proofs.Plans as plans
 use Rattle.model.proofs.Happened.{Happened, did-happened, after-suc}
-use Rattle.demands.specs.Nodes.{recordOf, Call, callTo, leaves, SameEvent, lent, followed, recordAfter, tickOr, ticked, lastTick, Follows, SameAsNodes}
+use Rattle.demands.specs.Nodes.{recordOf, Call, callTo, SameEvent, lent, followed, recordAfter, tickOr, ticked, lastTick, Follows, SameAsNodes}
 use Rattle.demands.proofs.OneEvent.{called-live, last-now, leaves-others, event-same}
 
 -- a timer that is on is about another node
@@ -119,6 +119,11 @@ module _ (p : Plan) (good : planTest p ≡ true) (order : p .order ≡ numbers 0
       let h = happened k e s' t in
       ap (λ (z : State). nodeOf z x) (h .leads) ∙ leaves-others p pl order (after p k) (range k) (e .tick) (h .late) (h .end) (e .event) (h .chosen) x q
 
+  last-at : (k : ℕ) (e : Entry) (s' : State) → try p (after p k) ≡ did e s' → s' .last ≡ e .tick
+  last-at k e s' t =
+      let h = happened k e s' t in
+      ap (λ (z : State). z .last) (h .leads) ∙ last-now p pl order (after p k) (range k) (e .tick) (h .late) (h .end) (e .event)
+
   -- ---- a whole run
 
   -- what is known of x's record after some events
@@ -140,16 +145,13 @@ module _ (p : Plan) (good : planTest p ≡ true) (order : p .order ≡ numbers 0
         record {
           bytes = w .bytes ∙ ap (λ (n : Node). encode (recordOf p x last n)) same;
           range = subst (λ (n : Node). InRange (recordOf p x last n)) same (w .range);
-          early = omega (arith, w .early, h .late, now h);
+          early = omega (arith, w .early, h .late, last-at k e s' t);
         }
-      where
-        now : Happened p pl (after p k) e s' → s' .last ≡ e .tick
-        now h = ap (λ (z : State). z .last) (h .leads) ∙ last-now p pl order (after p k) (range k) (e .tick) (h .late) (h .end) (e .event)
     keeps-call k last b part long w e s' t (some c) q =
         let h = happened k e s' t in
         let a = called-live p pl order (after p k) (range k) (e .tick) (h .late) (h .end) (e .event) (h .chosen) x c q in
         let ok = keeps-sound last (after p k) b w in
-        let now : s' .last ≡ e .tick = ap (λ (z : State). z .last) (h .leads) ∙ last-now p pl order (after p k) (range k) (e .tick) (h .late) (h .end) (e .event) in
+        let now : s' .last ≡ e .tick = last-at k e s' t in
         let live : alive p (s' .done) x ≡ true = ap (λ (d : ℕ). alive p d x) (ap (λ (z : State). z .done) (h .leads) ∙ a .2) ∙ a .1 in
         let one = same-at k e s' t x c q last (omega (arith, w .early, h .late)) b (ok .0) (ok .1) part long in
         record {
@@ -181,9 +183,11 @@ module _ (p : Plan) (good : planTest p ≡ true) (order : p .order ≡ numbers 0
       follows = record {
         opens = (opens x xN bytes size) .0;
         same = λ k e s' t c q.
-          let w = keeps k in
-          let ok = keeps-sound (lastTick p x k) (after p k) (recordAfter p x bytes parts k) w in
-          same-at k e s' t x c q (lastTick p x k) (omega (arith, w .early, (happened k e s' t) .late)) (recordAfter p x bytes parts k) (ok .0) (ok .1) (parts k) (long k);
+            let w = keeps k in
+            let b : List ℕ = recordAfter p x bytes parts k in
+            let ok = keeps-sound (lastTick p x k) (after p k) b w in
+            let from : lastTick p x k ≤ e .tick = omega (arith, w .early, (happened k e s' t) .late) in
+            same-at k e s' t x c q (lastTick p x k) from b (ok .0) (ok .1) (parts k) (long k);
         holds = λ k. (keeps k) .bytes;
       }
 

@@ -1,9 +1,9 @@
 -- One event of the platform is the call on the record of the node whose event it is. Assumes nothing.
 use mathlib.Core.Path.{_≡_, refl, sym, ap, _∙_, subst}
-use mathlib.Core.Logic.{_⊎_, inl, inr, _≢_}
+use mathlib.Core.Logic.{inl, inr, _≢_}
 use mathlib.Core.Bool.{Bool, true, false, true≢false, cond, _&&_}
 use mathlib.Core.List.{List, List·Memᴰ}
-use mathlib.Core.Option.{Option, none, some}
+use mathlib.Core.Option.{none, some}
 use Prim.Native.Nat.{ℕ, suc, _≤_, _<_}
 use native.Mathlib.Omega.{arith}
 use native.Mathlib.Decide.{ℕ-discrete}
@@ -13,14 +13,15 @@ use lib.ListN.{length}
 use Rattle.ring.specs.Ring.{numbers}
 use Rattle.ring.specs.Limits.{mostTick}
 use Rattle.node.specs.declared.Node.{Node}
-use Rattle.node.specs.Node.{Turn, R, onMessage, onWatchDue, onHeartbeatDue, silent}
+use Rattle.node.specs.Node.{Turn, R}
 use Rattle.host.specs.declared.Record.{Record}
 use Rattle.host.specs.Record.{encode, decode, sound}
 use Rattle.host.specs.Call.{partSize, moved, delivered}
 use Rattle.host.proofs.Facts.{Kind, heartbeat as kindH, observer as kindO, report as kindR}
 use Rattle.host.proofs.Accepted.{Accepted, deliver-accepted, timers-accepted, fired-watch, fired-heartbeat}
 use Rattle.runfile.specs.Plan.{Plan}
-use Rattle.model.specs.Platform.{InFlight, State, Event, Entry, crash, message, watch, heartbeat, alive, nextEvent, nodeOf, messageAt, taken, without, received, apply}
+use Rattle.model.specs.Platform.{InFlight, State, Event, crash, message, watch, heartbeat, alive, nextEvent, nodeOf, messageAt}
+use Rattle.model.specs.Platform.{taken, without, received, apply}
 use Rattle.model.specs.Range.{Plain, Known, FlightRange, Sound}
 use Rattle.model.proofs.NextEvent.{Chosen}
 use Rattle.model.proofs.RangesKept.{at-mem, in-n, here, other}
@@ -45,11 +46,14 @@ both : (a b : Bool) → (a && b) ≡ true → (a ≡ true) × (b ≡ true)
 both true b e = (refl, e)
 both false b e = absurd (true≢false (sym e))
 
--- a state in range, in which the subject of every report in flight is crashed, and the tick of an event
-module _ (p : Plan) (pl : Plain p) (order : p .order ≡ numbers 0 (p .n)) (s : State) (r : Sound p s) (t : ℕ) (late : s .last ≤ t) (end : t ≤ p .end) where
+-- a state in range, and the tick of an event
+module _ (p : Plan) (pl : Plain p) (order : p .order ≡ numbers 0 (p .n)) (s : State) (r : Sound p s) (t : ℕ) (late : s .last ≤ t)
+    (end : t ≤ p .end) where
   -- ---- whose call it is
 
-  pub called-live : (ev : Event) → Chosen p pl s t ev → (x : ℕ) (c : Call) → callTo p s x ev ≡ some c → (x < p .n) × (alive p (s .done) x ≡ true) × ((apply p s t ev) .done ≡ s .done)
+  -- an event that is a call to x: x is live, and stays so
+  pub called-live : (ev : Event) → Chosen p pl s t ev → (x : ℕ) (c : Call) → callTo p s x ev ≡ some c
+      → (x < p .n) × (alive p (s .done) x ≡ true) × ((apply p s t ev) .done ≡ s .done)
   unfolding callTo Chosen apply taken
   called-live (crash k) ch x c q = let z : _≡_ {A = ℕ} 0 1 = cc in absurd (omega arith)
   called-live (message i) ch x c q =
@@ -103,28 +107,34 @@ module _ (p : Plan) (pl : Plain p) (order : p .order ≡ numbers 0 (p .n)) (s : 
   }
 
   module _ (last : ℕ) (l : last ≤ t) (b : List ℕ) (ok : sound b ≡ true) (part : List ℕ) (long : partSize ≤ length part) where
+    abbrev delivery : ℕ → Call
+    delivery i = deliver ((messageAt s i) .kind) ((messageAt s i) .from) ((messageAt s i) .subject)
+
     message-same : (i : ℕ) → Chosen p pl s t (message i)
         → ((m : InFlight) → List·Memᴰ m (s .flight) → m .kind ≡ R → alive p (s .done) (m .subject) ≡ false)
         → alive p (s .done) ((messageAt s i) .to) ≡ true → decode b ≡ recordOf p ((messageAt s i) .to) last (nodeOf s ((messageAt s i) .to))
-        → SameEvent p s (record { tick = t; event = message i }) (apply p s t (message i)) ((messageAt s i) .to) (deliver ((messageAt s i) .kind) ((messageAt s i) .from) ((messageAt s i) .subject)) b part
+        → SameEvent p s (record { tick = t; event = message i }) (apply p s t (message i)) ((messageAt s i) .to) (delivery i) b part
     unfolding Chosen apply received found answers leaves sends recordOf delivered
     message-same i ch reported a d =
         let m : InFlight = messageAt s i in
         let has : List·Memᴰ m (s .flight) = at-mem (s .flight) i (ch .0) in
         let f : FlightRange p (s .last) m = r .flying m has in
         let k : Record = recordOf p (m .to) last (nodeOf s (m .to)) in
-        let about : m .kind ≡ R → (m .subject < p .n) × (m .subject ≡ m .to → ⊥) = λ q. (f .subject, λ e. true≢false (sym a ∙ ap (alive p (s .done)) (sym e) ∙ reported m has q)) in
+        let about : m .kind ≡ R → (m .subject < p .n) × (m .subject ≡ m .to → ⊥) =
+        λ q. (f .subject, λ e. true≢false (sym a ∙ ap (alive p (s .done)) (sym e) ∙ reported m has q)) in
         let u : delivered k t (m .kind) (m .from) (m .subject) ≡ received p s t m = rw (a, order) in
-        subst (λ (v : Turn). SameEvent p s (record { tick = t; event = message i }) (taken p s t (m .to) (without i (s .flight)) v) (m .to) (deliver (m .kind) (m .from) (m .subject)) b part) u
-        (same (m .to) (f .to) last (message i) (delivered k t (m .kind) (m .from) (m .subject)) (deliver (m .kind) (m .from) (m .subject)) b part
-        (deliver-accepted b k ok d t l ends part long (m .kind) (m .from) (m .subject) (kind-of (m .kind) (f .kind)) (f .from) (f .apart) about (f .to)))
+        subst (λ (v : Turn). SameEvent p s (record { tick = t; event = message i }) (taken p s t (m .to) (without i (s .flight)) v) (m .to) (delivery i) b part)
+        u (same (m .to) (f .to) last (message i) (delivered k t (m .kind) (m .from) (m .subject)) (delivery i) b part
+        (deliver-accepted b k ok d t l ends part long (m .kind) (m .from) (m .subject) (kind-of (m .kind) (f .kind)) (f .from) (f .apart)
+        about (f .to)))
 
     watch-same : (x : ℕ) → Chosen p pl s t (watch x) → decode b ≡ recordOf p x last (nodeOf s x)
         → SameEvent p s (record { tick = t; event = watch x }) (apply p s t (watch x)) x timers b part
     unfolding Chosen apply found answers leaves sends recordOf
     watch-same x ch d =
         let k : Record = recordOf p x last (nodeOf s x) in
-        subst (λ (v : Turn). SameEvent p s (record { tick = t; event = watch x }) (taken p s t x (s .flight) v) x timers b part) (fired-watch k t (ch .2) ∙ rw order)
+        subst (λ (v : Turn). SameEvent p s (record { tick = t; event = watch x }) (taken p s t x (s .flight) v) x timers b part)
+        (fired-watch k t (ch .2) ∙ rw order)
         (same x (in-n p pl s r x (ch .0)) last (watch x) _ timers b part (timers-accepted b k ok d t l ends part long))
 
     heartbeat-same : (x : ℕ) → Chosen p pl s t (heartbeat x) → nextEvent p s ≡ some (record { tick = t; event = heartbeat x })
@@ -135,7 +145,8 @@ module _ (p : Plan) (pl : Plain p) (order : p .order ≡ numbers 0 (p .n)) (s : 
         let k : Record = recordOf p x last (nodeOf s x) in
         let ne : (nodeOf s x) .watch ≢ suc t = watch-first p pl s t x (ch .0) (ch .1) n in
         let later : ((nodeOf s x) .watch ≡ 0 → ⊥) → suc t < (nodeOf s x) .watch = λ z. omega (arith, ch .3 .watch x (ch .1) z) in
-        subst (λ (v : Turn). SameEvent p s (record { tick = t; event = heartbeat x }) (taken p s t x (s .flight) v) x timers b part) (fired-heartbeat k t later (ch .2))
+        subst (λ (v : Turn). SameEvent p s (record { tick = t; event = heartbeat x }) (taken p s t x (s .flight) v) x timers b part)
+        (fired-heartbeat k t later (ch .2))
         (same x (in-n p pl s r x (ch .0)) last (heartbeat x) _ timers b part (timers-accepted b k ok d t l ends part long))
 
     -- any event, to any node
@@ -146,7 +157,7 @@ module _ (p : Plan) (pl : Plain p) (order : p .order ≡ numbers 0 (p .n)) (s : 
     unfolding callTo
     event-same reported (crash k) ch n x c q d = let z : _≡_ {A = ℕ} 0 1 = cc in absurd (omega arith)
     event-same reported (message i) ch n x c q d =
-        let o = one-call _ (deliver ((messageAt s i) .kind) ((messageAt s i) .from) ((messageAt s i) .subject)) c q in
+        let o = one-call _ (delivery i) c q in
         let a = both (eqb ((messageAt s i) .to) x) (alive p (s .done) x) (o .0) in
         let e : (messageAt s i) .to ≡ x = eqb-true ((messageAt s i) .to) x (a .0) in
         rw (← o .1, ← e) (message-same i ch reported (rw e (a .1)) (rw e d))

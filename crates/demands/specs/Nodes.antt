@@ -14,9 +14,11 @@ use Rattle.node.specs.declared.Node.{Node}
 use Rattle.node.specs.Node.{mostSent}
 use Rattle.host.specs.declared.Record.{Record}
 use Rattle.host.specs.Record.{recordSize, encode, decode, sound}
-use Rattle.host.specs.Call.{accepted, partSize, putMessages, openAnswer, openLeaves, deliverAnswer, deliverLeaves, deliverSends, timersAnswer, timersLeaves, timersSends}
+use Rattle.host.specs.Call.{accepted, partSize, putMessages, openAnswer, openLeaves}
+use Rattle.host.specs.Call.{deliverAnswer, deliverLeaves, deliverSends, timersAnswer, timersLeaves, timersSends}
 use Rattle.runfile.specs.Plan.{Plan}
-use Rattle.model.specs.Platform.{InFlight, State, Event, Entry, Outcome, crash, message, watch, heartbeat, did, ended, refused, alive, start, nodeOf, messageAt, numbered, without, try, after}
+use Rattle.model.specs.Platform.{InFlight, State, Event, Entry, Outcome, crash, message, watch, heartbeat, did, ended, refused}
+use Rattle.model.specs.Platform.{alive, start, nodeOf, messageAt, numbered, without, try, after}
 
 -- ---- a node's record
 
@@ -120,9 +122,9 @@ pub record Follows (p : Plan) (x : ℕ) (bytes : List ℕ) (parts : ℕ → List
 
 -- ---- the statement, of an accepted file's plan
 
--- A record with x's fields and any earlier last tick may be out of range: a watch is due by 2 × W after the last tick. With
--- `P,2,1,2,1,20` node 0's watch is due at 12 once tick 10 is over, so that a record of node 0 with last tick 0 gets 10. So
--- `event` asks for a record in range, and `inRange` says which last ticks give one; `run` has no such condition.
+-- A record that holds x's fields with an earlier last tick may be out of range, since a watch is due by 2 × W after the last tick: with
+-- `P,2,1,2,1,20`, after eight events, node 0's watch is due at tick 5, and a record of it with last tick 0 gets 10
+-- (proofs/EarlyTick.antt). So `event` asks for a record in range, and `inRange` says which last ticks give one; `run` asks for none.
 pub record SameAsNodes (p : Plan) : Type 0 where
   -- opening: any 64 lent bytes become the record that holds x's fields at opening
   pub opened : (x : ℕ) → x < p .n → (bytes : List ℕ) → length bytes ≡ recordSize

@@ -1,20 +1,21 @@
 -- A call on a record in range, at a tick and with a message that are taken and a part that is long enough, is accepted, and does
 -- the turn of the record's node. Assumes nothing.
 use mathlib.Core.Path.{_≡_, refl, sym, _∙_}
-use mathlib.Core.Bool.{true, false, _&&_}
+use mathlib.Core.Bool.{true, false}
 use mathlib.Core.List.{List}
 use Prim.Native.Nat.{ℕ, _+_, _≤_, _<_}
 use native.Mathlib.Omega.{arith}
 use native.Mathlib.Decide.{ℕ-discrete}
 use borrow.Author.Tests.{eq-eqb, lt-ltb, le-leb, lt-leb}
-use lib.Dec.{leb}
 use lib.ListN.{length}
 use Rattle.ring.specs.Limits.{mostNodes, mostH, mostW, mostTick}
 use Rattle.ring.specs.Ring.{numbers}
 use Rattle.node.specs.Node.{Turn, mostSent, R, due, message, onWatchDue, onHeartbeatDue}
 use Rattle.host.specs.declared.Record.{Record}
 use Rattle.host.specs.Record.{recordSize, encode, decode, openable, sound}
-use Rattle.host.specs.Call.{accepted, tickTaken, messageTaken, partSize, putMessages, moved, recordAfter, partAfter, openAnswer, openedRecord, openLeaves, delivered, deliverAnswer, deliverLeaves, deliverSends, dueBy, fired, timersAnswer, timersLeaves, timersSends}
+use Rattle.host.specs.Call.{accepted, tickTaken, messageTaken, partSize, putMessages, moved, recordAfter, partAfter}
+use Rattle.host.specs.Call.{openAnswer, openedRecord, openLeaves, delivered, deliverAnswer, deliverLeaves, deliverSends}
+use Rattle.host.specs.Call.{dueBy, fired, timersAnswer, timersLeaves, timersSends}
 use Rattle.host.proofs.Facts.{Kind, Openable, sound-facts}
 use Rattle.host.proofs.Calls.{answer-accepted, delivered-few, fired-few}
 use Rattle.host.proofs.Tests.{due-off, due-on}
@@ -58,15 +59,19 @@ tick-taken : (r : Record) (tick : ℕ) → r .last ≤ tick → tick ≤ mostTic
 unfolding tickTaken
 tick-taken r tick h l = rw (le-leb (r .last) tick h, le-leb tick mostTick l)
 
-module _ (s : List ℕ) (r : Record) (ok : sound s ≡ true) (d : decode s ≡ r) (tick : ℕ) (from : r .last ≤ tick) (to : tick ≤ mostTick) (part : List ℕ) (long : partSize ≤ length part) where
+module _ (s : List ℕ) (r : Record) (ok : sound s ≡ true) (d : decode s ≡ r) (tick : ℕ) (from : r .last ≤ tick) (to : tick ≤ mostTick)
+    (part : List ℕ) (long : partSize ≤ length part) where
   taken-at : tickTaken (decode s) tick ≡ true
   taken-at = rw d (tick-taken r tick from to)
 
-  pub deliver-accepted : (kind sender subject : ℕ) → Kind kind → sender < r .nodes → (sender ≡ r .number → ⊥) → (kind ≡ R → (subject < r .nodes) × (subject ≡ r .number → ⊥)) → r .number < r .nodes
-      → Accepted r tick (delivered r tick kind sender subject) part (deliverAnswer s tick kind sender subject part) (deliverLeaves s tick kind sender subject part) (deliverSends s tick kind sender subject part)
+  pub deliver-accepted : (kind sender subject : ℕ) → Kind kind → sender < r .nodes → (sender ≡ r .number → ⊥)
+      → (kind ≡ R → (subject < r .nodes) × (subject ≡ r .number → ⊥)) → r .number < r .nodes
+      → Accepted r tick (delivered r tick kind sender subject) part (deliverAnswer s tick kind sender subject part)
+      (deliverLeaves s tick kind sender subject part) (deliverSends s tick kind sender subject part)
   unfolding deliverLeaves deliverSends deliverAnswer
   deliver-accepted kind sender subject k below other about own =
-      let m : messageTaken r kind sender subject ≡ true = sent-is-taken sender (message kind (r .number) subject) r below (record { known = k; below = own; other = λ z. other (sym z); about = about }) refl in
+      let m : messageTaken r kind sender subject ≡ true =
+      sent-is-taken sender (message kind (r .number) subject) r below (record { known = k; below = own; other = λ z. other (sym z); about = about }) refl in
       rw (← d) (turned-so s (decode s) tick (delivered (decode s) tick kind sender subject) part _ refl
       (answer-accepted _ _ _ _ ok taken-at (rw d m) (le-leb partSize (length part) long))
       (delivered-few (decode s) tick kind sender subject (sound-facts s ok .fields)))
@@ -99,5 +104,6 @@ module _ (r : Record) (tick : ℕ) where
       → fired r tick ≡ onHeartbeatDue (r .h) tick (r .node)
   unfolding fired
   fired-heartbeat late e =
-      let now : dueBy tick (r .node .heartbeat) ≡ true = due-on tick (r .node .heartbeat) (λ z. omega arith) ∙ le-leb (r .node .heartbeat) (tick + 1) (omega arith) in
+      let now : dueBy tick (r .node .heartbeat) ≡ true =
+      due-on tick (r .node .heartbeat) (λ z. omega arith) ∙ le-leb (r .node .heartbeat) (tick + 1) (omega arith) in
       rw (later late, now)

@@ -1,8 +1,8 @@
 -- An event that is done was the next one and led to what it does; and a node's watch goes before its heartbeat. Assumes nothing.
-use mathlib.Core.Path.{_≡_, refl, sym, ap, ap₂, _∙_}
+use mathlib.Core.Path.{_≡_, refl, sym, ap, _∙_}
 use mathlib.Core.Logic.{_⊎_, inl, inr, _≢_}
 use mathlib.Core.Bool.{Bool, true, false, cond}
-use mathlib.Core.List.{List, [], _∷_, _++_, append-assoc, List·Memᴰ, List·Memᴰ·append-cases}
+use mathlib.Core.List.{List, _∷_, _++_, append-assoc, List·Memᴰ, List·Memᴰ·append-cases}
 use mathlib.Core.Option.{Option, none, some}
 use Prim.Native.Nat.{ℕ, suc, _+_, _≤_, _<_}
 use native.Mathlib.Nat.{zero-add}
@@ -12,7 +12,8 @@ use lib.Dec.{leb}
 use lib.ListN.{length, getD, take, drop, length-take}
 use Rattle.node.specs.Node.{alone}
 use Rattle.runfile.specs.Plan.{Plan}
-use Rattle.model.specs.Platform.{State, Entry, Outcome, message, watch, heartbeat, did, ended, refused, alive, messageEntries, timerEntry, timerEntries, earlier, first, upTo, nextEvent, nodeOf, noMessage, apply, fits, tried, try, left, start, steps, after}
+use Rattle.model.specs.Platform.{State, Entry, watch, heartbeat, did, refused, alive, messageEntries, timerEntry, timerEntries}
+use Rattle.model.specs.Platform.{earlier, first, upTo, nextEvent, nodeOf, apply, fits, tried, try, left, start, steps, after}
 use Rattle.model.specs.Range.{Plain, Sound}
 use Rattle.model.proofs.NextEvent.{FirstOf, first-of, soon, next-soon, nextCrash, crash-in, msg-in, Ticks, timer-in, Chosen, Best, best}
 use Rattle.model.proofs.RangesKept.{not-early}
@@ -81,11 +82,14 @@ module _ (p : Plan) (pl : Plain p) (s : State) (t x : ℕ) (h : x < length (s .n
   abbrev Rest : List Entry
   Rest = timerEntry ((nodeOf s x) .heartbeat) (heartbeat x) ++ timerEntries p (s .done) (suc x) (drop (suc x) (s .nodes))
 
+  abbrev Mine : List Entry
+  Mine = timerEntry (suc t) (watch x) ++ timerEntry ((nodeOf s x) .heartbeat) (heartbeat x)
+
   watch-there : (nodeOf s x) .watch ≡ suc t → soon p s ≡ (Others ++ Before) ++ (record { tick = t; event = watch x } ∷ Rest)
   unfolding soon timerEntry
   watch-there q = ap (λ (c : List Entry). nextCrash (drop (s .done) (p .crashes)) ++ (messageEntries 0 (s .flight) ++ c)) mine ∙ simp append-assoc
     where
-      mine : timerEntries p (s .done) 0 (s .nodes) ≡ Before ++ ((timerEntry (suc t) (watch x) ++ timerEntry ((nodeOf s x) .heartbeat) (heartbeat x)) ++ timerEntries p (s .done) (suc x) (drop (suc x) (s .nodes)))
+      mine : timerEntries p (s .done) 0 (s .nodes) ≡ Before ++ (Mine ++ timerEntries p (s .done) (suc x) (drop (suc x) (s .nodes)))
       mine = rw (zero-add x, l, q) at (timer-split p (s .done) (alone x 0) (s .nodes) 0 x h)
 
   not-among : List·Memᴰ beat (Others ++ Before) → ⊥
@@ -95,7 +99,9 @@ module _ (p : Plan) (pl : Plain p) (s : State) (t x : ℕ) (h : x < length (s .n
       two (inl m) = let r = crash-in p pl s beat m in let z : _≡_ {A = ℕ} 0 1 = cc (ap (λ (a : Entry). a .event) (r .1)) in omega arith
       two (inr m) = let r = msg-in (s .flight) 0 beat m in let z : _≡_ {A = ℕ} 0 1 = cc (ap (λ (a : Entry). a .event) (r .2)) in omega arith
 
-      timer : (r : Ticks p (s .done) 0 (take x (s .nodes)) beat) → ((heartbeat x ≡ watch (0 + r .i)) × ((getD (take x (s .nodes)) (r .i) (alone 0 0)) .watch ≡ suc t)) ⊎ ((heartbeat x ≡ heartbeat (0 + r .i)) × ((getD (take x (s .nodes)) (r .i) (alone 0 0)) .heartbeat ≡ suc t)) → ⊥
+      timer : (r : Ticks p (s .done) 0 (take x (s .nodes)) beat)
+          → ((heartbeat x ≡ watch (0 + r .i)) × ((getD (take x (s .nodes)) (r .i) (alone 0 0)) .watch ≡ suc t))
+          ⊎ ((heartbeat x ≡ heartbeat (0 + r .i)) × ((getD (take x (s .nodes)) (r .i) (alone 0 0)) .heartbeat ≡ suc t)) → ⊥
       timer r (inl q) = let z : _≡_ {A = ℕ} 0 1 = cc (q .0) in omega arith
       timer r (inr q) = let z : x ≡ 0 + r .i = cc (q .0) in omega (arith, r .less, length-take x (s .nodes))
 
@@ -117,5 +123,7 @@ module _ (p : Plan) (pl : Plain p) (s : State) (t x : ℕ) (h : x < length (s .n
       go (some g) f u = at (leb (g .tick) (p .end)) u
         where
           at : (b : Bool) → cond b (some g) none ≡ some beat → ⊥
-          at true u = let z : g ≡ beat = cc in never (first-not-after (Others ++ Before) Rest (record { tick = t; event = watch x }) beat (ap first (sym (watch-there q)) ∙ f ∙ ap some z) refl)
+          at true u =
+              let z : g ≡ beat = cc in
+              never (first-not-after (Others ++ Before) Rest (record { tick = t; event = watch x }) beat (ap first (sym (watch-there q)) ∙ f ∙ ap some z) refl)
           at false u = let z : _≡_ {A = ℕ} 0 1 = cc in omega arith
