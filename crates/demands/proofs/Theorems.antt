@@ -4,6 +4,7 @@ use Rattle.logline.proofs.LineTrip.{written-of-read, read-of-written}
 use Rattle.demands.specs.Demands.{Demand1, Demand2, Demand3}
 use Rattle.demands.proofs.Demand1.{open-down, step-down, run-down, run-bad-store, write-down, open-record-down, deliver-down, fire-down, line-taken, line-only, line-down, table-down}
 use Rattle.demands.proofs.Demand2.{next-events, file-again}
+use Rattle.demands.proofs.Nodes.{rehearsed}
 use Rattle.demands.proofs.Demand3.{any-calls}
 
 -- refused by number, with nothing lent to the call written, and all else accepted
@@ -27,7 +28,7 @@ demand1 = record {
 
 -- every event and line as 01 fixes them, and the same bytes when read and written again
 pub demand2 : Demand2
-demand2 = record { events = next-events; fileAgain = file-again; lineAgain = written-of-read; lineBack = read-of-written }
+demand2 = record { nodes = rehearsed; events = next-events; fileAgain = file-again; lineAgain = written-of-read; lineBack = read-of-written }
 
 -- no live node is ever listed, and the platform settles between two crashes
 pub demand3 : Demand3

@@ -30,6 +30,7 @@ use Rattle.platform.specs.declared.Ran.the-variants.{Done as Finished, Spent, R
 use Rattle.platform.specs.declared.Wrote.the-variants.{Bytes}
 use Rattle.platform.specs.Calls.{fileRoom, linesText, openFile, step, ran, run, writeFile, openRefusal, stepRefusal, runRefusal, writeRefusal}
 use Rattle.platform.specs.CallLists.{Call, storeAfterAll, NoneAnswers, eventsOf}
+use Rattle.demands.specs.Nodes.{SameAsNodes}
 
 -- ---- DEMAND 1: 'Refused by number, with nothing lent to the call written .. All else is accepted, and every call returns, with no duty on
 -- the caller beforehand'. That a call returns whatever it is lent is in its contract, which asks for nothing.
@@ -171,6 +172,8 @@ pub record NextEvents (p : Plan) (cs : List Call) (store : List ℕ) : Type 0 wh
       → run store budget .answer ≡ ran (runAnswer p budget (after p (eventsOf p cs))) (eventCount p budget (after p (eventsOf p cs)))
 
 pub record Demand2 : Type 0 where
+  -- 'We choose time-outs by rehearsal, and one that differs from the nodes chooses wrongly': what is rehearsed is what the nodes do
+  pub nodes : (file : List ℕ) (p : Plan) → fileOf file ≡ accepted p → SameAsNodes p
   -- events and lines
   pub events : (file store : List ℕ) (p : Plan) → fileOf file ≡ accepted p → length store ≡ storeSize
       → (cs : List Call) → NextEvents p cs (storeOf file store cs)

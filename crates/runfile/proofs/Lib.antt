@@ -8,5 +8,6 @@ pub mod Reading
 pub mod Written
 pub mod Size
 pub mod RoundTrip
+pub mod Refusals
 pub mod Places
 pub mod Writing
