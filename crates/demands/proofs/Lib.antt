@@ -4,5 +4,5 @@ pub mod Demand3
 pub mod Demand2
 pub mod OneEvent
 pub mod Nodes
-pub mod EarlyTick
+pub mod Worked
 pub mod Theorems

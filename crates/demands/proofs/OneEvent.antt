@@ -57,7 +57,8 @@ module _ (p : Plan) (pl : Plain p) (order : p .order ≡ numbers 0 (p .n)) (s : 
   unfolding callTo Chosen apply taken
   called-live (crash k) ch x c q = let z : _≡_ {A = ℕ} 0 1 = cc in absurd (omega arith)
   called-live (message i) ch x c q =
-      let a = both (eqb ((messageAt s i) .to) x) (alive p (s .done) x) ((one-call _ _ c q) .0) in
+      let o = one-call _ _ c q in
+      let a = both (eqb ((messageAt s i) .to) x) _ (o .0) in
       (rw (← eqb-true ((messageAt s i) .to) x (a .0)) ((r .flying (messageAt s i) (at-mem (s .flight) i (ch .0))) .to), a .1, refl)
   called-live (watch y) ch x c q = let e : y ≡ x = eqb-true y x ((one-call _ _ c q) .0) in rw (← e) (in-n p pl s r y (ch .0), ch .1, refl)
   called-live (heartbeat y) ch x c q = let e : y ≡ x = eqb-true y x ((one-call _ _ c q) .0) in rw (← e) (in-n p pl s r y (ch .0), ch .1, refl)
@@ -158,7 +159,7 @@ module _ (p : Plan) (pl : Plain p) (order : p .order ≡ numbers 0 (p .n)) (s : 
     event-same reported (crash k) ch n x c q d = let z : _≡_ {A = ℕ} 0 1 = cc in absurd (omega arith)
     event-same reported (message i) ch n x c q d =
         let o = one-call _ (delivery i) c q in
-        let a = both (eqb ((messageAt s i) .to) x) (alive p (s .done) x) (o .0) in
+        let a = both (eqb ((messageAt s i) .to) x) _ (o .0) in
         let e : (messageAt s i) .to ≡ x = eqb-true ((messageAt s i) .to) x (a .0) in
         rw (← o .1, ← e) (message-same i ch reported (rw e (a .1)) (rw e d))
     event-same reported (watch y) ch n x c q d =

@@ -1,25 +1,28 @@
--- Why `event` of specs/Nodes.antt asks for a record in range: a record that holds a node's fields, with an earlier last tick, may be
--- refused by 10. The file is P,2,1,2,1,20. After eight events the next is node 0's heartbeat, due at tick 3, and its watch is due
--- at tick 5, which is above 0 + 2 × W. Assumes nothing.
+-- A worked file, P,2,1,2,1,20. After eight events the next is node 0's heartbeat, due at tick 3, and its watch is due at tick 5, which is
+-- above 0 + 2 × W: a record that holds its fields with last tick 0 is refused by 10, which is why `event` of specs/Nodes.antt
+-- asks for a record in range. The record that followed the run has last tick 3 and is taken. Assumes nothing.
 use mathlib.Core.Path.{_≡_, refl, ap, _∙_}
-use mathlib.Core.List.{[]}
+use mathlib.Core.List.{List, []}
 use mathlib.Core.Option.{some}
-use lib.ListN.{replicate}
+use Prim.Native.Nat.{ℕ, _≤_}
+use native.Mathlib.Omega.{arith}
+use lib.ListN.{length, replicate}
 use Rattle.fields.specs.Fields.{bytes, value, fieldAt, zeros}
 use Rattle.ring.specs.Ring.{keep, numbers, listed, listing, unlisted, round, place, ahead, back, next, count, powers, jumps, targets}
 use Rattle.node.specs.declared.Node.{Node}
 use Rattle.node.specs.Node.{reports, opening, onHeartbeat, onObserver, onReport, onHeartbeatDue, onWatchDue, onMessage}
-use Rattle.host.specs.Record.{numbersBytes, neighboursBytes, ticksBytes, encode, decode, openable}
+use Rattle.host.specs.Record.{numbersBytes, neighboursBytes, ticksBytes, encode, decode, openable, recordSize}
 use Rattle.host.specs.Record.{neighboursInRange, apart, timersInRange, inRange, sound}
-use Rattle.host.specs.Call.{badRecord, partSize, answer, timersAnswer}
+use Rattle.host.specs.Call.{badRecord, accepted as taken, partSize, answer, tickTaken, timersAnswer}
 use Rattle.runfile.specs.Plan.{Plan, planText, within, startRanges, longEnough, rising, hits, noneTwice, crashOrder, delayOrder}
 use Rattle.runfile.specs.Plan.{fewDelays, every, startTest, crashTest, delayTest, planTest}
 use Rattle.runfile.specs.File.{accepted, fileOf}
 use Rattle.runfile.proofs.RoundTrip.{read-back}
 use Rattle.model.specs.Platform.{heartbeat, alive, start, crashEntries, messageEntries, timerEntry, timerEntries, pending, earlier, first}
-use Rattle.model.specs.Platform.{upTo, nextEvent, delayIn, delayOf, numbered, nodeOf, taken, without, received, apply, fits, tried, try}
+use Rattle.model.specs.Platform.{upTo, nextEvent, delayIn, delayOf, numbered, nodeOf, taken as turned, without, received, apply, fits, tried, try}
 use Rattle.model.specs.Platform.{left, steps, after}
-use Rattle.demands.specs.Nodes.{recordOf}
+use Rattle.demands.specs.Nodes.{recordOf, callTo, recordAfter, tickOr, ticked, lastTick}
+use Rattle.demands.proofs.Nodes.{rehearsed}
 
 unfoldable pub two : Plan
 two = record { n = 2; h = 1; w = 2; d = 1; end = 20; order = numbers 0 2; crashes = []; delays = [] }
@@ -32,11 +35,14 @@ is-accepted = read-back two refl refl
 unfoldable pub node : Node
 node = record { emitter = 1; observer = 1; watch = 6; heartbeat = 4; list = 0 }
 
-pub ninth : (nodeOf (after two 8) 0 ≡ node) × (nextEvent two (after two 8) ≡ some (record { tick = 3; event = heartbeat 0 }))
+pub ninth : (nodeOf (after two 8) 0 ≡ node)
+    × (nextEvent two (after two 8) ≡ some (record { tick = 3; event = heartbeat 0 }))
+    × (lastTick two 0 8 ≡ 3)
 unfolding two node keep numbers listed listing unlisted round place ahead back next count powers jumps targets reports opening
     onHeartbeat onObserver onReport onHeartbeatDue onWatchDue onMessage hits alive start crashEntries messageEntries timerEntry
-    timerEntries pending earlier first upTo nextEvent delayIn delayOf numbered taken without received apply fits tried try left steps after
-ninth = (refl, refl)
+    timerEntries pending earlier first upTo nextEvent delayIn delayOf numbered turned without received apply fits tried try left steps after
+    callTo tickOr ticked lastTick
+ninth = (refl, refl, refl)
 
 out-of-range : timersAnswer (encode (recordOf two 0 0 node)) 3 (replicate partSize 0) ≡ badRecord
 unfolding two node recordOf bytes value fieldAt zeros numbersBytes neighboursBytes ticksBytes encode decode openable
@@ -45,3 +51,16 @@ out-of-range = refl
 
 pub early-tick-refused : timersAnswer (encode (recordOf two 0 0 (nodeOf (after two 8) 0))) 3 (replicate partSize 0) ≡ badRecord
 early-tick-refused = ap (λ (n : Node). timersAnswer (encode (recordOf two 0 0 n)) 3 (replicate partSize 0)) (ninth .0) ∙ out-of-range
+
+-- the record that has followed the run
+pub followed-so : (bytes : List ℕ) → length bytes ≡ recordSize → (parts : ℕ → List ℕ) → ((i : ℕ) → partSize ≤ length (parts i))
+    → recordAfter two 0 bytes parts 8 ≡ encode (recordOf two 0 3 node)
+unfolding two
+followed-so bytes size parts long =
+    rw (← ninth .0, ← ninth .2) ((rehearsed (planText two) two is-accepted) .run 0 (omega arith) bytes size parts long .holds 8)
+
+-- and the call of the ninth event takes it
+pub late-tick-taken : timersAnswer (encode (recordOf two 0 3 node)) 3 (replicate partSize 0) ≡ taken
+unfolding two node recordOf bytes value fieldAt zeros numbersBytes neighboursBytes ticksBytes encode decode openable
+    neighboursInRange apart timersInRange inRange sound answer tickTaken timersAnswer listed
+late-tick-taken = refl
