@@ -13,8 +13,9 @@
  * the program lends to each call. What a call may write must not overlap with anything else that is lent to it, and no
  * pointer may be null.
  *
- * An accepted call answers KELBRAUT_ACCEPTED. A refused one answers another number and changes no byte of a record, of a
- * store or of a part for writing; only a run that is refused by 8 keeps the events before it.
+ * An accepted call answers KELBRAUT_ACCEPTED. A refused one answers another number and writes nothing that is lent to it:
+ * no byte of a record, of a store or of a part, and no number behind a pointer. Only a run that is refused by 8 keeps the
+ * events before it, and says how many they are.
  */
 #ifndef KELBRAUT_H
 #define KELBRAUT_H
@@ -127,13 +128,12 @@ static inline uint8_t kelbraut_subject(const uint8_t message[KELBRAUT_MESSAGE]) 
  * opened from it and holds the rehearsal; each call on it does the next events. To write the log of a run file:
  *
  *     uint8_t store[KELBRAUT_STORE], log[KELBRAUT_LOG_PART];
- *     uint64_t line, letter, tick, node, other, size;
- *     uint64_t answer = kelbraut_open(file, file_size, store, sizeof store, &line);
- *     while (answer == KELBRAUT_ACCEPTED) {
+ *     uint64_t letter = 0, tick, node, other, size;
+ *     uint64_t answer = kelbraut_open(file, file_size, store, sizeof store);
+ *     while (answer == KELBRAUT_ACCEPTED && letter != KELBRAUT_END) {
  *         answer = kelbraut_step(store, sizeof store, log, sizeof log, &letter, &tick, &node, &other, &size);
- *         fwrite(log, 1, size, stdout);
- *         if (letter == KELBRAUT_END) {
- *             break;
+ *         if (answer == KELBRAUT_ACCEPTED) {
+ *             fwrite(log, 1, size, stdout);
  *         }
  *     }
  *
@@ -141,8 +141,8 @@ static inline uint8_t kelbraut_subject(const uint8_t message[KELBRAUT_MESSAGE]) 
  * rehearsal at that moment, from which one can go on as often as one likes. A store that was opened, and that only these
  * calls have written since, is never refused by 7.
  *
- * The numbers that a call puts behind its pointers are part of its answer: every call writes all of them, a refused one
- * too, and they are 0 where there is nothing to say.
+ * An accepted call writes every number behind its pointers. A refused one leaves them as they were, so look at the answer
+ * first; on 8 a run writes `events` alone.
  *
  * Run file: lines of fields parted by commas, each line ended by one line feed (hexadecimal 0A); first the P line, then C
  * lines, then L lines. Numbers are decimal, with no sign, space or leading zero.
@@ -179,33 +179,40 @@ static inline uint8_t kelbraut_subject(const uint8_t message[KELBRAUT_MESSAGE]) 
                                 messages are in flight, list: the crashed nodes */
 
 /*
- * Opens a store from a run file. All bytes of the store are written, whatever they held. `line` is the first bad line,
- * counted from 1; 0 where the answer is 0, 1 or 7.
- * Answers 0, 1, then for the first bad line 2, 3, 4, 5 or 6, then 7, which here is about the store's length alone.
+ * Opens a store from a run file and writes all of its bytes, whatever they held. Answers 0, or, with nothing written, the
+ * number of the refusal and its line in one:
+ *
+ *     KELBRAUT_NUMBER(answer)    1, then for the first bad line 2, 3, 4, 5 or 6, then 7, which here is about the store's
+ *                                length alone
+ *     KELBRAUT_LINE(answer)      the first bad line, counted from 1; 0 where the number is 1 or 7
  */
-uint64_t kelbraut_open(const uint8_t *file, size_t file_size, uint8_t *store, size_t store_size, uint64_t *line);
+uint64_t kelbraut_open(const uint8_t *file, size_t file_size, uint8_t *store, size_t store_size);
+
+#define KELBRAUT_NUMBER(answer) ((answer) % 256)
+#define KELBRAUT_LINE(answer) ((answer) / 256)
 
 /*
  * Does the next event and writes its line at the start of the log part; the rest of that part stays. `letter`, `tick`,
- * `node` and `other` are the line's, `size` is its length. Where no event is left, the line is that of KELBRAUT_END and
- * the store stays. On 8 the store stays as well, so that the next step is refused again.
+ * `node` and `other` become the line's, `size` its length. Where no event is left, the line is that of KELBRAUT_END and the
+ * store stays. A refused step leaves the five numbers, the log part and the store, so that after 8 the next step is refused
+ * again.
  * Answers 0, 7, 9 or 8.
  */
 uint64_t kelbraut_step(uint8_t *store, size_t store_size, uint8_t *log, size_t log_size, uint64_t *letter, uint64_t *tick,
                        uint64_t *node, uint64_t *other, uint64_t *size);
 
 /*
- * Does the next events, as many as `budget` says or as are left up to the end tick, and writes no lines. `events` is how
- * many it did. `spent` is 1 where that is the budget and another event remains; 0 with answer 0 says that none is left.
- * On 8 `events` is how many it did before the refused event, and the store is as just before that event. A call tests the
- * whole store first, so that one run is far quicker than as many steps.
+ * Does the next events, as many as `budget` says or as are left up to the end tick, and writes no lines. `events` becomes how
+ * many it did. `spent` becomes 1 where that is the budget and another event remains, and 0 where none is left. On 7 both
+ * stay. On 8 `events` becomes how many it did before the refused event, `spent` stays, and the store is as just before that
+ * event. A call tests the whole store first, so that one run is far quicker than as many steps.
  * Answers 0, 7 or 8.
  */
 uint64_t kelbraut_run(uint8_t *store, size_t store_size, uint64_t budget, uint64_t *events, uint64_t *spent);
 
 /*
  * Writes the store's run file at the start of a part, byte for byte as it was opened; the rest of that part stays. `size`
- * is the file's length.
+ * becomes the file's length. A refused call leaves `size` and the part.
  * Answers 0, 7 or 9.
  */
 uint64_t kelbraut_write(const uint8_t *store, size_t store_size, uint8_t *part, size_t part_size, uint64_t *size);

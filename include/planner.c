@@ -15,10 +15,9 @@
 static uint8_t store[KELBRAUT_STORE];
 
 static void open_store(const char *file, size_t size) {
-    uint64_t line;
-    uint64_t answer = kelbraut_open((const uint8_t *)file, size, store, sizeof store, &line);
+    uint64_t answer = kelbraut_open((const uint8_t *)file, size, store, sizeof store);
     if (answer != KELBRAUT_ACCEPTED) {
-        printf("%" PRIu64 ",%" PRIu64 "\n", answer, line);
+        printf("%" PRIu64 ",%" PRIu64 "\n", KELBRAUT_NUMBER(answer), KELBRAUT_LINE(answer));
         exit(1);
     }
 }

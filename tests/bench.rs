@@ -35,8 +35,8 @@ struct Timed {
 fn proved_run(file: &[u8], budget: u64) -> Result<Timed, String> {
     let mut store = vec![0; STORE_BYTES];
     let opened = proved::open(file, &mut store);
-    if opened[0] != 0 {
-        return Err(format!("the file is refused by {},{}", opened[0], opened[1]));
+    if opened != 0 {
+        return Err(format!("the file is refused by {},{}", opened % 256, opened / 256));
     }
     let began = Instant::now();
     let answer = proved::call(Call::Run { budget }, &mut store, &mut []);

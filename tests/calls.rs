@@ -12,21 +12,43 @@ pub enum Call {
     Write,
 }
 
-/// The number of the refusal, 0 where accepted; then what is behind the pointers, 0 where there is nothing to say.
+/// The number of the refusal, 0 where accepted; then what stands behind the pointers after the call. A call that has fewer pointers, or
+/// that is refused, leaves what stood before.
 pub type Answer = [u64; 6];
 
+/// What stands behind the pointers before a call, all different.
+const BEFORE: [u64; 5] = [
+    9_000_000_000_000_000_001,
+    9_000_000_000_000_000_002,
+    9_000_000_000_000_000_003,
+    9_000_000_000_000_000_004,
+    9_000_000_000_000_000_005,
+];
+
+/// A number, the first numbers behind the pointers, and the others as before.
+pub fn answer(number: u8, put: &[u64]) -> Answer {
+    let [a, b, c, d, e] = BEFORE;
+    let mut answer = [u64::from(number), a, b, c, d, e];
+    answer[1..=put.len()].copy_from_slice(put);
+    answer
+}
+
 pub fn refused(number: u8) -> Answer {
-    [u64::from(number), 0, 0, 0, 0, 0]
+    answer(number, &[])
+}
+
+/// What opening answers: the number of the refusal and its line.
+pub fn opening(number: u8, line: u64) -> u64 {
+    u64::from(number) + 256 * line
 }
 
 pub mod proved {
-    //! The calls of the static library. A slice goes over as its address and its length. What stands behind the pointers
-    //! before the call must not be seen after it.
-    use super::{Answer, Call};
+    //! The calls of the static library. A slice goes over as its address and its length.
+    use super::{Answer, Call, BEFORE};
 
     #[cfg_attr(not(mock), link(name = "planner", kind = "static"))]
     extern "C" {
-        fn kelbraut_open(file: *const u8, file_size: usize, store: *mut u8, store_size: usize, line: *mut u64) -> u64;
+        fn kelbraut_open(file: *const u8, file_size: usize, store: *mut u8, store_size: usize) -> u64;
         fn kelbraut_step(
             store: *mut u8,
             store_size: usize,
@@ -42,27 +64,21 @@ pub mod proved {
         fn kelbraut_write(store: *const u8, store_size: usize, out: *mut u8, out_size: usize, size: *mut u64) -> u64;
     }
 
-    const BEFORE: u64 = 0x5a5a_5a5a_5a5a_5a5a;
-
-    pub fn open(file: &[u8], store: &mut [u8]) -> Answer {
-        let mut line = BEFORE;
-        let number = unsafe { kelbraut_open(file.as_ptr(), file.len(), store.as_mut_ptr(), store.len(), &mut line) };
-        [number, line, 0, 0, 0, 0]
+    pub fn open(file: &[u8], store: &mut [u8]) -> u64 {
+        unsafe { kelbraut_open(file.as_ptr(), file.len(), store.as_mut_ptr(), store.len()) }
     }
 
     pub fn call(call: Call, store: &mut [u8], part: &mut [u8]) -> Answer {
         let (s, s_size, p, p_size) = (store.as_mut_ptr(), store.len(), part.as_mut_ptr(), part.len());
-        let [mut a, mut b, mut c, mut d, mut e] = [BEFORE; 5];
-        unsafe {
+        let [mut a, mut b, mut c, mut d, mut e] = BEFORE;
+        let number = unsafe {
             match call {
-                Call::Step => {
-                    let number = kelbraut_step(s, s_size, p, p_size, &mut a, &mut b, &mut c, &mut d, &mut e);
-                    [number, a, b, c, d, e]
-                }
-                Call::Run { budget } => [kelbraut_run(s, s_size, budget, &mut a, &mut b), a, b, 0, 0, 0],
-                Call::Write => [kelbraut_write(s, s_size, p, p_size, &mut a), a, 0, 0, 0, 0],
+                Call::Step => kelbraut_step(s, s_size, p, p_size, &mut a, &mut b, &mut c, &mut d, &mut e),
+                Call::Run { budget } => kelbraut_run(s, s_size, budget, &mut a, &mut b),
+                Call::Write => kelbraut_write(s, s_size, p, p_size, &mut a),
             }
-        }
+        };
+        [number, a, b, c, d, e]
     }
 }
 
@@ -75,18 +91,20 @@ fn step(held: &mut Held, log: &mut [u8]) -> Answer {
         Step::Refused => return refused(REFUSED_EVENT),
     };
     let size = line.write(log).expect("the line is in range and the part long enough");
-    [0, u64::from(line.letter), line.tick, line.node, line.other, size as u64]
+    answer(0, &[u64::from(line.letter), line.tick, line.node, line.other, size as u64])
 }
 
 fn run(held: &mut Held, budget: u64) -> Answer {
     let Run { ending, events } = held.platform.run(budget);
-    let number = if ending == Ending::Refused { u64::from(REFUSED_EVENT) } else { 0 };
-    [number, events, u64::from(ending == Ending::Spent), 0, 0, 0]
+    match ending {
+        Ending::Refused => answer(REFUSED_EVENT, &[events]),
+        _ => answer(0, &[events, u64::from(ending == Ending::Spent)]),
+    }
 }
 
 fn write(held: &Held, out: &mut [u8]) -> Answer {
     match held.platform.plan().write(out) {
-        Ok(size) => [0, size as u64, 0, 0, 0, 0],
+        Ok(size) => answer(0, &[size as u64]),
         Err(number) => refused(number),
     }
 }

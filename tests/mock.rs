@@ -1,6 +1,6 @@
 //! The platform's four calls over the simulator and its store, with one mistake at a time: what tests/platform.rs has to find.
 
-use super::calls::{refused, simulated, Answer, Call};
+use super::calls::{opening, refused, simulated, Answer, Call};
 use simulator::limits::*;
 use simulator::plan;
 use simulator::platform::Platform;
@@ -13,12 +13,14 @@ pub enum Mistake {
     None,
     EveryFileRefused,
     LineNotCounted,
+    LineBeforeNumber,
     OpensAnyLength,
     OldBytesLeft,
     StepLeavesStore,
     StepWritesAllOfLog,
     StepTakesShortLog,
-    FieldsOfRefusedStep,
+    LetterOfRefusedStep,
+    SizeOfRefusedStep,
     DoneMovesTheTick,
     RenewedByAnyone,
     RunDoesOneEvent,
@@ -26,24 +28,30 @@ pub enum Mistake {
     DoneForSpent,
     SpentForDone,
     RefusedRunTakenBack,
+    EventsOfRefusedStore,
+    EventsBeforeNotTold,
+    SpentOfRefusedEvent,
     FewerInFlight,
     UnusedNotLookedAt,
     PastNotLookedAt,
     WriterClearsTheRest,
     WriterTakesShortPart,
+    SizeOfRefusedFile,
 }
 
 use Mistake::*;
 
-pub const MISTAKES: [Mistake; 20] = [
+pub const MISTAKES: [Mistake; 26] = [
     EveryFileRefused,
     LineNotCounted,
+    LineBeforeNumber,
     OpensAnyLength,
     OldBytesLeft,
     StepLeavesStore,
     StepWritesAllOfLog,
     StepTakesShortLog,
-    FieldsOfRefusedStep,
+    LetterOfRefusedStep,
+    SizeOfRefusedStep,
     DoneMovesTheTick,
     RenewedByAnyone,
     RunDoesOneEvent,
@@ -51,11 +59,15 @@ pub const MISTAKES: [Mistake; 20] = [
     DoneForSpent,
     SpentForDone,
     RefusedRunTakenBack,
+    EventsOfRefusedStore,
+    EventsBeforeNotTold,
+    SpentOfRefusedEvent,
     FewerInFlight,
     UnusedNotLookedAt,
     PastNotLookedAt,
     WriterClearsTheRest,
     WriterTakesShortPart,
+    SizeOfRefusedFile,
 ];
 
 static MADE: AtomicUsize = AtomicUsize::new(0);
@@ -69,13 +81,11 @@ fn is_made(mistake: Mistake) -> bool {
     MADE.load(Ordering::Relaxed) == mistake as usize
 }
 
-fn open(file: &[u8], store: &mut [u8]) -> Answer {
+fn open(file: &[u8], store: &mut [u8]) -> u64 {
     let plan = match plan::read(file) {
-        Err(refusal) => {
-            let line = if is_made(LineNotCounted) { 1 } else { refusal.line as u64 };
-            return [refusal.number.into(), line, 0, 0, 0, 0];
-        }
-        Ok(_) if is_made(EveryFileRefused) => return refused(REFUSED_FORM),
+        Err(refusal) if is_made(LineBeforeNumber) => return refusal.line as u64 + 256 * u64::from(refusal.number),
+        Err(refusal) => return opening(refusal.number, if is_made(LineNotCounted) { 1 } else { refusal.line as u64 }),
+        Ok(_) if is_made(EveryFileRefused) => return opening(REFUSED_FORM, 0),
         Ok(plan) => plan,
     };
     let bytes = store::encode(&Platform::open(plan));
@@ -84,11 +94,11 @@ fn open(file: &[u8], store: &mut [u8]) -> Answer {
             let length = store.len().min(STORE_BYTES);
             store[..length].copy_from_slice(&bytes[..length]);
         }
-        return refused(REFUSED_STORE);
+        return opening(REFUSED_STORE, 0);
     }
     let kept = if is_made(OldBytesLeft) { STORE_BYTES - 1 } else { STORE_BYTES };
     store[..kept].copy_from_slice(&bytes[..kept]);
-    [0; 6]
+    0
 }
 
 /// The number in the first four bytes.
@@ -139,7 +149,8 @@ fn spoil(call: Call, answer: &mut Answer, before: &[u8], store: &mut [u8], part:
     match (call, answer[0]) {
         (Call::Step, 0) if is_made(StepLeavesStore) => store.copy_from_slice(before),
         (Call::Step, 0) if is_made(StepWritesAllOfLog) => part[answer[5] as usize..].fill(b' '),
-        (Call::Step, 8) if is_made(FieldsOfRefusedStep) => answer[1] = u64::from(b'S'),
+        (Call::Step, 8) if is_made(LetterOfRefusedStep) => answer[1] = u64::from(b'S'),
+        (Call::Step, 7 | 9) if is_made(SizeOfRefusedStep) => answer[5] = 0,
         (Call::Step, 0) if is_made(DoneMovesTheTick) && answer[1] == u64::from(b'E') => {
             store[12..16].copy_from_slice(&before[8..12]);
         }
@@ -155,12 +166,16 @@ fn spoil(call: Call, answer: &mut Answer, before: &[u8], store: &mut [u8], part:
         (Call::Run { .. }, 0) if is_made(DoneForSpent) => answer[2] = 0,
         (Call::Run { budget }, 0) if is_made(SpentForDone) && answer[1] == budget => answer[2] = 1,
         (Call::Run { .. }, 8) if is_made(RefusedRunTakenBack) => store.copy_from_slice(before),
+        (Call::Run { .. }, 7) if is_made(EventsOfRefusedStore) => answer[1] = 0,
+        (Call::Run { .. }, 8) if is_made(EventsBeforeNotTold) => *answer = refused(REFUSED_EVENT),
+        (Call::Run { .. }, 8) if is_made(SpentOfRefusedEvent) => answer[2] = 0,
         (Call::Write, 0) if is_made(WriterClearsTheRest) => part[answer[1] as usize..].fill(0),
+        (Call::Write, 7 | 9) if is_made(SizeOfRefusedFile) => answer[1] = 0,
         _ => {}
     }
 }
 
-/// Puts the numbers behind their pointers and answers the first.
+/// Puts the numbers behind their pointers, those that the call leaves as they were, and answers the first.
 unsafe fn answered(answer: Answer, pointers: &[*mut u64]) -> u64 {
     for (place, pointer) in pointers.iter().enumerate() {
         **pointer = answer[place + 1];
@@ -169,8 +184,8 @@ unsafe fn answered(answer: Answer, pointers: &[*mut u64]) -> u64 {
 }
 
 #[no_mangle]
-unsafe extern "C" fn kelbraut_open(file: *const u8, size: usize, store: *mut u8, room: usize, line: *mut u64) -> u64 {
-    answered(open(from_raw_parts(file, size), from_raw_parts_mut(store, room)), &[line])
+unsafe extern "C" fn kelbraut_open(file: *const u8, size: usize, store: *mut u8, room: usize) -> u64 {
+    open(from_raw_parts(file, size), from_raw_parts_mut(store, room))
 }
 
 #[no_mangle]

@@ -1,6 +1,6 @@
 /*
  * The four calls of a rehearsal from C, as the header declares them: a run in pieces leaves the store that steps leave, the
- * run file is written back, and a refused call writes the numbers of its answer and nothing else.
+ * run file is written back, and a refused call writes nothing that is lent to it, neither a byte nor a number.
  */
 #include <inttypes.h>
 #include <stdio.h>
@@ -17,8 +17,11 @@
         }                                                               \
     } while (0)
 
-/* What stands behind the pointers before a call; no call may leave it there. */
+/* What stands behind the pointers before a call: an accepted call writes all of them, a refused one leaves them. */
 #define BEFORE UINT64_C(0x5a5a5a5a5a5a5a5a)
+#define STEP_LEFT (a == BEFORE && b == BEFORE && c == BEFORE && d == BEFORE && e == BEFORE)
+#define RUN_LEFT (a == BEFORE && b == BEFORE)
+#define WRITE_LEFT (a == BEFORE)
 
 static const char FILE_TEXT[] = "P,6,5,27,2,90\nC,30,1\nC,35,2\nL,3,1\nL,40,1\n";
 static const char OVERFULL[] = "P,64,1,34,33,200\n";
@@ -28,8 +31,13 @@ static uint8_t store[KELBRAUT_STORE], kept[KELBRAUT_STORE], part[KELBRAUT_FILE_P
 static uint64_t a, b, c, d, e;
 
 static uint64_t open_text(const char *text, size_t size, size_t store_size) {
-    a = BEFORE;
-    return kelbraut_open((const uint8_t *)text, size, store, store_size, &a);
+    return kelbraut_open((const uint8_t *)text, size, store, store_size);
+}
+
+/* A text is refused by a number at a line. */
+static int refuses(const char *text, size_t size, size_t store_size, uint64_t number, uint64_t line) {
+    uint64_t answer = open_text(text, size, store_size);
+    return KELBRAUT_NUMBER(answer) == number && KELBRAUT_LINE(answer) == line;
 }
 
 static uint64_t step(size_t store_size, size_t log_size) {
@@ -57,7 +65,7 @@ static int unwritten(size_t from) {
 
 static void steps_and_runs(void) {
     uint64_t stepped = 0, ran = 0, answer;
-    CHECK(open_text(FILE_TEXT, sizeof FILE_TEXT - 1, sizeof store) == KELBRAUT_ACCEPTED && a == 0);
+    CHECK(open_text(FILE_TEXT, sizeof FILE_TEXT - 1, sizeof store) == KELBRAUT_ACCEPTED);
     CHECK(run(sizeof store, 0) == KELBRAUT_ACCEPTED && a == 0 && b == 1);
     for (;; stepped++) {
         memset(part, 0xa5, sizeof part);
@@ -88,24 +96,25 @@ static void written_back(void) {
 
 static void refusals(void) {
     memset(part, 0xa5, sizeof part);
-    CHECK(open_text(FILE_TEXT, 0, sizeof store) == KELBRAUT_BAD_LENGTH && a == 0);
-    CHECK(open_text(SHORT_TIME_OUT, sizeof SHORT_TIME_OUT - 1, 0) == KELBRAUT_SHORT_TIME_OUT && a == 1);
-    CHECK(open_text(FILE_TEXT, sizeof FILE_TEXT - 2, sizeof store) == KELBRAUT_BAD_FORM && a == 5);
-    CHECK(open_text(FILE_TEXT, sizeof FILE_TEXT - 1, sizeof store - 1) == KELBRAUT_BAD_STORE && a == 0);
-    CHECK(step(sizeof store - 1, 0) == KELBRAUT_BAD_STORE && (a | b | c | d | e) == 0);
-    CHECK(step(sizeof store, KELBRAUT_LOG_PART - 1) == KELBRAUT_SHORT_PART && (a | b | c | d | e) == 0);
-    CHECK(run(sizeof store - 1, 1) == KELBRAUT_BAD_STORE && (a | b) == 0);
-    CHECK(write_file(sizeof store - 1, 0) == KELBRAUT_BAD_STORE && a == 0);
-    CHECK(write_file(sizeof store, KELBRAUT_FILE_PART - 1) == KELBRAUT_SHORT_PART && a == 0);
+    CHECK(refuses(FILE_TEXT, 0, sizeof store, KELBRAUT_BAD_LENGTH, 0));
+    CHECK(refuses(SHORT_TIME_OUT, sizeof SHORT_TIME_OUT - 1, 0, KELBRAUT_SHORT_TIME_OUT, 1));
+    CHECK(refuses(FILE_TEXT, sizeof FILE_TEXT - 2, sizeof store, KELBRAUT_BAD_FORM, 5));
+    CHECK(refuses(FILE_TEXT, sizeof FILE_TEXT - 1, sizeof store - 1, KELBRAUT_BAD_STORE, 0));
+    CHECK(step(sizeof store - 1, 0) == KELBRAUT_BAD_STORE && STEP_LEFT);
+    CHECK(step(sizeof store, KELBRAUT_LOG_PART - 1) == KELBRAUT_SHORT_PART && STEP_LEFT);
+    CHECK(run(sizeof store - 1, 1) == KELBRAUT_BAD_STORE && RUN_LEFT);
+    CHECK(write_file(sizeof store - 1, 0) == KELBRAUT_BAD_STORE && WRITE_LEFT);
+    CHECK(write_file(sizeof store, KELBRAUT_FILE_PART - 1) == KELBRAUT_SHORT_PART && WRITE_LEFT);
     CHECK(memcmp(store, kept, sizeof store) == 0 && unwritten(0));
 }
 
+/* On 8 a run says how many events it keeps, and leaves the other number. */
 static void overfull(void) {
     CHECK(open_text(OVERFULL, sizeof OVERFULL - 1, sizeof store) == KELBRAUT_ACCEPTED);
-    CHECK(run(sizeof store, UINT64_MAX) == KELBRAUT_OVERFULL && a == 2048 && b == 0);
+    CHECK(run(sizeof store, UINT64_MAX) == KELBRAUT_OVERFULL && a == 2048 && b == BEFORE);
     memcpy(kept, store, sizeof store);
-    CHECK(step(sizeof store, sizeof part) == KELBRAUT_OVERFULL && (a | b | c | d | e) == 0);
-    CHECK(run(sizeof store, 1) == KELBRAUT_OVERFULL && a == 0 && b == 0);
+    CHECK(step(sizeof store, sizeof part) == KELBRAUT_OVERFULL && STEP_LEFT);
+    CHECK(run(sizeof store, 1) == KELBRAUT_OVERFULL && a == 0 && b == BEFORE);
     CHECK(run(sizeof store, 0) == KELBRAUT_ACCEPTED && a == 0 && b == 1);
     CHECK(memcmp(store, kept, sizeof store) == 0 && unwritten(0));
 }

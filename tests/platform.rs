@@ -1,6 +1,7 @@
 //! The platform's four calls through the static library, beside the simulator: opening, step, run and the run-file writer.
-//! Every call must give the same answer and leave the same lent bytes: on files good and damaged, on steps and runs mixed at
-//! random, on stores of which every single byte is changed in turn, on lent stores that no file leads to, and on 01's edges.
+//! Every call must give the same answer and leave the same lent bytes and the same numbers behind its pointers: on files good and
+//! damaged, on steps and runs mixed at random, on stores of which every single byte is changed in turn, on lent stores that no
+//! file leads to, and on 01's edges.
 //!
 //! Usage: platform [SEED [COUNT]]. A difference prints its seed and index, the call and the file, and the program fails.
 //!
@@ -15,7 +16,7 @@ mod generate;
 mod mock;
 mod stores;
 
-use calls::{proved, refused, simulated, Answer, Call};
+use calls::{answer, opening, proved, refused, simulated, Answer, Call};
 use generate::Random;
 use simulator::limits::*;
 use simulator::plan;
@@ -87,7 +88,7 @@ struct Seen {
     done: u64,
 }
 
-fn same(what: &str, answer: Answer, wanted: Answer) -> Result<(), String> {
+fn same<T: PartialEq + std::fmt::Debug>(what: &str, answer: T, wanted: T) -> Result<(), String> {
     if answer == wanted {
         return Ok(());
     }
@@ -95,9 +96,9 @@ fn same(what: &str, answer: Answer, wanted: Answer) -> Result<(), String> {
 }
 
 impl Seen {
-    fn count(&mut self, answer: Answer) {
+    fn count(&mut self, number: u64) {
         self.calls += 1;
-        if let Some(count) = self.numbers.get_mut(answer[0] as usize) {
+        if let Some(count) = self.numbers.get_mut(number as usize) {
             *count += 1;
         }
     }
@@ -106,14 +107,14 @@ impl Seen {
     fn open(&mut self, file: &[u8], store: &mut Lent) -> Result<Option<Held>, String> {
         let before = store.part().to_vec();
         let (wanted, held) = match plan::read(file) {
-            Err(refusal) => ([refusal.number.into(), refusal.line as u64, 0, 0, 0, 0], None),
-            Ok(_) if before.len() != STORE_BYTES => (refused(REFUSED_STORE), None),
-            Ok(plan) => ([0; 6], Some(Held::from(Platform::open(plan)))),
+            Err(refusal) => (opening(refusal.number, refusal.line as u64), None),
+            Ok(_) if before.len() != STORE_BYTES => (opening(REFUSED_STORE, 0), None),
+            Ok(plan) => (0, Some(Held::from(Platform::open(plan)))),
         };
         let what = format!("opening {} bytes", before.len());
         let answer = proved::open(file, store.part_mut());
-        self.count(answer);
-        self.opened += u64::from(answer[0] == 0);
+        self.count(answer % 256);
+        self.opened += u64::from(answer == 0);
         same(&what, answer, wanted)?;
         store.holds("store", &held.as_ref().map_or(before, Held::encode)).map_err(|error| format!("{what}: {error}"))?;
         Ok(held)
@@ -125,7 +126,7 @@ impl Seen {
         let wanted = simulated(call, held.as_mut(), &mut part_left);
         let store_left = held.as_ref().map_or(before, Held::encode);
         let answer = proved::call(call, store.part_mut(), part.part_mut());
-        self.count(answer);
+        self.count(answer[0]);
         if let (Call::Run { .. }, 0) = (call, answer[0]) {
             self.spent += answer[2];
             self.done += 1 - answer[2].min(1);
@@ -302,15 +303,20 @@ fn answers(seen: &mut Seen, file: &str, calls: &[(Call, Answer)]) -> Result<Stri
         let mut part = Lent::filled(room);
         let answer = seen.call(*call, &mut store, &mut part, &mut held)?;
         same(&format!("{call:?}"), answer, *wanted)?;
-        if *call == Call::Step {
+        if *call == Call::Step && answer[0] == 0 {
             lines.extend_from_slice(&part.part()[..answer[5] as usize]);
         }
     }
     String::from_utf8(lines).map_err(|error| error.to_string())
 }
 
-const fn ran(number: u64, events: u64, spent: u64) -> Answer {
-    [number, events, spent, 0, 0, 0]
+fn ran(events: u64, spent: u64) -> Answer {
+    answer(0, &[events, spent])
+}
+
+/// A run that is refused by 8 after so many events.
+fn stopped(events: u64) -> Answer {
+    answer(REFUSED_EVENT, &[events])
 }
 
 fn refused_files(seen: &mut Seen) -> Result<(), String> {
@@ -331,7 +337,7 @@ fn refused_files(seen: &mut Seen) -> Result<(), String> {
     ] {
         for room in [STORE_BYTES, 0] {
             let answer = proved::open(file, Lent::filled(room).part_mut());
-            same("opening", answer, [number, line, 0, 0, 0, 0]).map_err(|error| format!("{error}\n{}", shown(file)))?;
+            same("opening", answer, opening(number, line)).map_err(|error| format!("{error}\n{}", shown(file)))?;
             seen.open(file, &mut Lent::filled(room))?;
         }
     }
@@ -345,26 +351,26 @@ fn full_flight(seen: &mut Seen) -> Result<(), String> {
     let mut platform = Platform::open(plan::read(full.as_bytes()).expect("the file is accepted"));
     let events = platform.run(u64::MAX).events;
     let last = "E,200,64,2048,0000000000000000\n";
-    let done = [0, u64::from(b'E'), 200, 64, 2_048, last.len() as u64];
-    let lines = answers(seen, full, &[(all, ran(0, events, 0)), (Call::Step, done), (Call::Step, done)])?;
+    let done = answer(0, &[u64::from(b'E'), 200, 64, 2_048, last.len() as u64]);
+    let lines = answers(seen, full, &[(all, ran(events, 0)), (Call::Step, done), (Call::Step, done)])?;
     if lines != last.repeat(2) {
         return Err(format!("the last line of {full:?} is {lines:?}"));
     }
     let eight = refused(REFUSED_EVENT);
     let calls = [
-        (Call::Run { budget: 2_048 }, ran(0, 2_048, 1)),
-        (Call::Run { budget: 0 }, ran(0, 0, 1)),
-        (Call::Run { budget: 1 }, ran(8, 0, 0)),
-        (all, ran(8, 0, 0)),
+        (Call::Run { budget: 2_048 }, ran(2_048, 1)),
+        (Call::Run { budget: 0 }, ran(0, 1)),
+        (Call::Run { budget: 1 }, stopped(0)),
+        (all, stopped(0)),
         (Call::Step, eight),
-        (Call::Write, [0, over.len() as u64, 0, 0, 0, 0]),
+        (Call::Write, answer(0, &[over.len() as u64])),
         (Call::Step, eight),
     ];
     answers(seen, over, &calls)?;
-    let fullest = [0, u64::from(b'S'), 32, 63, 0, "S,32,63,0,0000000000000000\n".len() as u64];
-    let by_step = [(Call::Run { budget: 2_047 }, ran(0, 2_047, 1)), (Call::Step, fullest), (Call::Step, eight)];
+    let fullest = answer(0, &[u64::from(b'S'), 32, 63, 0, "S,32,63,0,0000000000000000\n".len() as u64]);
+    let by_step = [(Call::Run { budget: 2_047 }, ran(2_047, 1)), (Call::Step, fullest), (Call::Step, eight)];
     answers(seen, over, &by_step)?;
-    answers(seen, over, &[(all, ran(8, 2_048, 0)), (Call::Step, eight)]).map(|_| ())
+    answers(seen, over, &[(all, stopped(2_048)), (Call::Step, eight)]).map(|_| ())
 }
 
 fn worked_log(seen: &mut Seen) -> Result<(), String> {
@@ -377,7 +383,7 @@ fn worked_log(seen: &mut Seen) -> Result<(), String> {
     let fields = |line: &str| {
         let column: Vec<&str> = line.split(',').collect();
         let number = |place: usize| column[place].parse().expect("a number");
-        [0, u64::from(line.as_bytes()[0]), number(1), number(2), number(3), line.len() as u64]
+        answer(0, &[u64::from(line.as_bytes()[0]), number(1), number(2), number(3), line.len() as u64])
     };
     let calls: Vec<(Call, Answer)> = log.split_inclusive('\n').map(|line| (Call::Step, fields(line))).collect();
     let lines = answers(seen, file, &calls)?;
@@ -385,10 +391,10 @@ fn worked_log(seen: &mut Seen) -> Result<(), String> {
         return Err(format!("the log of {file:?} is\n{lines}"));
     }
     let run = |budget| Call::Run { budget };
-    let done = (run(0), ran(0, 0, 0));
-    answers(seen, file, &[(run(0), ran(0, 0, 1)), (run(7), ran(0, 7, 1)), (run(1), ran(0, 1, 0)), done])?;
-    answers(seen, file, &[(run(8), ran(0, 8, 0)), done])?;
-    answers(seen, "P,1,1,2,1,5\n", &[done, (run(u64::MAX), ran(0, 0, 0))]).map(|_| ())
+    let done = (run(0), ran(0, 0));
+    answers(seen, file, &[(run(0), ran(0, 1)), (run(7), ran(7, 1)), (run(1), ran(1, 0)), done])?;
+    answers(seen, file, &[(run(8), ran(8, 0)), done])?;
+    answers(seen, "P,1,1,2,1,5\n", &[done, (run(u64::MAX), ran(0, 0))]).map(|_| ())
 }
 
 /// 63 survivors, W 100, D 5: S is 140. A run of 64 nodes has settled by then.

@@ -1,7 +1,9 @@
--- What each answer of the platform's calls gives as numbers, beside what the call leaves of the lent parts. Assumes nothing.
-use Prim.Native.Nat.{ℕ}
+-- What each answer of the platform's calls gives as a number and behind the pointers, beside what the call leaves of the lent parts. Assumes nothing.
+use Prim.Native.Nat.{ℕ, _+_, _*_, _/_, _%_, _≤_}
+use native.Mathlib.Omega.{arith}
 use mathlib.Core.Path.{_≡_, sym, _∙_}
 use mathlib.Core.List.{List}
+use borrow.Author.Tests.{eq-eqb, ne-eqb}
 use Rattle.logline.specs.declared.Line.{Line}
 use Rattle.platform.specs.declared.Opened.{Opened}
 use Rattle.platform.specs.declared.Opened.the-variants.{Ready, Refused as Unopened}
@@ -11,62 +13,90 @@ use Rattle.platform.specs.declared.Ran.{Ran}
 use Rattle.platform.specs.declared.Ran.the-variants.{Done as Finished, Spent, Refused as Unrun}
 use Rattle.platform.specs.declared.Wrote.{Wrote}
 use Rattle.platform.specs.declared.Wrote.the-variants.{Bytes, Refused as Unwritten}
-use Rattle.platform.specs.Calls.{AfterOpen, AfterStep, AfterRun, AfterWrite}
-use Rattle.planner.specs.Answers.{openNumber, openLine, stepNumber, stepLine, stepSize, runNumber, runEvents, runSpent, writeNumber, writeSize}
+use Rattle.platform.specs.Calls.{AfterOpen, AfterStep, AfterRun, AfterWrite, tooMany, openFile}
+use Rattle.platform.proofs.Opening.{opening-small}
+use Rattle.planner.specs.Answers.{numberAndLine, stepNumber, stepLetter, stepTick, stepNode, stepOther, stepSize}
+use Rattle.planner.specs.Answers.{runNumber, runEvents, runSpent, writeNumber, writeSize}
 
 -- r is the call's answer, and the code has found its case
-module _ (after : AfterOpen) (r : Opened) (e : r ≡ after .answer) (s : List ℕ) (left : s ≡ after .store) where
-  pub ready : r ≡ Ready → (0 ≡ openNumber (after .answer)) × ((0 ≡ openLine (after .answer)) × (s ≡ after .store))
-  unfolding openNumber openLine
-  ready h = let a : after .answer ≡ Ready = sym e ∙ h in (rw a, (rw a, left))
+module _ (file before : List ℕ) (r : Opened) (e : r ≡ openFile file before .answer) where
+  pub ready : (s : List ℕ) → s ≡ openFile file before .store → r ≡ Ready
+      → (0 ≡ numberAndLine (openFile file before .answer)) × (s ≡ openFile file before .store)
+  unfolding numberAndLine
+  ready s left h = let a : openFile file before .answer ≡ Ready = sym e ∙ h in (rw a, left)
 
-  pub unopened : {number line : ℕ} → r ≡ Unopened number line → (number ≡ openNumber (after .answer)) × ((line ≡ openLine (after .answer)) × (s ≡ after .store))
-  unfolding openNumber openLine
-  unopened {number} {line} h = let a : after .answer ≡ Unopened number line = sym e ∙ h in (rw a, (rw a, left))
+  pub unopened : {number line : ℕ} (s : List ℕ) → s ≡ openFile file before .store → r ≡ Unopened number line
+      → (number + 256 * line ≡ numberAndLine (openFile file before .answer)) × (s ≡ openFile file before .store)
+  unfolding numberAndLine
+  unopened {number} {line} s left h = let a : openFile file before .answer ≡ Unopened number line = sym e ∙ h in (rw a, left)
 
-module _ (after : AfterRun) (r : Ran) (e : r ≡ after .answer) (s : List ℕ) (left : s ≡ after .store) where
-  pub finished : {events : ℕ} → r ≡ Finished events
-      → (0 ≡ runNumber (after .answer)) × ((events ≡ runEvents (after .answer)) × ((0 ≡ runSpent (after .answer)) × (s ≡ after .store)))
+  -- the number and the line are small, so that their sum is too
+  pub sum-small : {number line : ℕ} → r ≡ Unopened number line → (number ≤ 7) × (line ≤ 65536)
+  sum-small {number} {line} h = let s = opening-small file before number line (sym e ∙ h) in (s .1, s .2)
+
+-- what the header's KELBRAUT_NUMBER and KELBRAUT_LINE take out of a refused opening's answer, which is never 0
+pub taken-apart : (file store : List ℕ) (number line : ℕ) → openFile file store .answer ≡ Unopened number line
+    → (1 ≤ number) × (numberAndLine (openFile file store .answer) % 256 ≡ number) × (numberAndLine (openFile file store .answer) / 256 ≡ line)
+unfolding numberAndLine
+taken-apart file store number line e = let s = opening-small file store number line e in rw e (omega (arith, s .0, s .1))
+
+-- after a run: its number, what stands behind its pointers, beside the events and the spent that stood there, and what it leaves
+module _ (after : AfterRun) (r : Ran) (e : r ≡ after .answer) (s : List ℕ) (left : s ≡ after .store) (events₀ spent₀ : ℕ) where
+  abbrev pub Runs : ℕ → ℕ → ℕ → Type 0
+  Runs number events spent =
+      (number ≡ runNumber (after .answer))
+      × ((events ≡ runEvents (after .answer) events₀) × ((spent ≡ runSpent (after .answer) spent₀) × (s ≡ after .store)))
+
+  pub finished : {events : ℕ} → r ≡ Finished events → Runs 0 events 0
   unfolding runNumber runEvents runSpent
   finished {events} h = let a : after .answer ≡ Finished events = sym e ∙ h in (rw a, (rw a, (rw a, left)))
 
-  pub spent : {events : ℕ} → r ≡ Spent events
-      → (0 ≡ runNumber (after .answer)) × ((events ≡ runEvents (after .answer)) × ((1 ≡ runSpent (after .answer)) × (s ≡ after .store)))
+  pub spent : {events : ℕ} → r ≡ Spent events → Runs 0 events 1
   unfolding runNumber runEvents runSpent
   spent {events} h = let a : after .answer ≡ Spent events = sym e ∙ h in (rw a, (rw a, (rw a, left)))
 
-  pub unrun : {number events : ℕ} → r ≡ Unrun number events
-      → (number ≡ runNumber (after .answer)) × ((events ≡ runEvents (after .answer)) × ((0 ≡ runSpent (after .answer)) × (s ≡ after .store)))
+  -- at a refused event the events before it are kept
+  pub overfull : {number events : ℕ} → r ≡ Unrun number events → number ≡ tooMany → Runs number events spent₀
   unfolding runNumber runEvents runSpent
-  unrun {number} {events} h = let a : after .answer ≡ Unrun number events = sym e ∙ h in (rw a, (rw a, (rw a, left)))
+  overfull {number} {events} h k =
+      let a : after .answer ≡ Unrun number events = sym e ∙ h in
+      (rw a, (rw (a, eq-eqb number tooMany k), (rw a, left)))
 
-module _ (after : AfterWrite) (r : Wrote) (e : r ≡ after .answer) (o : List ℕ) (left : o ≡ after .out) where
-  pub written : {size : ℕ} → r ≡ Bytes size → (0 ≡ writeNumber (after .answer)) × ((size ≡ writeSize (after .answer)) × (o ≡ after .out))
+  pub unrun : {number events : ℕ} → r ≡ Unrun number events → (number ≡ tooMany → ⊥) → Runs number events₀ spent₀
+  unfolding runNumber runEvents runSpent
+  unrun {number} {events} h k =
+      let a : after .answer ≡ Unrun number events = sym e ∙ h in
+      (rw a, (rw (a, ne-eqb number tooMany k), (rw a, left)))
+
+module _ (after : AfterWrite) (r : Wrote) (e : r ≡ after .answer) (o : List ℕ) (left : o ≡ after .out) (size₀ : ℕ) where
+  pub written : {size : ℕ} → r ≡ Bytes size → (0 ≡ writeNumber (after .answer)) × ((size ≡ writeSize (after .answer) size₀) × (o ≡ after .out))
   unfolding writeNumber writeSize
   written {size} h = let a : after .answer ≡ Bytes size = sym e ∙ h in (rw a, (rw a, left))
 
-  pub unwritten : {number : ℕ} → r ≡ Unwritten number → (number ≡ writeNumber (after .answer)) × ((0 ≡ writeSize (after .answer)) × (o ≡ after .out))
+  pub unwritten : {number : ℕ} → r ≡ Unwritten number → (number ≡ writeNumber (after .answer)) × ((size₀ ≡ writeSize (after .answer) size₀) × (o ≡ after .out))
   unfolding writeNumber writeSize
   unwritten {number} h = let a : after .answer ≡ Unwritten number = sym e ∙ h in (rw a, (rw a, left))
 
--- the numbers that a step's answer gives, in the order of the call's pointers, and what it leaves
-abbrev pub Answers : AfterStep → ℕ → Line → ℕ → List ℕ → List ℕ → Type 0
-Answers after number line size s g =
-    (number ≡ stepNumber (after .answer))
-    × ((line .letter ≡ stepLine (after .answer) .letter)
-    × ((line .tick ≡ stepLine (after .answer) .tick)
-    × ((line .node ≡ stepLine (after .answer) .node)
-    × ((line .other ≡ stepLine (after .answer) .other) × ((size ≡ stepSize (after .answer)) × ((s ≡ after .store) × (g ≡ after .log)))))))
+-- after a step: its number, what stands behind its pointers, beside the letter, tick, node, other and size that stood there, and what it leaves
+module _ (after : AfterStep) (r : Stepped) (e : r ≡ after .answer) (s g : List ℕ) (left : (s ≡ after .store) × (g ≡ after .log))
+    (letter₀ tick₀ node₀ other₀ size₀ : ℕ) where
+  abbrev pub Steps : ℕ → ℕ → ℕ → ℕ → ℕ → ℕ → Type 0
+  Steps number letter tick node other size =
+      (number ≡ stepNumber (after .answer))
+      × ((letter ≡ stepLetter (after .answer) letter₀)
+      × ((tick ≡ stepTick (after .answer) tick₀)
+      × ((node ≡ stepNode (after .answer) node₀)
+      × ((other ≡ stepOther (after .answer) other₀)
+      × ((size ≡ stepSize (after .answer) size₀) × ((s ≡ after .store) × (g ≡ after .log)))))))
 
-module _ (after : AfterStep) (r : Stepped) (e : r ≡ after .answer) (s g : List ℕ) (left : (s ≡ after .store) × (g ≡ after .log)) where
-  pub event : {line : Line} {size : ℕ} → r ≡ Did line size → Answers after 0 line size s g
-  unfolding stepNumber stepLine stepSize
+  pub event : {line : Line} {size : ℕ} → r ≡ Did line size → Steps 0 (line .letter) (line .tick) (line .node) (line .other) size
+  unfolding stepNumber stepLetter stepTick stepNode stepOther stepSize
   event {line} {size} h = let a : after .answer ≡ Did line size = sym e ∙ h in (rw a, (rw a, (rw a, (rw a, (rw a, (rw a, left))))))
 
-  pub none-left : {line : Line} {size : ℕ} → r ≡ Done line size → Answers after 0 line size s g
-  unfolding stepNumber stepLine stepSize
+  pub none-left : {line : Line} {size : ℕ} → r ≡ Done line size → Steps 0 (line .letter) (line .tick) (line .node) (line .other) size
+  unfolding stepNumber stepLetter stepTick stepNode stepOther stepSize
   none-left {line} {size} h = let a : after .answer ≡ Done line size = sym e ∙ h in (rw a, (rw a, (rw a, (rw a, (rw a, (rw a, left))))))
 
-  pub unstepped : {number : ℕ} → r ≡ Unstepped number → Answers after number (record { letter = 0; tick = 0; node = 0; other = 0; list = 0 }) 0 s g
-  unfolding stepNumber stepLine stepSize
+  pub unstepped : {number : ℕ} → r ≡ Unstepped number → Steps number letter₀ tick₀ node₀ other₀ size₀
+  unfolding stepNumber stepLetter stepTick stepNode stepOther stepSize
   unstepped {number} h = let a : after .answer ≡ Unstepped number = sym e ∙ h in (rw a, (rw a, (rw a, (rw a, (rw a, (rw a, left))))))

@@ -1,6 +1,9 @@
--- The answers of the four calls as numbers, for C: the number of the refusal, 0 where there is none, and for each value of 01 a number
--- of its own, 0 where the answer has none. Assumes nothing.
-use Prim.Native.Nat.{ℕ}
+-- What the four calls answer, as numbers for C, and what stands after them behind the pointers that were lent to them. Each number behind
+-- a pointer is given for every answer, with `was` for what stood there before: an accepted call puts a value there, a refused one leaves what was
+-- there, as 01 says: 'Nothing lent changes, but for a run's earlier events'. Assumes nothing.
+use mathlib.Core.Bool.{cond}
+use Prim.Native.Nat.{ℕ, _+_, _*_}
+use lib.Dec.{eqb}
 use Rattle.logline.specs.declared.Line.{Line}
 use Rattle.platform.specs.declared.Opened.{Opened}
 use Rattle.platform.specs.declared.Opened.the-variants.{Ready, Refused as Unopened}
@@ -10,60 +13,71 @@ use Rattle.platform.specs.declared.Ran.{Ran}
 use Rattle.platform.specs.declared.Ran.the-variants.{Done as Finished, Spent, Refused as Unrun}
 use Rattle.platform.specs.declared.Wrote.{Wrote}
 use Rattle.platform.specs.declared.Wrote.the-variants.{Bytes, Refused as Unwritten}
+use Rattle.platform.specs.Calls.{tooMany}
 
--- ---- opening: the number and, for files, the line
+-- ---- opening, with no pointer: 'Each answers its number and, for files, the line (from 1, else 0)', both in one number
 
-unfoldable pub openNumber : Opened → ℕ
-openNumber Ready = 0
-openNumber (Unopened number line) = number
+unfoldable pub numberAndLine : Opened → ℕ
+numberAndLine Ready = 0
+numberAndLine (Unopened number line) = number + 256 * line
 
-unfoldable pub openLine : Opened → ℕ
-openLine Ready = 0
-openLine (Unopened number line) = line
-
--- ---- step: the number, which event by its letter (E where none is left), its tick, node and other, and the length of its line
+-- ---- step: the number, and behind the pointers which event by its letter (E where none is left), its tick, node and other, and the length of
+-- its line
 
 unfoldable pub stepNumber : Stepped → ℕ
 stepNumber (Did line size) = 0
 stepNumber (Done line size) = 0
 stepNumber (Unstepped number) = number
 
-abbrev pub noLine : Line
-noLine = record { letter = 0; tick = 0; node = 0; other = 0; list = 0 }
+unfoldable pub stepLetter : Stepped → ℕ → ℕ
+stepLetter (Did line size) was = line .letter
+stepLetter (Done line size) was = line .letter
+stepLetter (Unstepped number) was = was
 
-unfoldable pub stepLine : Stepped → Line
-stepLine (Did line size) = line
-stepLine (Done line size) = line
-stepLine (Unstepped number) = noLine
+unfoldable pub stepTick : Stepped → ℕ → ℕ
+stepTick (Did line size) was = line .tick
+stepTick (Done line size) was = line .tick
+stepTick (Unstepped number) was = was
 
-unfoldable pub stepSize : Stepped → ℕ
-stepSize (Did line size) = size
-stepSize (Done line size) = size
-stepSize (Unstepped number) = 0
+unfoldable pub stepNode : Stepped → ℕ → ℕ
+stepNode (Did line size) was = line .node
+stepNode (Done line size) was = line .node
+stepNode (Unstepped number) was = was
 
--- ---- run: the number, the events done, and 1 where the budget is spent and another event remains
+unfoldable pub stepOther : Stepped → ℕ → ℕ
+stepOther (Did line size) was = line .other
+stepOther (Done line size) was = line .other
+stepOther (Unstepped number) was = was
+
+unfoldable pub stepSize : Stepped → ℕ → ℕ
+stepSize (Did line size) was = size
+stepSize (Done line size) was = size
+stepSize (Unstepped number) was = was
+
+-- ---- run: the number, and behind the pointers the events done, and 1 where the budget is spent and another event remains
 
 unfoldable pub runNumber : Ran → ℕ
 runNumber (Finished events) = 0
 runNumber (Spent events) = 0
 runNumber (Unrun number events) = number
 
-unfoldable pub runEvents : Ran → ℕ
-runEvents (Finished events) = events
-runEvents (Spent events) = events
-runEvents (Unrun number events) = events
+-- 'At a refused event it answers 8 with the events done', which it keeps; on 7 there are none to keep, and the number is left
+unfoldable pub runEvents : Ran → ℕ → ℕ
+runEvents (Finished events) was = events
+runEvents (Spent events) was = events
+runEvents (Unrun number events) was = cond (eqb number tooMany) events was
 
-unfoldable pub runSpent : Ran → ℕ
-runSpent (Finished events) = 0
-runSpent (Spent events) = 1
-runSpent (Unrun number events) = 0
+unfoldable pub runSpent : Ran → ℕ → ℕ
+runSpent (Finished events) was = 0
+runSpent (Spent events) was = 1
+runSpent (Unrun number events) was = was
 
--- ---- the run-file writer: the number and the file's length
+-- ---- the run-file writer: the number, and behind the pointer the file's length
 
 unfoldable pub writeNumber : Wrote → ℕ
 writeNumber (Bytes size) = 0
 writeNumber (Unwritten number) = number
 
-unfoldable pub writeSize : Wrote → ℕ
-writeSize (Bytes size) = size
-writeSize (Unwritten number) = 0
+unfoldable pub writeSize : Wrote → ℕ → ℕ
+writeSize (Bytes size) was = size
+writeSize (Unwritten number) was = was

@@ -1,35 +1,32 @@
-// The platform for planners' own programs in C or Rust: opening, step, run and the run-file writer on numbers and byte slices.
-// include/kelbraut.h says how to use them.
+// The platform for planners' own programs in C or Rust: opening, step, run and the run-file writer on numbers and byte slices. A refused call
+// leaves the numbers behind its pointers too. include/kelbraut.h says how to use them.
 use platform::Opened;
 use platform::Ran;
 use platform::Stepped;
 use platform::Wrote;
 ghost use mathlib.Core.Path.{_≡_};
 ghost use Rattle.platform.specs.Calls.{openFile, step, run, writeFile};
-ghost use Rattle.planner.specs.Answers.{openNumber, openLine, stepNumber, stepLine, stepSize, runNumber, runEvents, runSpent, writeNumber, writeSize};
+ghost use Rattle.planner.specs.Answers.{numberAndLine, stepNumber, stepLetter, stepTick, stepNode, stepOther, stepSize};
+ghost use Rattle.planner.specs.Answers.{runNumber, runEvents, runSpent, writeNumber, writeSize};
 
-// Opens a store from a run file. Answers the number of the refusal, 0 where there is none, and its line.
+// The number of an event that is refused, at which a run keeps the events before it.
+const OVERFULL: u64 = 8;
+
+// Opens a store from a run file. Answers 0, or the number of the refusal and 256 times its line.
 #[no_mangle]
-pub extern "C" fn kelbraut_open(file: &[u8], store: &mut [u8], line: &mut u64) -> u64
-    ensures { λ r. ⌜ r ≡ openNumber (openFile (now (file .entry)) (now (store .entry)) .answer) ⌝ }
-    ensures { λ _. ⌜ now (line .exit) ≡ openLine (openFile (now (file .entry)) (now (store .entry)) .answer) ⌝ }
+pub extern "C" fn kelbraut_open(file: &[u8], store: &mut [u8]) -> u64
+    ensures { λ r. ⌜ r ≡ numberAndLine (openFile (now (file .entry)) (now (store .entry)) .answer) ⌝ }
     ensures { λ _. ⌜ now (store .exit) ≡ openFile (now (file .entry)) (now (store .entry)) .store ⌝ }
 {
     let opened = platform::open_store(file, store);
     match opened {
-        Opened::Ready => {
-            *line = 0;
-            0
-        }
-        Opened::Refused(number, place) => {
-            *line = place;
-            number
-        }
+        Opened::Ready => 0,
+        Opened::Refused(number, line) => number + 256 * line,
     }
 }
 
-// Does up to so many events. Answers the number of the refusal, 0 where there is none, the events done, and 1 where the budget is spent and
-// another event remains.
+// Does up to so many events. Answers the number of the refusal, 0 where there is none. Puts the events done, also at an event that is refused,
+// and 1 where the budget is spent and another event remains.
 #[no_mangle]
 pub extern "C" fn kelbraut_run(
     store: &mut [u8],
@@ -38,8 +35,8 @@ pub extern "C" fn kelbraut_run(
     spent: &mut u64,
 ) -> u64
     ensures { λ r. ⌜ r ≡ runNumber (run (now (store .entry)) budget .answer) ⌝ }
-    ensures { λ _. ⌜ now (events .exit) ≡ runEvents (run (now (store .entry)) budget .answer) ⌝ }
-    ensures { λ _. ⌜ now (spent .exit) ≡ runSpent (run (now (store .entry)) budget .answer) ⌝ }
+    ensures { λ _. ⌜ now (events .exit) ≡ runEvents (run (now (store .entry)) budget .answer) (now (events .entry)) ⌝ }
+    ensures { λ _. ⌜ now (spent .exit) ≡ runSpent (run (now (store .entry)) budget .answer) (now (spent .entry)) ⌝ }
     ensures { λ _. ⌜ now (store .exit) ≡ run (now (store .entry)) budget .store ⌝ }
 {
     let ran = platform::run(store, budget);
@@ -55,18 +52,19 @@ pub extern "C" fn kelbraut_run(
             0
         }
         Ran::Refused(number, done) => {
-            *events = done;
-            *spent = 0;
+            if number == OVERFULL {
+                *events = done;
+            }
             number
         }
     }
 }
 
-// Puts the store's run file into a lent part. Answers the number of the refusal, 0 where there is none, and the file's length.
+// Puts the store's run file into a lent part. Answers the number of the refusal, 0 where there is none. Puts the file's length.
 #[no_mangle]
 pub extern "C" fn kelbraut_write(store: &[u8], out: &mut [u8], size: &mut u64) -> u64
     ensures { λ r. ⌜ r ≡ writeNumber (writeFile (now (store .entry)) (now (out .entry)) .answer) ⌝ }
-    ensures { λ _. ⌜ now (size .exit) ≡ writeSize (writeFile (now (store .entry)) (now (out .entry)) .answer) ⌝ }
+    ensures { λ _. ⌜ now (size .exit) ≡ writeSize (writeFile (now (store .entry)) (now (out .entry)) .answer) (now (size .entry)) ⌝ }
     ensures { λ _. ⌜ now (out .exit) ≡ writeFile (now (store .entry)) (now (out .entry)) .out ⌝ }
 {
     let wrote = platform::write_file(store, out);
@@ -75,15 +73,12 @@ pub extern "C" fn kelbraut_write(store: &[u8], out: &mut [u8], size: &mut u64) -
             *size = bytes as u64;
             0
         }
-        Wrote::Refused(number) => {
-            *size = 0;
-            number
-        }
+        Wrote::Refused(number) => number,
     }
 }
 
-// Does one event and writes its line. Answers the number of the refusal, 0 where there is none, the letter of the event's line, E where none
-// is left, its tick, node and other, and the length of the line.
+// Does one event and writes its line. Answers the number of the refusal, 0 where there is none. Puts the letter of the event's line, E where
+// none is left, its tick, node and other, and the length of the line.
 #[no_mangle]
 pub extern "C" fn kelbraut_step(
     store: &mut [u8],
@@ -95,11 +90,11 @@ pub extern "C" fn kelbraut_step(
     size: &mut u64,
 ) -> u64
     ensures { λ r. ⌜ r ≡ stepNumber (step (now (store .entry)) (now (log .entry)) .answer) ⌝ }
-    ensures { λ _. ⌜ now (letter .exit) ≡ stepLine (step (now (store .entry)) (now (log .entry)) .answer) .letter ⌝ }
-    ensures { λ _. ⌜ now (tick .exit) ≡ stepLine (step (now (store .entry)) (now (log .entry)) .answer) .tick ⌝ }
-    ensures { λ _. ⌜ now (node .exit) ≡ stepLine (step (now (store .entry)) (now (log .entry)) .answer) .node ⌝ }
-    ensures { λ _. ⌜ now (other .exit) ≡ stepLine (step (now (store .entry)) (now (log .entry)) .answer) .other ⌝ }
-    ensures { λ _. ⌜ now (size .exit) ≡ stepSize (step (now (store .entry)) (now (log .entry)) .answer) ⌝ }
+    ensures { λ _. ⌜ now (letter .exit) ≡ stepLetter (step (now (store .entry)) (now (log .entry)) .answer) (now (letter .entry)) ⌝ }
+    ensures { λ _. ⌜ now (tick .exit) ≡ stepTick (step (now (store .entry)) (now (log .entry)) .answer) (now (tick .entry)) ⌝ }
+    ensures { λ _. ⌜ now (node .exit) ≡ stepNode (step (now (store .entry)) (now (log .entry)) .answer) (now (node .entry)) ⌝ }
+    ensures { λ _. ⌜ now (other .exit) ≡ stepOther (step (now (store .entry)) (now (log .entry)) .answer) (now (other .entry)) ⌝ }
+    ensures { λ _. ⌜ now (size .exit) ≡ stepSize (step (now (store .entry)) (now (log .entry)) .answer) (now (size .entry)) ⌝ }
     ensures { λ _. ⌜ now (store .exit) ≡ step (now (store .entry)) (now (log .entry)) .store ⌝ }
     ensures { λ _. ⌜ now (log .exit) ≡ step (now (store .entry)) (now (log .entry)) .log ⌝ }
 {
@@ -121,13 +116,6 @@ pub extern "C" fn kelbraut_step(
             *size = bytes as u64;
             0
         }
-        Stepped::Refused(number) => {
-            *letter = 0;
-            *tick = 0;
-            *node = 0;
-            *other = 0;
-            *size = 0;
-            number
-        }
+        Stepped::Refused(number) => number,
     }
 }

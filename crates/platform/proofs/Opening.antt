@@ -1,11 +1,12 @@
 -- An accepted file's rows, put into a store one after another. Assumes nothing.
 use mathlib.Core.Path.{_≡_, refl, sym, ap, _∙_}
-use mathlib.Core.Bool.{true}
+use mathlib.Core.Bool.{Bool, true, false, cond}
 use mathlib.Core.List.{List}
 use Prim.Native.Nat.{ℕ, _+_, _≤_, _<_}
 use native.Mathlib.Numerals.{add-one}
 use native.Mathlib.Omega.{arith}
 use borrow.Author.Tests.{eq-eqb, ne-eqb}
+use lib.Dec.{eqb}
 use lib.ListN.{length, take}
 use Rattle.ring.specs.Ring.{numbers}
 use Rattle.ring.proofs.Rows.{length-numbers, take-numbers}
@@ -20,13 +21,14 @@ use Rattle.runfile.specs.declared.Read.the-variants.{Accepted as Read·Accepted
 use Rattle.runfile.specs.Reader.{outlineOf, readOf, rowAt, crashPlace, delayPlace}
 use Rattle.runfile.proofs.Grown.{Ranges}
 use Rattle.runfile.proofs.Size.{crashes-few}
+use Rattle.runfile.proofs.Refusals.{refusal-small}
 use Rattle.runfile.proofs.RoundTrip.{accepted-plan, accepted-order}
 use Rattle.runfile.proofs.Places.{crash-place-first, crash-place-last, crash-at, delay-at}
 use Rattle.model.specs.Platform.{start}
 use Rattle.store.specs.Store.{storeSize, encode}
 use Rattle.event.proofs.Fitting.{ranges, few-delays}
 use Rattle.platform.specs.declared.Opened.the-variants.{Ready, Refused as Unopened}
-use Rattle.platform.specs.Calls.{badStore, openPlan, openAnswer, openFile}
+use Rattle.platform.specs.Calls.{AfterOpen, badStore, openPlan, openAnswer, openFile}
 use Rattle.store.specs.Filling.{putStart, putNode, putCrash, putDelay}
 use Rattle.platform.specs.Filling.{planned, planOf, Accepts, filled}
 use Rattle.platform.proofs.Filling.{cleared-encode, start-filled, node-filled, crash-filled, delay-filled, all-filled}
@@ -143,3 +145,25 @@ module _ (file store : List ℕ) where
   pub open-ready : {t : List ℕ} → Accepts file → length store ≡ storeSize → t ≡ encode (planOf file) (start (planOf file)) → (Ready ≡ openFile file store .answer) × (t ≡ openFile file store .store)
   unfolding openPlan
   open-ready ok h e = rw (open-plan ok, eq-eqb (length store) storeSize h) (refl, e)
+
+-- a refused opening has a number of 1 to 7 and a line of at most 65,536
+pub opening-small : (file store : List ℕ) (number line : ℕ) → openFile file store .answer ≡ Unopened number line
+    → (1 ≤ number) × (number ≤ 7) × (line ≤ 65536)
+unfolding openFile openAnswer openPlan
+opening-small file store number line e = go (fileOf file) refl e
+  where
+    ready : AfterOpen → Bool → AfterOpen
+    ready after t = cond t after (record { answer = Unopened badStore 0; store = store })
+
+    tested : (p : Plan) (t : Bool) → ready (record { answer = Ready; store = encode p (start p) }) t .answer ≡ Unopened number line
+        → (1 ≤ number) × (number ≤ 7) × (line ≤ 65536)
+    tested p true h = let z : _≡_ {A = ℕ} 0 1 = cc in absurd (omega arith)
+    tested p false h = let a : badStore ≡ number = cc in let b : _≡_ {A = ℕ} 0 line = cc in omega arith
+
+    go : (a : Answer) → fileOf file ≡ a → openAnswer a store .answer ≡ Unopened number line → (1 ≤ number) × (number ≤ 7) × (line ≤ 65536)
+    go (accepted p) same h = tested p (eqb (length store) storeSize) h
+    go (turnedDown k l) same h =
+        let a : k ≡ number = cc in
+        let b : l ≡ line = cc in
+        let s = refusal-small file k l same in
+        omega (arith, s .0, s .1, s .2)

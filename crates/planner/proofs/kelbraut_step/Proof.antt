@@ -29,7 +29,9 @@ same-length-2 : tie.Need-same-length-2
 same-length-2 c = search needs
 
 returns : tie.Need-returns
-returns c = let u = c .before .before .before .before .before .before .before .before .step .ensures in event _ _ (u .0) _ _ (u .1) (c .before .before .stepped .given .1)
+returns c =
+    let u = c .before .before .before .before .before .before .before .before .step .ensures in
+    event _ _ (u .0) _ _ (u .1) _ _ _ _ _ (c .before .before .stepped .given .1)
 
 same-length-3 : tie.Need-same-length-3
 same-length-3 c = search needs
@@ -38,7 +40,9 @@ same-length-4 : tie.Need-same-length-4
 same-length-4 c = search needs
 
 returns-2 : tie.Need-returns-2
-returns-2 c = let u = c .before .before .before .before .before .before .before .before .step .ensures in none-left _ _ (u .0) _ _ (u .1) (c .before .before .stepped2 .given .1)
+returns-2 c =
+    let u = c .before .before .before .before .before .before .before .before .step .ensures in
+    none-left _ _ (u .0) _ _ (u .1) _ _ _ _ _ (c .before .before .stepped2 .given .1)
 
 same-length-5 : tie.Need-same-length-5
 same-length-5 c = search needs
@@ -47,7 +51,9 @@ same-length-6 : tie.Need-same-length-6
 same-length-6 c = search needs
 
 returns-3 : tie.Need-returns-3
-returns-3 c = let u = c .before .before .before .before .before .before .before .step .ensures in unstepped _ _ (u .0) _ _ (u .1) (c .before .stepped3 .given .1)
+returns-3 c =
+    let u = c .before .before .before .before .before .before .before .step .ensures in
+    unstepped _ _ (u .0) _ _ (u .1) _ _ _ _ _ (c .before .stepped3 .given .1)
 
 pub kelbraut-step-spec : {M : Type 1} → statement M
 kelbraut-step-spec =

@@ -17,13 +17,13 @@ same-length : tie.Need-same-length
 same-length c = search needs
 
 returns : tie.Need-returns
-returns c = let u = c .before .before .before .before .before .write-file .ensures in written _ _ (u .0) _ (u .1) (c .before .wrote .given .1)
+returns c = let u = c .before .before .before .before .before .write-file .ensures in written _ _ (u .0) _ (u .1) _ (c .before .wrote .given .1)
 
 same-length-2 : tie.Need-same-length-2
 same-length-2 c = search needs
 
 returns-2 : tie.Need-returns-2
-returns-2 c = let u = c .before .before .before .before .before .write-file .ensures in unwritten _ _ (u .0) _ (u .1) (c .before .wrote2 .given .1)
+returns-2 c = let u = c .before .before .before .before .before .write-file .ensures in unwritten _ _ (u .0) _ (u .1) _ (c .before .wrote2 .given .1)
 
 pub kelbraut-write-spec : {M : Type 1} → statement M
 kelbraut-write-spec =
