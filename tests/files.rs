@@ -1,4 +1,5 @@
-//! Compares the proved reader and writer of run files with the simulator's, on 01's edges, on generated files and on damaged ones.
+//! Compares the proved reader and writer of run files with the simulator's, on 01's edges, on generated files and on damaged ones:
+//! a store is opened from each file, and its run file is written again.
 //!
 //! Usage: files [SEED [COUNT]]. A difference prints its seed and index and the file, and the program fails.
 
@@ -19,47 +20,79 @@ const SEED: u64 = 20_261_115;
 const COUNT: u64 = 600;
 /// How many damaged copies are tried of each generated file.
 const COPIES: u64 = 8;
-/// Most bytes of an accepted file.
+/// Most bytes of an accepted file, and the least part for writing one.
 const FILE_BYTES: usize = 65_536;
-/// What stands in a part before the call.
+/// Bytes of a store.
+const STORE_BYTES: usize = 65_536;
+/// What stands in a store and in a part before the call.
 const UNTOUCHED: u8 = 0xa5;
+/// What stands behind the pointer before the call.
+const BEFORE: u64 = 9_000_000_000_000_000_001;
 /// Most L lines.
 const DELAY_ROWS: usize = 2_048;
 
 extern "C" {
     /// A slice is lent as its address and its length.
-    fn kelbraut_file_check(file: *const u8, length: usize, line: *mut u64) -> u64;
-    fn kelbraut_file_rewrite(file: *const u8, length: usize, out: *mut u8, room: usize) -> usize;
+    fn kelbraut_open(file: *const u8, file_size: usize, store: *mut u8, store_size: usize) -> u64;
+    fn kelbraut_write(store: *const u8, store_size: usize, part: *mut u8, part_size: usize, size: *mut u64) -> u64;
 }
 
 /// Number and line of the refusal; 0 and 0 where the file is accepted.
 type Answer = (u64, u64);
 
-fn proved(file: &[u8]) -> Answer {
-    let mut line = u64::MAX;
-    let number = unsafe { kelbraut_file_check(file.as_ptr(), file.len(), &mut line) };
-    (number, line)
+fn proved(file: &[u8], store: &mut [u8]) -> Answer {
+    let answer = unsafe { kelbraut_open(file.as_ptr(), file.len(), store.as_mut_ptr(), store.len()) };
+    (answer % 256, answer / 256)
 }
 
 fn simulated(file: &[u8]) -> Answer {
     plan::read(file).map_or_else(|refusal| (refusal.number.into(), refusal.line as u64), |_| (0, 0))
 }
 
-/// The part of this room after the file was read and written into it, and how many bytes were written.
-fn rewritten(file: &[u8], room: usize) -> (Vec<u8>, usize) {
-    let mut part = vec![UNTOUCHED; room];
-    let written = unsafe { kelbraut_file_rewrite(file.as_ptr(), file.len(), part.as_mut_ptr(), part.len()) };
-    (part, written)
+/// What is lent to the calls, one after another.
+struct Lent {
+    store: Vec<u8>,
+    part: Vec<u8>,
 }
 
-/// An accepted file is written again, whole, and the rest of the part stays; a refused one leaves the part.
-fn writes(what: &str, file: &[u8], room: usize) -> Result<(), String> {
-    let again: &[u8] = if simulated(file) == (0, 0) && room >= FILE_BYTES { file } else { &[] };
-    let (part, written) = rewritten(file, room);
-    if written != again.len() || part[..again.len()] != *again || part[again.len()..].iter().any(|byte| *byte != UNTOUCHED) {
-        return Err(format!("{what}: {written} bytes were written of {}", file.len()));
+fn is_untouched(bytes: &[u8]) -> bool {
+    bytes.iter().all(|byte| *byte == UNTOUCHED)
+}
+
+impl Lent {
+    fn new() -> Lent {
+        Lent { store: vec![UNTOUCHED; STORE_BYTES], part: vec![UNTOUCHED; FILE_BYTES + 1] }
     }
-    Ok(())
+
+    /// Opens the store. A refused file leaves it.
+    fn open(&mut self, what: &str, file: &[u8]) -> Result<Answer, String> {
+        self.store.fill(UNTOUCHED);
+        let answer = proved(file, &mut self.store);
+        if answer.0 != 0 && !is_untouched(&self.store) {
+            return Err(format!("{what}: refused by {answer:?}, and the store is written"));
+        }
+        Ok(answer)
+    }
+
+    /// Writes the run file of the store that was just opened into a part of this room. An accepted file comes back, whole, and the rest
+    /// of the part stays; a refused one left no store, and it and a short part leave the part and the number behind the pointer.
+    fn writes(&mut self, what: &str, file: &[u8], room: usize) -> Result<(), String> {
+        self.part.fill(UNTOUCHED);
+        let (number, again, wanted): (u64, &[u8], u64) = match (simulated(file), room) {
+            ((0, 0), FILE_BYTES..) => (0, file, file.len() as u64),
+            ((0, 0), _) => (9, &[], BEFORE),
+            _ => (7, &[], BEFORE),
+        };
+        let (store, mut size) = (&self.store, BEFORE);
+        let answer = unsafe { kelbraut_write(store.as_ptr(), store.len(), self.part.as_mut_ptr(), room, &mut size) };
+        if (answer, size) != (number, wanted) {
+            return Err(format!("{what}: a part of {room} bytes gets {answer} with {size}, not {number} with {wanted}"));
+        }
+        if self.part[..again.len()] != *again || !is_untouched(&self.part[again.len()..]) {
+            return Err(format!("{what}: a part of {room} bytes does not hold the file, {} bytes, and then what it held", again.len()));
+        }
+        Ok(())
+    }
 }
 
 fn differs(what: &str, file: &[u8], expected: Answer, answer: Answer) -> String {
@@ -68,23 +101,23 @@ fn differs(what: &str, file: &[u8], expected: Answer, answer: Answer) -> String 
 }
 
 /// Both readers give this answer.
-fn edge(what: &str, file: &[u8], expected: Answer) -> Result<(), String> {
-    for (whose, answer) in [("proved", proved(file)), ("simulator", simulated(file))] {
+fn edge(lent: &mut Lent, what: &str, file: &[u8], expected: Answer) -> Result<(), String> {
+    for (whose, answer) in [("proved", lent.open(what, file)?), ("simulator", simulated(file))] {
         if answer != expected {
             return Err(differs(&format!("{what}, {whose}"), file, expected, answer));
         }
     }
-    writes(what, file, FILE_BYTES + 1)?;
-    writes(what, file, FILE_BYTES - 1)
+    lent.writes(what, file, FILE_BYTES + 1)?;
+    lent.writes(what, file, FILE_BYTES - 1)
 }
 
 /// Both readers give the same answer.
-fn same(what: &str, file: &[u8]) -> Result<(), String> {
-    let (expected, answer) = (simulated(file), proved(file));
+fn same(lent: &mut Lent, what: &str, file: &[u8]) -> Result<(), String> {
+    let (expected, answer) = (simulated(file), lent.open(what, file)?);
     if answer != expected {
         return Err(differs(what, file, expected, answer));
     }
-    writes(what, file, FILE_BYTES)
+    lent.writes(what, file, FILE_BYTES)
 }
 
 /// A file with `rows` L lines, rising, and `last` after them.
@@ -104,7 +137,7 @@ fn of_length(length: usize) -> Vec<u8> {
 }
 
 /// 01's edges on run files, those with no star among them.
-fn edges() -> Result<(), String> {
+fn edges(lent: &mut Lent) -> Result<(), String> {
     let cases: [(&str, Answer); 44] = [
         ("", (1, 0)),
         ("P,2,2,3,1,6\nC,3,1\n", (0, 0)),
@@ -152,16 +185,16 @@ fn edges() -> Result<(), String> {
         ("P,2,2,7,5,6\nL,7,5\nL,7,5\n", (5, 3)),
     ];
     for (file, expected) in cases {
-        edge("edge", file.as_bytes(), expected)?;
+        edge(lent, "edge", file.as_bytes(), expected)?;
     }
     let next = DELAY_ROWS as u64 + 2;
-    edge("2,048 L lines", &with_delays(DELAY_ROWS, ""), (0, 0))?;
-    edge("2,049 L lines", &with_delays(DELAY_ROWS, "L,2048,5\n"), (6, next))?;
-    edge("2,049th of bad form", &with_delays(DELAY_ROWS, "L,2048,5"), (2, next))?;
-    edge("2,049th out of range", &with_delays(DELAY_ROWS, "L,2048,6\n"), (3, next))?;
-    edge("2,049th not rising", &with_delays(DELAY_ROWS, "L,2047,5\n"), (5, next))?;
-    edge("65,536 bytes", &of_length(FILE_BYTES), (3, 2))?;
-    edge("65,537 bytes", &of_length(FILE_BYTES + 1), (1, 0))
+    edge(lent, "2,048 L lines", &with_delays(DELAY_ROWS, ""), (0, 0))?;
+    edge(lent, "2,049 L lines", &with_delays(DELAY_ROWS, "L,2048,5\n"), (6, next))?;
+    edge(lent, "2,049th of bad form", &with_delays(DELAY_ROWS, "L,2048,5"), (2, next))?;
+    edge(lent, "2,049th out of range", &with_delays(DELAY_ROWS, "L,2048,6\n"), (3, next))?;
+    edge(lent, "2,049th not rising", &with_delays(DELAY_ROWS, "L,2047,5\n"), (5, next))?;
+    edge(lent, "65,536 bytes", &of_length(FILE_BYTES), (3, 2))?;
+    edge(lent, "65,537 bytes", &of_length(FILE_BYTES + 1), (1, 0))
 }
 
 /// A copy with one to three bytes changed, put in or taken out, or with a line put in twice or taken out.
@@ -192,40 +225,41 @@ fn damaged(file: &[u8], random: &mut Random) -> Vec<u8> {
     copy
 }
 
-fn generated(seed: u64, count: u64) -> Result<(), String> {
+fn generated(lent: &mut Lent, seed: u64, count: u64) -> Result<(), String> {
     for index in 0..count {
         let file = generate::file(seed, index);
         let mut random = Random::new(seed, index);
-        same(&format!("seed {seed} index {index}"), &file)?;
+        same(lent, &format!("seed {seed} index {index}"), &file)?;
         for copy in 0..COPIES {
-            same(&format!("seed {seed} index {index} copy {copy}"), &damaged(&file, &mut random))?;
+            same(lent, &format!("seed {seed} index {index} copy {copy}"), &damaged(&file, &mut random))?;
         }
     }
     Ok(())
 }
 
-/// How long the proved reader takes for a file with as many lines as there can be: the fastest of some rounds.
-fn speed() {
+/// How long opening takes for a file with as many lines as there can be: the fastest of some rounds.
+fn speed(lent: &mut Lent) {
     let mut file = String::from("P,64,1000,65535,255,1000000\n");
     (0..64).for_each(|node| file += &format!("C,1000000,{node}\n"));
     (0..DELAY_ROWS).for_each(|row| file += &format!("L,{},255\n", 900_000 + row));
     let fastest = (0..200).map(|_| {
         let began = Instant::now();
-        assert_eq!(proved(file.as_bytes()), (0, 0));
+        assert_eq!(proved(file.as_bytes(), &mut lent.store), (0, 0));
         began.elapsed()
     });
-    println!("files: {} bytes are read in {:?}", file.len(), fastest.min().expect("a round"));
+    println!("files: a store is opened from {} bytes in {:?}", file.len(), fastest.min().expect("a round"));
 }
 
 fn main() -> ExitCode {
     let mut words = std::env::args().skip(1).map(|word| word.parse().expect("a number"));
     let (seed, count) = (words.next().unwrap_or(SEED), words.next().unwrap_or(COUNT));
     println!("files: seed {seed}, {count} generated files");
-    if let Err(difference) = edges().and_then(|()| generated(seed, count)) {
+    let mut lent = Lent::new();
+    if let Err(difference) = edges(&mut lent).and_then(|()| generated(&mut lent, seed, count)) {
         eprintln!("files: {difference}");
         return ExitCode::FAILURE;
     }
-    speed();
+    speed(&mut lent);
     println!("files: passed");
     ExitCode::SUCCESS
 }

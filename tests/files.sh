@@ -1,5 +1,5 @@
 #!/bin/sh
-# Links the proved reader of run files into a comparison with the simulator's, and runs it.
+# Links the proved reader and writer of run files, in the platform's calls, into a comparison with the simulator's, and runs it.
 #
 # Usage: tests/files.sh [SEED [COUNT]]
 
@@ -9,9 +9,9 @@ cd "$(dirname "$0")/.."
 out=target/tests
 
 mkdir -p "$out"
-rt staticlib files > "$out/files.log" 2>&1 || {
-    tail -n 20 "$out/files.log" >&2
+rt staticlib planner > "$out/planner.log" 2>&1 || {
+    tail -n 20 "$out/planner.log" >&2
     exit 1
 }
-rustc --edition 2021 -O -D warnings tests/files.rs -L native=target/staticlib -l static=files -o "$out/files"
+rustc --edition 2021 -O -D warnings tests/files.rs -L native=target/staticlib -l static=planner -o "$out/files"
 "$out/files" "$@"
