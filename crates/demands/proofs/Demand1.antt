@@ -28,10 +28,14 @@ use Rattle.host.specs.Record.{recordSize, openable}
 use Rattle.node.specs.Node.{Turn}
 use Rattle.store.specs.Store.{storeSize, encode, planIn, stateIn, storeInRange}
 use Rattle.platform.specs.declared.Opened.the-variants.{Ready, Refused as Unopened}
-use Rattle.platform.specs.declared.Stepped.the-variants.{Refused as Unstepped}
-use Rattle.platform.specs.declared.Ran.the-variants.{Refused as Unrun}
+use Rattle.platform.specs.declared.Stepped.{Stepped}
+use Rattle.platform.specs.declared.Stepped.the-variants.{Did, Done, Refused as Unstepped}
+use Rattle.platform.specs.declared.Ran.{Ran}
+use Rattle.platform.specs.declared.Ran.the-variants.{Done as Finished, Spent, Refused as Unrun}
+use Rattle.platform.specs.declared.Wrote.{Wrote}
 use Rattle.platform.specs.declared.Wrote.the-variants.{Bytes, Refused as Unwritten}
 use Rattle.platform.specs.Calls.{AfterOpen, AfterStep, AfterRun, AfterWrite, openPlan, openAnswer as fileAnswer, openFile, stepOutcome, step, ran, runState, run, writeFile, openRefusal, stepRefusal, runRefusal, writeRefusal}
+use Rattle.planner.specs.Answers.{stepLetter, stepTick, stepNode, stepOther, stepSize, runEvents, runSpent, writeSize}
 use Rattle.demands.specs.Demands.{place, firstBroken, TurnsDown, fileNumber, openPlaces, overfullBy, overfull, stepPlaces, stopped, runPlaces, eventsDone, keepsEarlier, writePlaces}
 use Rattle.demands.specs.Demands.{recordPlaces, deliverPlaces, timersPlaces, letterUnknown, outside, linePlaces, lineRefusal, tablePlaces}
 
@@ -220,6 +224,30 @@ write-down store out = go (storeInRange store) (ltb (length out) 65536)
     go false short = record { first = refl; untouched = λ h. refl }
     go true true = record { first = refl; untouched = λ h. refl }
     go true false = record { first = refl; untouched = λ h. absurd (h refl) }
+
+-- ---- for files, the line; for C, the numbers behind pointers
+
+pub open-line : (file store : List ℕ) (number line : ℕ) → fileOf file ≡ turnedDown number line → openFile file store .answer ≡ Unopened number line
+unfolding openFile fileAnswer
+open-line file store number line e = rw e refl
+
+pub step-numbers : (a : Stepped) (was : ℕ) → stepRefusal a ≢ 0
+    → (stepLetter a was ≡ was) × (stepTick a was ≡ was) × (stepNode a was ≡ was) × (stepOther a was ≡ was) × (stepSize a was ≡ was)
+unfolding stepRefusal stepLetter stepTick stepNode stepOther stepSize
+step-numbers (Did line size) was h = absurd (h refl)
+step-numbers (Done line size) was h = absurd (h refl)
+step-numbers (Unstepped number) was h = (refl, refl, refl, refl, refl)
+
+pub run-numbers : (a : Ran) (was : ℕ) → runRefusal a ≢ 0 → (runSpent a was ≡ was) × (runEvents a was ≡ cond (eqb (runRefusal a) 8) (eventsDone a) was)
+unfolding runRefusal runSpent runEvents eventsDone
+run-numbers (Finished n) was h = absurd (h refl)
+run-numbers (Spent n) was h = absurd (h refl)
+run-numbers (Unrun number n) was h = (refl, refl)
+
+pub write-numbers : (a : Wrote) (was : ℕ) → writeRefusal a ≢ 0 → writeSize a was ≡ was
+unfolding writeRefusal writeSize
+write-numbers (Bytes size) was h = absurd (h refl)
+write-numbers (Unwritten number) was h = refl
 
 -- ---- a host's calls
 

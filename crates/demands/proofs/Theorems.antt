@@ -1,8 +1,10 @@
 -- THE THEOREMS: the customer's three demands. The statements stand in specs/Demands.antt. Assumes nothing.
 use Rattle.runfile.proofs.RoundTrip.{written-back, accepted-plan, accepted-order, read-back}
 use Rattle.logline.proofs.LineTrip.{written-of-read, read-of-written}
+use Rattle.planner.proofs.Answered.{taken-apart}
 use Rattle.demands.specs.Demands.{Demand1, Demand2, Demand3}
-use Rattle.demands.proofs.Demand1.{open-down, step-down, run-down, run-bad-store, write-down, open-record-down, deliver-down, fire-down, line-taken, line-only, line-down, table-down}
+use Rattle.demands.proofs.Demand1.{open-down, step-down, run-down, run-bad-store, write-down}
+use Rattle.demands.proofs.Demand1.{open-line, step-numbers, run-numbers, write-numbers, open-record-down, deliver-down, fire-down, line-taken, line-only, line-down, table-down}
 use Rattle.demands.proofs.Demand2.{next-events, file-again}
 use Rattle.demands.proofs.Nodes.{rehearsed}
 use Rattle.demands.proofs.Demand3.{any-calls}
@@ -17,6 +19,11 @@ demand1 = record {
   running = run-down;
   badStore = run-bad-store;
   writing = write-down;
+  openingLine = open-line;
+  openingNumber = taken-apart;
+  stepNumbers = step-numbers;
+  runNumbers = run-numbers;
+  writeNumbers = write-numbers;
   nodeOpen = open-record-down;
   nodeDeliver = deliver-down;
   nodeTimers = fire-down;

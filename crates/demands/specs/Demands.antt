@@ -5,7 +5,7 @@ use mathlib.Core.Logic.{_≢_}
 use mathlib.Core.Bool.{Bool, true, false, cond, not, _&&_}
 use mathlib.Core.List.{List, [], _∷_}
 use mathlib.Core.Option.{Option, none, some}
-use Prim.Native.Nat.{ℕ, _+_, _^_, _≤_, _<_}
+use Prim.Native.Nat.{ℕ, _+_, _/_, _%_, _^_, _≤_, _<_}
 use lib.Dec.{eqb, leb, ltb}
 use lib.ListN.{length, take}
 use Rattle.ring.specs.Limits.{mostNodes, mostInFlight, lineRoom}
@@ -24,12 +24,15 @@ use Rattle.model.specs.Claims.{CrashedAre, Safe, Settles}
 use Rattle.host.specs.Record.{recordSize, decode, openable, sound}
 use Rattle.host.specs.Call.{tickTaken, messageTaken, partSize, openAnswer, openLeaves, deliverAnswer, deliverLeaves, deliverSends, timersAnswer, timersLeaves, timersSends}
 use Rattle.store.specs.Store.{storeSize, encode, planIn, stateIn, storeInRange}
-use Rattle.platform.specs.declared.Opened.the-variants.{Ready}
+use Rattle.platform.specs.declared.Opened.the-variants.{Ready, Refused as Unopened}
+use Rattle.platform.specs.declared.Stepped.{Stepped}
 use Rattle.platform.specs.declared.Ran.{Ran}
 use Rattle.platform.specs.declared.Ran.the-variants.{Done as Finished, Spent, Refused as Unrun}
+use Rattle.platform.specs.declared.Wrote.{Wrote}
 use Rattle.platform.specs.declared.Wrote.the-variants.{Bytes}
 use Rattle.platform.specs.Calls.{fileRoom, linesText, openFile, step, ran, run, writeFile, openRefusal, stepRefusal, runRefusal, writeRefusal}
 use Rattle.platform.specs.CallLists.{Call, storeAfterAll, NoneAnswers, eventsOf}
+use Rattle.planner.specs.Answers.{numberAndLine, stepLetter, stepTick, stepNode, stepOther, stepSize, runEvents, runSpent, writeSize}
 use Rattle.demands.specs.Nodes.{SameAsNodes}
 
 -- ---- DEMAND 1: 'Refused by number, with nothing lent to the call written .. All else is accepted, and every call returns, with no duty on
@@ -139,6 +142,15 @@ pub record Demand1 : Type 0 where
   pub running : (store : List ℕ) (budget : ℕ) → TurnsDown (runRefusal (run store budget .answer)) (runPlaces store budget) (keepsEarlier store budget)
   pub badStore : (store : List ℕ) (budget : ℕ) → storeInRange store ≡ false → run store budget .store ≡ store
   pub writing : (store out : List ℕ) → TurnsDown (writeRefusal (writeFile store out .answer)) (writePlaces store out) (writeFile store out .out ≡ out)
+  -- for files the line is answered too, in C both in one number
+  pub openingLine : (file store : List ℕ) (number line : ℕ) → fileOf file ≡ turnedDown number line → openFile file store .answer ≡ Unopened number line
+  pub openingNumber : (file store : List ℕ) (number line : ℕ) → openFile file store .answer ≡ Unopened number line
+      → (1 ≤ number) × (numberAndLine (openFile file store .answer) % 256 ≡ number) × (numberAndLine (openFile file store .answer) / 256 ≡ line)
+  -- the numbers behind the pointers of the calls from C stay as they were, but for a run's earlier events
+  pub stepNumbers : (a : Stepped) (was : ℕ) → stepRefusal a ≢ 0
+      → (stepLetter a was ≡ was) × (stepTick a was ≡ was) × (stepNode a was ≡ was) × (stepOther a was ≡ was) × (stepSize a was ≡ was)
+  pub runNumbers : (a : Ran) (was : ℕ) → runRefusal a ≢ 0 → (runSpent a was ≡ was) × (runEvents a was ≡ cond (eqb (runRefusal a) 8) (eventsDone a) was)
+  pub writeNumbers : (a : Wrote) (was : ℕ) → writeRefusal a ≢ 0 → writeSize a was ≡ was
   -- a host's calls
   pub nodeOpen : (s : List ℕ) (number nodes h w : ℕ)
       → TurnsDown (openAnswer s number nodes h w) (recordPlaces s number nodes h w) (openLeaves s number nodes h w ≡ s)

@@ -13,10 +13,10 @@ use Rattle.platform.specs.declared.Ran.{Ran}
 use Rattle.platform.specs.declared.Ran.the-variants.{Done as Finished, Spent, Refused as Unrun}
 use Rattle.platform.specs.declared.Wrote.{Wrote}
 use Rattle.platform.specs.declared.Wrote.the-variants.{Bytes, Refused as Unwritten}
-use Rattle.platform.specs.Calls.{AfterOpen, AfterStep, AfterRun, AfterWrite, tooMany, openFile}
+use Rattle.platform.specs.Calls.{AfterOpen, AfterStep, AfterRun, AfterWrite, tooMany, openFile, stepRefusal, runRefusal, writeRefusal}
 use Rattle.platform.proofs.Opening.{opening-small}
-use Rattle.planner.specs.Answers.{numberAndLine, stepNumber, stepLetter, stepTick, stepNode, stepOther, stepSize}
-use Rattle.planner.specs.Answers.{runNumber, runEvents, runSpent, writeNumber, writeSize}
+use Rattle.planner.specs.Answers.{numberAndLine, stepLetter, stepTick, stepNode, stepOther, stepSize}
+use Rattle.planner.specs.Answers.{runEvents, runSpent, writeSize}
 
 -- r is the call's answer, and the code has found its case
 module _ (file before : List ℕ) (r : Opened) (e : r ≡ openFile file before .answer) where
@@ -44,37 +44,37 @@ taken-apart file store number line e = let s = opening-small file store number l
 module _ (after : AfterRun) (r : Ran) (e : r ≡ after .answer) (s : List ℕ) (left : s ≡ after .store) (events₀ spent₀ : ℕ) where
   abbrev pub Runs : ℕ → ℕ → ℕ → Type 0
   Runs number events spent =
-      (number ≡ runNumber (after .answer))
+      (number ≡ runRefusal (after .answer))
       × ((events ≡ runEvents (after .answer) events₀) × ((spent ≡ runSpent (after .answer) spent₀) × (s ≡ after .store)))
 
   pub finished : {events : ℕ} → r ≡ Finished events → Runs 0 events 0
-  unfolding runNumber runEvents runSpent
+  unfolding runRefusal runEvents runSpent
   finished {events} h = let a : after .answer ≡ Finished events = sym e ∙ h in (rw a, (rw a, (rw a, left)))
 
   pub spent : {events : ℕ} → r ≡ Spent events → Runs 0 events 1
-  unfolding runNumber runEvents runSpent
+  unfolding runRefusal runEvents runSpent
   spent {events} h = let a : after .answer ≡ Spent events = sym e ∙ h in (rw a, (rw a, (rw a, left)))
 
   -- at a refused event the events before it are kept
   pub overfull : {number events : ℕ} → r ≡ Unrun number events → number ≡ tooMany → Runs number events spent₀
-  unfolding runNumber runEvents runSpent
+  unfolding runRefusal runEvents runSpent
   overfull {number} {events} h k =
       let a : after .answer ≡ Unrun number events = sym e ∙ h in
       (rw a, (rw (a, eq-eqb number tooMany k), (rw a, left)))
 
   pub unrun : {number events : ℕ} → r ≡ Unrun number events → (number ≡ tooMany → ⊥) → Runs number events₀ spent₀
-  unfolding runNumber runEvents runSpent
+  unfolding runRefusal runEvents runSpent
   unrun {number} {events} h k =
       let a : after .answer ≡ Unrun number events = sym e ∙ h in
       (rw a, (rw (a, ne-eqb number tooMany k), (rw a, left)))
 
 module _ (after : AfterWrite) (r : Wrote) (e : r ≡ after .answer) (o : List ℕ) (left : o ≡ after .out) (size₀ : ℕ) where
-  pub written : {size : ℕ} → r ≡ Bytes size → (0 ≡ writeNumber (after .answer)) × ((size ≡ writeSize (after .answer) size₀) × (o ≡ after .out))
-  unfolding writeNumber writeSize
+  pub written : {size : ℕ} → r ≡ Bytes size → (0 ≡ writeRefusal (after .answer)) × ((size ≡ writeSize (after .answer) size₀) × (o ≡ after .out))
+  unfolding writeRefusal writeSize
   written {size} h = let a : after .answer ≡ Bytes size = sym e ∙ h in (rw a, (rw a, left))
 
-  pub unwritten : {number : ℕ} → r ≡ Unwritten number → (number ≡ writeNumber (after .answer)) × ((size₀ ≡ writeSize (after .answer) size₀) × (o ≡ after .out))
-  unfolding writeNumber writeSize
+  pub unwritten : {number : ℕ} → r ≡ Unwritten number → (number ≡ writeRefusal (after .answer)) × ((size₀ ≡ writeSize (after .answer) size₀) × (o ≡ after .out))
+  unfolding writeRefusal writeSize
   unwritten {number} h = let a : after .answer ≡ Unwritten number = sym e ∙ h in (rw a, (rw a, left))
 
 -- after a step: its number, what stands behind its pointers, beside the letter, tick, node, other and size that stood there, and what it leaves
@@ -82,7 +82,7 @@ module _ (after : AfterStep) (r : Stepped) (e : r ≡ after .answer) (s g : List
     (letter₀ tick₀ node₀ other₀ size₀ : ℕ) where
   abbrev pub Steps : ℕ → ℕ → ℕ → ℕ → ℕ → ℕ → Type 0
   Steps number letter tick node other size =
-      (number ≡ stepNumber (after .answer))
+      (number ≡ stepRefusal (after .answer))
       × ((letter ≡ stepLetter (after .answer) letter₀)
       × ((tick ≡ stepTick (after .answer) tick₀)
       × ((node ≡ stepNode (after .answer) node₀)
@@ -90,13 +90,13 @@ module _ (after : AfterStep) (r : Stepped) (e : r ≡ after .answer) (s g : List
       × ((size ≡ stepSize (after .answer) size₀) × ((s ≡ after .store) × (g ≡ after .log)))))))
 
   pub event : {line : Line} {size : ℕ} → r ≡ Did line size → Steps 0 (line .letter) (line .tick) (line .node) (line .other) size
-  unfolding stepNumber stepLetter stepTick stepNode stepOther stepSize
+  unfolding stepRefusal stepLetter stepTick stepNode stepOther stepSize
   event {line} {size} h = let a : after .answer ≡ Did line size = sym e ∙ h in (rw a, (rw a, (rw a, (rw a, (rw a, (rw a, left))))))
 
   pub none-left : {line : Line} {size : ℕ} → r ≡ Done line size → Steps 0 (line .letter) (line .tick) (line .node) (line .other) size
-  unfolding stepNumber stepLetter stepTick stepNode stepOther stepSize
+  unfolding stepRefusal stepLetter stepTick stepNode stepOther stepSize
   none-left {line} {size} h = let a : after .answer ≡ Done line size = sym e ∙ h in (rw a, (rw a, (rw a, (rw a, (rw a, (rw a, left))))))
 
   pub unstepped : {number : ℕ} → r ≡ Unstepped number → Steps number letter₀ tick₀ node₀ other₀ size₀
-  unfolding stepNumber stepLetter stepTick stepNode stepOther stepSize
+  unfolding stepRefusal stepLetter stepTick stepNode stepOther stepSize
   unstepped {number} h = let a : after .answer ≡ Unstepped number = sym e ∙ h in (rw a, (rw a, (rw a, (rw a, (rw a, (rw a, left))))))

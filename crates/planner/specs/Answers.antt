@@ -1,6 +1,6 @@
--- What the four calls answer, as numbers for C, and what stands after them behind the pointers that were lent to them. Each number behind
--- a pointer is given for every answer, with `was` for what stood there before: an accepted call puts a value there, a refused one leaves what was
--- there, as 01 says: 'Nothing lent changes, but for a run's earlier events'. Assumes nothing.
+-- What stands after the four calls behind the pointers that were lent to them, for C, and what opening answers. Each number behind a pointer is
+-- given for every answer, with `was` for what stood there before: an accepted call puts a value there, a refused one leaves what was there, as 01
+-- says: 'Nothing lent changes, but for a run's earlier events'. A call answers the number of its refusal, 0 where there is none. Assumes nothing.
 use mathlib.Core.Bool.{cond}
 use Prim.Native.Nat.{ℕ, _+_, _*_}
 use lib.Dec.{eqb}
@@ -21,13 +21,7 @@ unfoldable pub numberAndLine : Opened → ℕ
 numberAndLine Ready = 0
 numberAndLine (Unopened number line) = number + 256 * line
 
--- ---- step: the number, and behind the pointers which event by its letter (E where none is left), its tick, node and other, and the length of
--- its line
-
-unfoldable pub stepNumber : Stepped → ℕ
-stepNumber (Did line size) = 0
-stepNumber (Done line size) = 0
-stepNumber (Unstepped number) = number
+-- ---- step: which event by its letter (E where none is left), its tick, node and other, and the length of its line
 
 unfoldable pub stepLetter : Stepped → ℕ → ℕ
 stepLetter (Did line size) was = line .letter
@@ -54,12 +48,7 @@ stepSize (Did line size) was = size
 stepSize (Done line size) was = size
 stepSize (Unstepped number) was = was
 
--- ---- run: the number, and behind the pointers the events done, and 1 where the budget is spent and another event remains
-
-unfoldable pub runNumber : Ran → ℕ
-runNumber (Finished events) = 0
-runNumber (Spent events) = 0
-runNumber (Unrun number events) = number
+-- ---- run: the events done, and 1 where the budget is spent and another event remains
 
 -- 'At a refused event it answers 8 with the events done', which it keeps; on 7 there are none to keep, and the number is left
 unfoldable pub runEvents : Ran → ℕ → ℕ
@@ -72,11 +61,7 @@ runSpent (Finished events) was = 0
 runSpent (Spent events) was = 1
 runSpent (Unrun number events) was = was
 
--- ---- the run-file writer: the number, and behind the pointer the file's length
-
-unfoldable pub writeNumber : Wrote → ℕ
-writeNumber (Bytes size) = 0
-writeNumber (Unwritten number) = number
+-- ---- the run-file writer: the file's length
 
 unfoldable pub writeSize : Wrote → ℕ → ℕ
 writeSize (Bytes size) was = size

@@ -5,9 +5,9 @@ use platform::Ran;
 use platform::Stepped;
 use platform::Wrote;
 ghost use mathlib.Core.Path.{_≡_};
-ghost use Rattle.platform.specs.Calls.{openFile, step, run, writeFile};
-ghost use Rattle.planner.specs.Answers.{numberAndLine, stepNumber, stepLetter, stepTick, stepNode, stepOther, stepSize};
-ghost use Rattle.planner.specs.Answers.{runNumber, runEvents, runSpent, writeNumber, writeSize};
+ghost use Rattle.platform.specs.Calls.{openFile, step, run, writeFile, stepRefusal, runRefusal, writeRefusal};
+ghost use Rattle.planner.specs.Answers.{numberAndLine, stepLetter, stepTick, stepNode, stepOther, stepSize};
+ghost use Rattle.planner.specs.Answers.{runEvents, runSpent, writeSize};
 
 // The number of an event that is refused, at which a run keeps the events before it.
 const OVERFULL: u64 = 8;
@@ -34,7 +34,7 @@ pub extern "C" fn kelbraut_run(
     events: &mut u64,
     spent: &mut u64,
 ) -> u64
-    ensures { λ r. ⌜ r ≡ runNumber (run (now (store .entry)) budget .answer) ⌝ }
+    ensures { λ r. ⌜ r ≡ runRefusal (run (now (store .entry)) budget .answer) ⌝ }
     ensures { λ _. ⌜ now (events .exit) ≡ runEvents (run (now (store .entry)) budget .answer) (now (events .entry)) ⌝ }
     ensures { λ _. ⌜ now (spent .exit) ≡ runSpent (run (now (store .entry)) budget .answer) (now (spent .entry)) ⌝ }
     ensures { λ _. ⌜ now (store .exit) ≡ run (now (store .entry)) budget .store ⌝ }
@@ -63,7 +63,7 @@ pub extern "C" fn kelbraut_run(
 // Puts the store's run file into a lent part. Answers the number of the refusal, 0 where there is none. Puts the file's length.
 #[no_mangle]
 pub extern "C" fn kelbraut_write(store: &[u8], out: &mut [u8], size: &mut u64) -> u64
-    ensures { λ r. ⌜ r ≡ writeNumber (writeFile (now (store .entry)) (now (out .entry)) .answer) ⌝ }
+    ensures { λ r. ⌜ r ≡ writeRefusal (writeFile (now (store .entry)) (now (out .entry)) .answer) ⌝ }
     ensures { λ _. ⌜ now (size .exit) ≡ writeSize (writeFile (now (store .entry)) (now (out .entry)) .answer) (now (size .entry)) ⌝ }
     ensures { λ _. ⌜ now (out .exit) ≡ writeFile (now (store .entry)) (now (out .entry)) .out ⌝ }
 {
@@ -89,7 +89,7 @@ pub extern "C" fn kelbraut_step(
     other: &mut u64,
     size: &mut u64,
 ) -> u64
-    ensures { λ r. ⌜ r ≡ stepNumber (step (now (store .entry)) (now (log .entry)) .answer) ⌝ }
+    ensures { λ r. ⌜ r ≡ stepRefusal (step (now (store .entry)) (now (log .entry)) .answer) ⌝ }
     ensures { λ _. ⌜ now (letter .exit) ≡ stepLetter (step (now (store .entry)) (now (log .entry)) .answer) (now (letter .entry)) ⌝ }
     ensures { λ _. ⌜ now (tick .exit) ≡ stepTick (step (now (store .entry)) (now (log .entry)) .answer) (now (tick .entry)) ⌝ }
     ensures { λ _. ⌜ now (node .exit) ≡ stepNode (step (now (store .entry)) (now (log .entry)) .answer) (now (node .entry)) ⌝ }
