@@ -1,0 +1,6 @@
+-- In reading order.
+pub mod Tries
+pub mod Whole
+pub mod Logging
+pub mod First
+pub mod Parts

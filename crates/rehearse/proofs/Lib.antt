@@ -1,2 +1,0 @@
-pub mod Logging
-pub mod Lines
