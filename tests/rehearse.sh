@@ -1,7 +1,7 @@
 #!/bin/sh
 # The rehearsal program beside the simulator: the same bytes for generated run files, good and damaged, for a few large ones,
-# for files at and beyond the greatest length, and for input that comes in pieces. Stops at the first difference, prints its seed
-# and keeps its file. tests/simulator.sh builds the simulator and the generator.
+# for files at and beyond the greatest length, and for input that comes in pieces. Then its streams: slow, full, closed or no file.
+# Stops at the first difference, prints its seed and keeps its file. tests/simulator.sh builds the simulator and the generator.
 #
 # Usage: tests/rehearse.sh [SEED [COUNT]]; REHEARSE names another program to compare.
 
@@ -19,12 +19,17 @@ fail() {
     exit 1
 }
 
-# same NAME FILE: both programs write the same bytes. Of the status only a crash is told.
+# run: the program, which ends within two minutes.
+run() {
+    timeout 120 "$rehearse"
+}
+
+# same NAME FILE: both programs write the same bytes. Of the status only a crash and the time limit (124) are told.
 same() {
     status=0
-    "$rehearse" < "$2" > "$work/proved" || status=$?
+    run < "$2" > "$work/proved" || status=$?
     "$out/simulate" < "$2" > "$work/simulated"
-    if [ "$status" -ge 126 ] || ! cmp -s "$work/simulated" "$work/proved"; then
+    if [ "$status" -ge 124 ] || ! cmp -s "$work/simulated" "$work/proved"; then
         cp "$2" "$out/rehearse-failed.run"
         cmp "$work/simulated" "$work/proved" >&2 || true
         fail "$1: the logs differ, status $status; the file is kept as $out/rehearse-failed.run"
@@ -64,10 +69,11 @@ large() {
         for number in $(seq 0 2047); do printf 'L,%d,%d\n' $((number * 3)) $((number % 21 + 1)); done
     } > "$work/large.run"
     same 'every node crashes, 2,048 L lines' "$work/large.run"
+    cp "$work/proved" "$work/large.log"
 }
 
 worked_log() {
-    printf 'P,2,2,3,1,6\nC,3,1\n' | "$rehearse" > "$work/worked" || true
+    printf 'P,2,2,3,1,6\nC,3,1\n' | run > "$work/worked" || true
     printf 'S,2,0,1,0000000000000000
 S,2,1,0,0000000000000000
 C,3,1,1,0000000000000000
@@ -83,9 +89,9 @@ E,6,1,0,0000000000000002
 
 # A file that comes a few bytes at a time, and one longer than a pipe holds.
 pieces() {
-    { printf 'P,2,2'; sleep 0.2; printf ',3,1,6\nC,3'; sleep 0.2; printf ',1\n'; } | "$rehearse" > "$work/pieces" || true
+    { printf 'P,2,2'; sleep 0.2; printf ',3,1,6\nC,3'; sleep 0.2; printf ',1\n'; } | run > "$work/pieces" || true
     cmp "$work/expected" "$work/pieces" || fail 'input in pieces is read otherwise'
-    cat "$work/padded.run" | "$rehearse" > "$work/pieces" || true
+    cat "$work/padded.run" | run > "$work/pieces" || true
     printf '1,0\n' | cmp - "$work/pieces" || fail 'a long input through a pipe is read otherwise'
 }
 
@@ -102,6 +108,7 @@ named 'a byte that is no text' 'P,2,2,3,1,6\n\000\377\n'
 for length in 65536 65537 131072 200000; do padded "$length"; done
 pieces
 large
+python3 tests/streams.py "$rehearse" "$work/large.run" "$work/large.log"
 generated '' $((count / 50))
 generated small "$count"
 echo "rehearse: $files files, $lines lines agree"

@@ -1,0 +1,161 @@
+#!/usr/bin/env python3
+"""The rehearsal program on streams that are slow, full, closed or no file.
+
+Usage: tests/streams.py PROGRAM RUNFILE LOG, where LOG is what the program is to write for RUNFILE, more than a pipe holds.
+Stops at the first case that fails.
+"""
+
+import os
+import socket
+import subprocess
+import sys
+import threading
+import time
+
+LIMIT = 120  # seconds for a run
+PAUSE = 0.3  # seconds for which a slow stream waits
+GOOD = b"P,2,2,3,1,6\nC,3,1\n"
+LOG = b"""S,2,0,1,0000000000000000
+S,2,1,0,0000000000000000
+C,3,1,1,0000000000000000
+X,3,1,0,0000000000000000
+H,3,0,1,0000000000000000
+S,4,0,1,0000000000000000
+X,5,1,0,0000000000000000
+W,6,0,1,0000000000000002
+E,6,1,0,0000000000000002
+"""
+
+
+def fail(case, told):
+    sys.exit(f"streams: {case}: {told}")
+
+
+def start(program, *arguments, stdin=subprocess.PIPE, stdout=subprocess.PIPE):
+    """The program, with SIGPIPE ignored, as python3 ignores it."""
+    return subprocess.Popen([program, *arguments], stdin=stdin, stdout=stdout, stderr=subprocess.PIPE, restore_signals=False)
+
+
+def ended(case, run, given=None):
+    """What a run wrote on standard output and standard error; it ends within the limit."""
+    try:
+        return run.communicate(given, timeout=LIMIT)
+    except subprocess.TimeoutExpired:
+        run.kill()
+        run.wait()
+        fail(case, f"no end after {LIMIT} s")
+
+
+def expect(case, got, wanted):
+    if got != wanted:
+        fail(case, f"{got[:200]!r}, not {wanted[:200]!r}")
+
+
+def expect_one_line(case, errors, start_with):
+    if not errors.startswith(start_with) or errors.count(b"\n") != 1 or not errors.endswith(b"\n"):
+        fail(case, f"standard error has {errors[:200]!r}, not one line that starts with {start_with!r}")
+
+
+def slow_input(program):
+    """A non-blocking input, empty at first, whose C line comes later."""
+    case = "slow non-blocking input"
+    reading, writing = os.pipe()
+    os.set_blocking(reading, False)
+    run = start(program, stdin=reading)
+    os.close(reading)
+    try:
+        for piece in (b"", GOOD[:8], GOOD[8:12], GOOD[12:]):
+            os.write(writing, piece)
+            time.sleep(PAUSE)
+    except BrokenPipeError:
+        pass  # it took the pause for the end, which its log shows
+    os.close(writing)
+    out, errors = ended(case, run)
+    expect(case, out, LOG)
+    expect(case, errors, b"")
+
+
+def directory(program):
+    case = "a directory as input"
+    folder = os.open(".", os.O_RDONLY)
+    out, errors = ended(case, start(program, stdin=folder))
+    os.close(folder)
+    expect(case, out, b"")
+    expect_one_line(case, errors, b"rehearse: standard input: ")
+
+
+def broken_input(program):
+    """An input whose first line comes, and then a read fails: the other end of a socket pair is closed with a byte unread."""
+    case = "an input that fails after its first line"
+    ours, theirs = socket.socketpair()
+    theirs.send(b"x")
+    ours.send(GOOD[:12])
+    ours.close()
+    out, errors = ended(case, start(program, stdin=theirs.fileno()))
+    theirs.close()
+    expect(case, out, b"")
+    expect_one_line(case, errors, b"rehearse: standard input: ")
+
+
+def full_output(program):
+    case = "a full device as output"
+    with open("/dev/full", "wb") as full:
+        _, errors = ended(case, start(program, stdout=full), GOOD)
+    expect_one_line(case, errors, b"rehearse: standard output: ")
+
+
+def closed_output(program):
+    case = "a closed pipe as output, SIGPIPE ignored"
+    reading, writing = os.pipe()
+    os.close(reading)
+    run = start(program, stdout=writing)
+    os.close(writing)
+    _, errors = ended(case, run, GOOD)
+    expect_one_line(case, errors, b"rehearse: standard output: ")
+
+
+def slow_output(program, run_file, log):
+    """A non-blocking output that is full for a while and then read a little at a time."""
+    case = "slow non-blocking output"
+    reading, writing = os.pipe()
+    os.set_blocking(writing, False)
+    with open(run_file, "rb") as given:
+        run = start(program, stdin=given, stdout=writing)
+    os.close(writing)
+    limit = threading.Timer(LIMIT, run.kill)
+    limit.start()
+    time.sleep(PAUSE)
+    out = b""
+    while piece := os.read(reading, 5000):
+        out += piece
+    limit.cancel()
+    os.close(reading)
+    _, errors = ended(case, run)
+    if len(log) <= 65536:
+        fail(case, "the log fits into a pipe")
+    expect(case, out, log)
+    expect(case, errors, b"")
+
+
+def arguments(program):
+    case = "an argument"
+    out, errors = ended(case, start(program, "--help"), GOOD)
+    expect(case, out, b"")
+    expect_one_line(case, errors, b"usage: rehearse ")
+
+
+def main():
+    program, run_file, log_file = sys.argv[1:]
+    with open(log_file, "rb") as log:
+        wanted = log.read()
+    slow_input(program)
+    directory(program)
+    broken_input(program)
+    full_output(program)
+    closed_output(program)
+    slow_output(program, run_file, wanted)
+    arguments(program)
+    print("streams: 7 cases")
+
+
+main()
