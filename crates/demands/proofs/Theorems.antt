@@ -1,6 +1,7 @@
 -- THE THEOREMS: the customer's three demands. The statements stand in specs/Demands.antt. Assumes nothing.
 use Rattle.runfile.proofs.RoundTrip.{written-back, accepted-plan, accepted-order, read-back}
 use Rattle.logline.proofs.LineTrip.{written-of-read, read-of-written}
+use Rattle.rehearsal.proofs.Parts.{whole-output}
 use Rattle.planner.proofs.Answered.{taken-apart}
 use Rattle.demands.specs.Demands.{Demand1, Demand2, Demand3}
 use Rattle.demands.proofs.Demand1.{open-down, step-down, run-down, run-bad-store, write-down}
@@ -35,7 +36,7 @@ demand1 = record {
 
 -- every event and line as 01 fixes them, and the same bytes when read and written again
 pub demand2 : Demand2
-demand2 = record { nodes = rehearsed; events = next-events; fileAgain = file-again; lineAgain = written-of-read; lineBack = read-of-written }
+demand2 = record { nodes = rehearsed; events = next-events; program = whole-output; fileAgain = file-again; lineAgain = written-of-read; lineBack = read-of-written }
 
 -- no live node is ever listed, and the platform settles between two crashes
 pub demand3 : Demand3

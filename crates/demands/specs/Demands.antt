@@ -32,6 +32,7 @@ use Rattle.platform.specs.declared.Wrote.{Wrote}
 use Rattle.platform.specs.declared.Wrote.the-variants.{Bytes}
 use Rattle.platform.specs.Calls.{fileRoom, linesText, openFile, step, ran, run, writeFile, openRefusal, stepRefusal, runRefusal, writeRefusal}
 use Rattle.platform.specs.CallLists.{Call, storeAfterAll, NoneAnswers, eventsOf}
+use Rattle.rehearsal.specs.Part.{WholeOutput}
 use Rattle.planner.specs.Answers.{numberAndLine, stepLetter, stepTick, stepNode, stepOther, stepSize, runEvents, runSpent, writeSize}
 use Rattle.demands.specs.Nodes.{SameAsNodes}
 
@@ -189,6 +190,8 @@ pub record Demand2 : Type 0 where
   -- events and lines
   pub events : (file store : List ℕ) (p : Plan) → fileOf file ≡ accepted p → length store ≡ storeSize
       → (cs : List Call) → NextEvents p cs (storeOf file store cs)
+  -- the rehearsal program: all that it writes of an input is the refusal's number and line, or the whole log
+  pub program : WholeOutput
   -- a run file that is read and written again, whatever calls came between
   pub fileAgain : (file store : List ℕ) (p : Plan) → fileOf file ≡ accepted p → length store ≡ storeSize
       → (cs : List Call) (out : List ℕ) → fileRoom ≤ length out
