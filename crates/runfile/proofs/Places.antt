@@ -5,7 +5,7 @@ use mathlib.Core.Path.{_≡_, sym, ap, _∙_}
 use mathlib.Core.Bool.{Bool, true, false, cond}
 use mathlib.Core.List.{List, [], _∷_, _++_, append-assoc, append-nil}
 use lib.Dec.{eqb}
-use lib.ListN.{length, take, drop, getD, length-append, length-drop, drop-of-length-le, take-append-drop}
+use lib.ListN.{length, take, drop, getD, length-append, length-drop, drop-of-length-le}
 use lib.Seq.{take-suc, split-at, drop-append-add, take-length}
 use Rattle.text.specs.declared.Number.the-variants.{Value, NoNumber}
 use Rattle.text.specs.Number.{digit, ceiling, digitsFrom, numberFrom}
@@ -75,12 +75,6 @@ rows-cut : {A : Type 0} (text : A → List ℕ) (xs : List A) (r : A) (ys : List
 unfolding rowsText
 rows-cut text xs r ys = rows-append text xs (r ∷ ys)
 
--- the first rows' lines are no longer than all
-rows-start : {A : Type 0} (text : A → List ℕ) (xs : List A) (i : ℕ) → length (rowsText text (take i xs)) ≤ length (rowsText text xs)
-rows-start text xs i =
-    let whole : rowsText text xs ≡ rowsText text (take i xs) ++ rowsText text (drop i xs) = ap (rowsText text) (sym (take-append-drop i xs)) ∙ rows-append text (take i xs) (drop i xs) in
-    omega (arith, ap length whole, length-append (rowsText text (take i xs)) (rowsText text (drop i xs)))
-
 every-at : {A : Type 0} (test : A → Bool) (xs : List A) (i : ℕ) (z : A) → i < length xs → every test xs ≡ true → test (getD xs i z) ≡ true
 every-at test xs i z h e = every-there test (take i xs) (getD xs i z) (drop (suc i) xs) (ap (every test) (sym (split-at xs i z h)) ∙ e)
 
@@ -107,23 +101,6 @@ module _ (p : Plan) where
   pub crash-place-last : crashPlace p (length (p .crashes)) ≡ delayPlace p 0
   unfolding crashPlace delayPlace rowsText
   crash-place-last = rw (take-length (p .crashes), append-nil (rowsText crashText (p .crashes)))
-
-  pub delay-place-last : delayPlace p (length (p .delays)) ≡ length (planText p)
-  unfolding delayPlace planText
-  delay-place-last = rw (take-length (p .delays))
-
-  -- every place lies in the text
-  pub crash-place-within : (i : ℕ) → crashPlace p i ≤ length (planText p)
-  unfolding crashPlace planText
-  crash-place-within i =
-      simp length-append
-      (omega (arith, rows-start crashText (p .crashes) i))
-
-  pub delay-place-within : (i : ℕ) → delayPlace p i ≤ length (planText p)
-  unfolding delayPlace planText
-  delay-place-within i =
-      simp length-append
-      (omega (arith, rows-start delayText (p .delays) i))
 
   module _ (z : Crash) (i : ℕ) (h : i < length (p .crashes)) where
     pub crash-place-next : crashPlace p (suc i) ≡ crashPlace p i + length (crashText (getD (p .crashes) i z))

@@ -23,7 +23,8 @@ same-length c = search needs
 returns : tie.Need-returns
 returns c =
     let u = c .before .before .before .before .before .run .ensures in
-    finished _ _ (u .0) _ (u .1) _ _ (c .before .ran .given .1)
+    let was = c .before .before .before .before .before .before .before .before .args in
+    finished _ _ (u .0) _ (u .1) (was .events .now) (was .spent .now) (c .before .ran .given .1)
 
 same-length-2 : tie.Need-same-length-2
 same-length-2 c = search needs
@@ -31,7 +32,8 @@ same-length-2 c = search needs
 returns-2 : tie.Need-returns-2
 returns-2 c =
     let u = c .before .before .before .before .before .run .ensures in
-    spent _ _ (u .0) _ (u .1) _ _ (c .before .ran2 .given .1)
+    let was = c .before .before .before .before .before .before .before .before .args in
+    spent _ _ (u .0) _ (u .1) (was .events .now) (was .spent .now) (c .before .ran2 .given .1)
 
 same-length-3 : tie.Need-same-length-3
 same-length-3 c = search needs
