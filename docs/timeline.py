@@ -1,42 +1,78 @@
 """A log as a picture: the lines of a rehearsal (letter, tick, node, other, list) as a time line in SVG.
 
-Usage: timeline.py < LOG > PICTURE
+Usage: timeline.py [LOG [PICTURE]]
+
+LOG and PICTURE are files; without them, or with -, standard input and output. A file PICTURE is written only once it is complete.
+Status 0: the log is drawn. Status 2: the log ends in a refused event and is drawn up to there. Status 1: nothing is drawn. Where the
+status is not 0, standard error says why.
 
 A row for each node, ticks across. A column's meaning is document 01's: on H, O and X `other` is the sender, on R the subject, on W the
 node listed, on S the observer. The log does not name the sender of a report, so a report is drawn at its receiver, without an arrow.
 An O is drawn from the expired watch that sent it: the list on that W line tells to whom it went.
 """
+import contextlib
+import os
+import re
 import sys
+import textwrap
 from collections import namedtuple
 
 Event = namedtuple("Event", "letter tick node other list")
 
-LEFT, TOP, RIGHT = 74, 46, 150
-WIDEST, NARROWEST = 1500, 700
-MOST_TICK_WIDTH = 60
+NUMBER = "(0|[1-9][0-9]{0,6})"
+LOG_LINE = re.compile(f"([A-Z]),{NUMBER},{NUMBER},{NUMBER},([0-9a-f]{{16}})")
+REFUSAL = re.compile(f"{NUMBER},{NUMBER}")
+LETTERS = "CHORXWSE"
+
+# Document 01's numbers 1 to 8 in words. The rehearsal program answers with any of them but 7.
+REFUSALS = {
+    1: "the run file has no bytes, or more than 65,536",
+    2: "the form of the line: its letter, the number of its fields, a digit, its line feed, or the order of the letters P, C, L. Usual"
+    " causes are a carriage return before the line feed, no line feed after the last line, a blank line, a space, a leading zero, and a"
+    " byte order mark before the first line",
+    3: "a number of the line is outside its range, or a node is not below N",
+    4: "the time-out W is below H + D, the heartbeat period and the longest delay together",
+    5: "the C lines do not rise by tick, then node, or the L lines by number; or a node crashes twice",
+    6: "there are more than 2,048 L lines",
+    7: "the store has another length, a field out of range, or an unused byte that is not zero",
+    8: "more than 2,048 messages would be in flight",
+}
+
+LEFT, TOP = 76, 62
+WIDEST, NARROWEST = 1500, 690
+TICK_WIDTH, MOST_TICK_WIDTH = 16, 90
+LETTER_WIDTH = 6.8
 MOST_MARKS = 8000
 MOST_LABELS = 160
-LEGEND_ROW = 22
+MOST_LISTED = 6
+LEGEND_ROW = 24
+LISTS = "list at the end"
 
 STYLE = """
-text { font-family: sans-serif; font-size: 11px; fill: #333333 }
-.small { font-size: 9px }
-.faint { fill: #888888 }
-.grid { stroke: #eeeeee; stroke-width: 1 }
-.life { stroke: #444444; stroke-width: 1.2 }
-.dead { stroke: #cccccc; stroke-width: 1.2 }
-.gone { fill: #f4f4f4 }
-.sent { stroke: #86b2dc; stroke-width: 1 }
-.heard { stroke: #9fcfb4; stroke-width: 1 }
-.dropped { stroke: #bbbbbb; stroke-width: 1 }
+text { font-family: Helvetica, Arial, sans-serif; font-size: 13px; fill: #222222 }
+.small { font-size: 12px }
+.faint { fill: #666666 }
+.tick, .new { font-size: 12px; paint-order: stroke; stroke: #ffffff; stroke-width: 3px }
+.new { fill: #a85a0c }
+.grid { stroke: #e6e6e6; stroke-width: 1 }
+.life { stroke: #555555; stroke-width: 1.3 }
+.dead { stroke: #cccccc; stroke-width: 1.3 }
+.gone { fill: #f1f1f1 }
+.sent { stroke: #2f7fd0; stroke-width: 1.5 }
+.heard { stroke: #2f9e63; stroke-width: 1.5 }
+.dropped { stroke: #999999; stroke-width: 1.3 }
 .listed { fill: #f6c89a }
-.report { fill: #d9822b; stroke: #d9822b; stroke-width: 1 }
-.known { fill: #ffffff; stroke: #d9822b; stroke-width: 1 }
-.observer { stroke: #6a4fb3; stroke-width: 1.3; fill: none }
+.report { fill: #d9822b; stroke: #d9822b; stroke-width: 1.2 }
+.known { fill: #ffffff; stroke: #d9822b; stroke-width: 1.2 }
+.observer { stroke: #6a4fb3; stroke-width: 1.5; fill: none }
 .head { fill: #6a4fb3 }
 .watch { fill: #c0392b }
-.crash { stroke: #000000; stroke-width: 2 }
-.end { stroke: #333333; stroke-width: 1.2 }
+.crash { stroke: #000000; stroke-width: 2.4 }
+.end { stroke: #333333; stroke-width: 1.3 }
+.all { stroke: #1b7a47; stroke-width: 2; stroke-dasharray: 6 4 }
+.good { font-size: 13px; font-weight: bold; fill: #1b7a47 }
+.bad { font-size: 12px; fill: #b0281a }
+.refused { stroke: #b0281a; stroke-width: 2.4 }
 """
 
 
@@ -44,36 +80,109 @@ def fail(why):
     sys.exit(f"timeline: {why}")
 
 
+# ---- reading
+
+
+def in_words(number, line):
+    place = f" at line {line} of the run file" if line else ""
+    return f"refused by {number}{place}: {REFUSALS.get(number, 'a number that this script has no words for')}"
+
+
 def read_event(number, line):
-    fields = line.split(",")
-    try:
-        letter, tick, node, other, dead = fields
-        event = Event(letter, int(tick), int(node), int(other), int(dead, 16))
-    except ValueError:
-        fail(f"line {number} is no log line: {line!r}")
-    if letter not in "CHORXWSE" or len(letter) != 1:
-        fail(f"line {number} has an unknown letter: {line!r}")
-    return event
+    fields = LOG_LINE.fullmatch(line)
+    if not fields:
+        hint = "; it looks like one of a run file, whose log the rehearsal program writes" if number == 1 and line[:2] == "P," else ""
+        fail(f"line {number} is no log line: {line!r}{hint}")
+    letter, tick, node, other = fields[1], int(fields[2]), int(fields[3]), int(fields[4])
+    if letter not in LETTERS:
+        fail(f"line {number} has the letter {letter}, which is not among those that this script knows, {' '.join(LETTERS)}")
+    most_node, most_other = (64, 2048) if letter == "E" else (63, 63)
+    if tick > 1_000_000 or node > most_node or other > most_other:
+        fail(f"line {number} has a number outside its range: {line!r}")
+    return Event(letter, tick, node, other, int(fields[5], 16))
+
+
+def read_lines(text):
+    """The lines of a log, unless it is cut off or is the refusal of a run file."""
+    if text == "":
+        fail("the log is empty: it ends before its last line")
+    lines = text.split("\n")
+    if lines.pop() != "":
+        fail(f"the log ends before its last line: line {len(lines) + 1} has no line feed")
+    refusal = REFUSAL.fullmatch(lines[0])
+    if len(lines) == 1 and refusal:
+        fail("nothing is drawn, as the rehearsal was " + in_words(*map(int, refusal.groups())))
+    return lines
 
 
 def read_log(text):
     """The events, and the last line: E, or nothing where the log ends in a refused event."""
-    lines = text.split("\n")
-    if lines and lines[-1] == "":
-        lines.pop()
-    refused = bool(lines) and lines[-1] == "8,0"
+    lines = read_lines(text)
+    refused = lines[-1] == "8,0"
     events = [read_event(number, line) for number, line in enumerate(lines[: len(lines) - refused], 1)]
-    if not events and not refused:
-        fail("the log is empty")
+    for number, event in enumerate(events, 1):
+        if event.letter == "E" and number < len(lines):
+            fail(f"line {number} is the last of a log, but line {number + 1} follows it")
+        if event.tick < events[max(number - 2, 0)].tick:
+            fail(f"line {number} has an earlier tick than the line before it")
     if refused:
         return events, None
     if events[-1].letter != "E":
-        fail("the log has no last line E")
+        fail(f"the log ends before its last line: after line {len(lines)} there is neither E nor 8,0")
+    if members(events[-1].list) != sorted(event.node for event in events if event.letter == "C"):
+        fail("the last line's crashed nodes are not those of the C lines: the log's beginning may be missing")
     return events[:-1], events[-1]
+
+
+# ---- lists
 
 
 def members(dead):
     return [node for node in range(64) if dead >> node & 1]
+
+
+def spelled(nodes):
+    """Node numbers in words: 'node 3' or 'nodes 1, 4-7'."""
+    runs = []
+    for node in nodes:
+        if runs and node == runs[-1][1] + 1:
+            runs[-1][1] = node
+        else:
+            runs.append([node, node])
+    parts = [str(a) if a == b else f"{a}, {b}" if b == a + 1 else f"{a}-{b}" for a, b in runs]
+    return ("node " if len(nodes) == 1 else "nodes ") + ", ".join(parts)
+
+
+def grown(events):
+    """The events after which the node's list is longer, with what is new in it."""
+    lists = {}
+    for event in events:
+        new = event.list & ~lists.get(event.node, 0)
+        lists[event.node] = event.list
+        if new:
+            yield event, members(new)
+
+
+def last_lists(nodes, events):
+    """Each node's list at the end."""
+    held = {event.node: event.list for event in events}
+    return [held.get(node, 0) for node in range(nodes)]
+
+
+def knowledge(nodes, events):
+    """The tick from which, until the end, all survivors list all crashed nodes, or nothing; and what each survivor lacks at the end."""
+    lists, crashed, since, lacking = [0] * nodes, 0, 0, {}
+    for event in events:
+        if event.letter != "C" and event.list == lists[event.node]:
+            continue
+        lists[event.node] = event.list
+        crashed |= (event.letter == "C") << event.node
+        lacking = {node: crashed & ~lists[node] for node in range(nodes) if not crashed >> node & 1 and crashed & ~lists[node]}
+        if lacking:
+            since = None
+        elif since is None:
+            since = event.tick
+    return since, lacking
 
 
 class Picture:
@@ -81,14 +190,24 @@ class Picture:
 
     def __init__(self, events, last):
         self.events, self.last = events, last
-        named = [max(event.node, event.other) + 1 for event in events]
-        self.nodes = last.node + len(members(last.list)) if last else max(named, default=1)
-        self.end = last.tick if last else max((event.tick for event in events), default=0)
-        width = min(WIDEST, max(NARROWEST, (self.end + 1) * MOST_TICK_WIDTH))
+        named = max((max(event.node, event.other) + 1 for event in events), default=1)
+        self.nodes = last.node + len(members(last.list)) if last else named
+        if named > self.nodes or self.nodes > 64:
+            fail(f"the log names node {named - 1}, but its last line counts {self.nodes} nodes")
+        self.end = last.tick if last else events[-1].tick
+        width = min(WIDEST, max(NARROWEST, (self.end + 1) * TICK_WIDTH))
         self.scale = min(MOST_TICK_WIDTH, width / (self.end + 1))
-        self.row = 44 if self.nodes <= 12 else 26 if self.nodes <= 32 else 18
+        self.row = 44 if self.nodes <= 12 else 28 if self.nodes <= 32 else 22
         self.crashes = {event.node: event.tick for event in events if event.letter == "C"}
+        self.last_words = [self.at_end(node, members(dead)) for node, dead in enumerate(last_lists(self.nodes, events))]
+        longest = max(len(words) for words in [LISTS, *self.last_words])
+        self.right = round(max(self.x(self.end) + 10 + LETTER_WIDTH * longest, LEFT + NARROWEST))
         self.elements = []
+
+    def at_end(self, node, held):
+        if node in self.crashes:
+            return f"crashed at {self.crashes[node]}"
+        return "{" + ", ".join(map(str, held)) + "}" if len(held) <= MOST_LISTED else f"{len(held)} nodes"
 
     def x(self, tick):
         return round(LEFT + tick * self.scale, 1)
@@ -110,8 +229,15 @@ class Picture:
         title = f"<title>{told}</title>" if told else ""
         self.elements.append(f'<path class="{kind}" d="{path}">{title}</path>')
 
-    def text(self, x, y, words, kind="", anchor="start"):
+    def text(self, x, y, words, kind, anchor="start"):
         self.elements.append(f'<text class="{kind}" x="{x:g}" y="{y:g}" text-anchor="{anchor}">{words}</text>')
+
+    def paragraph(self, y, words, kind):
+        """Words in lines as wide as the legend. Answers where the next line stands."""
+        for line in textwrap.wrap(words, int((self.right - LEFT) / LETTER_WIDTH), break_on_hyphens=False):
+            self.text(LEFT, y, line, kind)
+            y += 18
+        return y
 
     # ---- marks, used by the rows and by the legend
 
@@ -120,24 +246,27 @@ class Picture:
         self.line(kind, x - size, y + size, x + size, y - size)
 
     def diamond(self, kind, x, y, told=None):
-        self.shape(kind, [(x, y - 4), (x + 4, y), (x, y + 4), (x - 4, y)], told)
+        self.shape(kind, [(x, y - 4.5), (x + 4.5, y), (x, y + 4.5), (x - 4.5, y)], told)
 
     def triangle(self, x, y, told=None):
-        self.shape("watch", [(x - 5, y - 6), (x + 5, y - 6), (x, y + 3)], told)
+        self.shape("watch", [(x - 6, y - 7), (x + 6, y - 7), (x, y + 4)], told)
 
     def arrow(self, x1, y1, x2, y2):
         length = max(((x2 - x1) ** 2 + (y2 - y1) ** 2) ** 0.5, 1)
         dx, dy = (x2 - x1) / length, (y2 - y1) / length
-        back_x, back_y = x2 - 7 * dx, y2 - 7 * dy
+        back_x, back_y = x2 - 8 * dx, y2 - 8 * dy
         self.line("observer", x1, y1, round(back_x, 1), round(back_y, 1))
-        wings = [(x2, y2), (back_x - 3 * dy, back_y + 3 * dx), (back_x + 3 * dy, back_y - 3 * dx)]
+        wings = [(x2, y2), (back_x - 3.5 * dy, back_y + 3.5 * dx), (back_x + 3.5 * dy, back_y - 3.5 * dx)]
         self.shape("head", [(round(x, 1), round(y, 1)) for x, y in wings])
 
 
+# ---- drawing, from the ground up
+
+
 def tick_step(picture):
-    """A round number of ticks that stand at least 50 apart in the picture."""
-    step = 1
-    while step * picture.scale < 50:
+    """A round number of ticks whose labels stand apart in the picture."""
+    step, room = 1, 20 + 8 * len(str(picture.end))
+    while step * picture.scale < room:
         step = step * 5 // 2 if str(step)[0] == "2" else step * 2
     return step
 
@@ -145,8 +274,12 @@ def tick_step(picture):
 def draw_grid(picture):
     for tick in range(0, picture.end + 1, tick_step(picture)):
         picture.line("grid", picture.x(tick), TOP - 6, picture.x(tick), picture.bottom())
-        picture.text(picture.x(tick), TOP - 12, tick, "small faint", "middle")
-    picture.text(LEFT - 12, TOP - 12, "tick", "small faint", "end")
+
+
+def draw_ticks(picture):
+    for tick in range(0, picture.end + 1, tick_step(picture)):
+        picture.text(picture.x(tick), TOP - 12, tick, "tick faint", "middle")
+    picture.text(LEFT - 14, TOP - 12, "tick", "small faint", "end")
 
 
 def draw_rows(picture):
@@ -154,20 +287,10 @@ def draw_rows(picture):
         y, end = picture.y(node), picture.x(picture.end)
         crash = picture.x(picture.crashes.get(node, picture.end))
         if node in picture.crashes:
-            picture.rect("gone", crash, y - picture.row / 2, end - crash, picture.row)
+            picture.rect("gone", crash, y - picture.row / 2, round(end - crash, 1), picture.row)
             picture.line("dead", crash, y, end, y)
         picture.line("life", picture.x(0), y, crash, y)
-        picture.text(LEFT - 12, y + 4, f"node {node}", "faint" if node in picture.crashes else "", "end")
-
-
-def grown(events):
-    """The events after which the node's list is longer, with what is new in it."""
-    lists = {}
-    for event in events:
-        new = event.list & ~lists.get(event.node, 0)
-        lists[event.node] = event.list
-        if new:
-            yield event, members(new)
+        picture.text(LEFT - 14, y + 4, f"node {node}", "node faint" if node in picture.crashes else "node", "end")
 
 
 def draw_lists(picture):
@@ -198,15 +321,15 @@ def thinned(picture, events):
 
 def draw_heartbeats(picture):
     kept, thin = thinned(picture, [event for event in picture.events if event.letter in "SHX"])
-    size = 5 if picture.row > 20 else 3
+    size = 8 if picture.row > 40 else 5
     for event in kept:
         x, y = picture.x(event.tick), picture.y(event.node)
         if event.letter == "S":
-            picture.line("sent", x, y - size - 1, x, y)
+            picture.line("sent", x, y - size, x, y)
         elif event.letter == "H":
-            picture.line("heard", x, y, x, y + size + 1)
+            picture.line("heard", x, y, x, y + size)
         else:
-            picture.cross("dropped", x, y, 2)
+            picture.cross("dropped", x, y, 2.5)
     return thin
 
 
@@ -248,63 +371,86 @@ def draw_watches_and_crashes(picture):
         if event.letter == "W":
             picture.triangle(x, y, f"tick {event.tick}: node {event.node} lists node {event.other}, whose heartbeat did not come")
         elif event.letter == "C":
-            picture.cross("crash", x, y, 5)
+            picture.cross("crash", x, y, 6)
 
 
 def draw_labels(picture):
-    """What is new in a list, where there is room; and each list at the end."""
-    changes = list(grown(picture.events))
-    free = {}
+    """What is new in a list, where there is room: right of the mark, at the end left of it. Answers the legend's words about it."""
+    changes, free, drawn = list(grown(picture.events)), {}, 0
     for event, new in changes if len(changes) <= MOST_LABELS else []:
-        x, words = picture.x(event.tick) + 6, "+" + ",".join(str(node) for node in new)
-        if x >= free.get(event.node, 0):
-            picture.text(x, picture.y(event.node) - 7, words, "small")
-            free[event.node] = x + 6 * len(words) + 2
-    lists = {event.node: event.list for event in picture.events}
-    for node in range(picture.nodes):
-        held = members(lists.get(node, 0))
-        words = "{" + ", ".join(str(other) for other in held) + "}" if len(held) <= 8 else f"{len(held)} listed"
-        if node in picture.crashes:
-            words = f"crashed at {picture.crashes[node]}"
-        picture.text(picture.x(picture.end) + 10, picture.y(node) + 4, words, "small faint")
+        x, words = picture.x(event.tick), "+" + ",".join(str(node) for node in new)
+        room = 8 + 8 * len(words)
+        left = x + 8 if x + room <= picture.x(picture.end) else x - room
+        if left >= free.get(event.node, LEFT):
+            picture.text(left, picture.y(event.node) - 7, words, "new")
+            free[event.node] = left + room
+            drawn += 1
+    words = "; +3: node 3 is new in the list" + ", where there is room" * (drawn < len(changes))
+    return words if drawn else ""
 
 
 def draw_end(picture):
-    x, last = picture.x(picture.end), picture.last
-    picture.line("end", x, TOP - 6, x, picture.bottom() + 6)
-    words = f"refused by 8 after tick {picture.end}"
+    """What each row comes to, and the last line's words under the rows."""
+    x, last, y = picture.x(picture.end), picture.last, picture.bottom() + 22
+    picture.text(x + 10, TOP - 38, LISTS, "small faint")
+    for node, words in enumerate(picture.last_words):
+        picture.text(x + 10, picture.y(node) + 4, words, "small faint" if node in picture.crashes else "small")
     if last:
+        picture.line("end", x, TOP - 6, x, picture.bottom() + 6)
         words = f"end of tick {last.tick}: {last.node} survivor{'' if last.node == 1 else 's'}, {last.other} in flight"
-    picture.text(x, picture.bottom() + 18, words, "small", "end")
+        picture.text(LEFT, y, words, "small")
+    else:
+        picture.line("refused", x, TOP - 6, x, picture.bottom() + 6)
+        picture.paragraph(y, f"Refused by 8 in tick {picture.end} or later: {REFUSALS[8]}.", "bad")
 
 
-def draw_legend(picture, thin):
-    """The marks with their meaning, and a note. Answers where the picture ends."""
-    y = picture.bottom() + 44
+def draw_knowledge(picture, since, lacking):
+    """The tick from which all survivors list all crashed nodes, as a line with a label. Else words for the legend: who lacks whom."""
+    if not picture.crashes:
+        return "No node crashes."
+    if len(picture.crashes) == picture.nodes:
+        return "No node survives."
+    if lacking:
+        who = {}
+        for node, lacks in lacking.items():
+            who.setdefault(lacks, []).append(node)
+        said = [f"{spelled(nodes)} {'lacks' if len(nodes) == 1 else 'lack'} {spelled(members(lacks))}" for lacks, nodes in who.items()]
+        return "At the end " + "; ".join(said) + "."
+    words, x = f"all know from tick {since}", picture.x(since)
+    half = LETTER_WIDTH * len(words) / 2 + 8
+    picture.line("all", x, TOP - 32, x, picture.bottom() + 6)
+    picture.text(max(LEFT + half, min(x, picture.x(picture.end) - half)), TOP - 38, words, "good", "middle")
+    return ""
+
+
+def draw_legend(picture, lacks, labelled, thin):
+    """Who lacks whom, the marks with their meaning, and a note. Answers where the picture ends."""
+    y = picture.paragraph(picture.bottom() + 46, lacks, "bad" if lacks.startswith("At") else "small") + (4 if lacks else 0)
     entries = [
-        (lambda x, y: picture.cross("crash", x, y, 5), "C, crash"),
-        (lambda x, y: picture.line("sent", x, y - 6, x, y), "S, heartbeat sent"),
-        (lambda x, y: picture.line("heard", x, y, x, y + 6), "H, heartbeat received"),
-        (lambda x, y: picture.cross("dropped", x, y, 2), "X, dropped at a crashed node"),
+        (lambda x, y: picture.cross("crash", x, y, 6), "C, crash"),
+        (lambda x, y: picture.line("sent", x, y - 6, x, y + 4), "S, heartbeat sent"),
+        (lambda x, y: picture.line("heard", x, y - 4, x, y + 6), "H, heartbeat received"),
+        (lambda x, y: picture.cross("dropped", x, y, 2.5), "X, dropped at a crashed node"),
         (lambda x, y: picture.triangle(x, y + 1), "W, watch expired: the emitter is listed"),
         (lambda x, y: picture.arrow(x - 10, y, x + 8, y), "O, from the new observer to its emitter"),
         (lambda x, y: picture.diamond("report", x, y), "R, report that adds its subject"),
         (lambda x, y: picture.diamond("known", x, y), "R of a node listed before"),
-        (lambda x, y: picture.rect("listed", x - 8, y - 3, 16, 7), "share of the nodes listed; +3: node 3 is new in the list"),
+        (lambda x, y: picture.rect("listed", x - 8, y - 4, 16, 8), "share of the nodes listed" + labelled),
     ]
+    if picture.crashes and not lacks:
+        entries.append((lambda x, y: picture.line("all", x - 9, y, x + 9, y), "from here all survivors list all crashed nodes"))
     x = LEFT
     for mark, words in entries:
-        width = 36 + 6 * len(words)
-        if x > LEFT and x + width > max(picture.x(picture.end), NARROWEST):
+        width = 38 + LETTER_WIDTH * len(words)
+        if x > LEFT and x + width > picture.right:
             x, y = LEFT, y + LEGEND_ROW
-        mark(x + 8, y - 3)
-        picture.text(x + 22, y, words, "small")
+        mark(round(x + 9, 1), y - 4)
+        picture.text(round(x + 24, 1), y, words, "small")
         x += width
     note = "A log line names the subject of a report, not its sender, so a report stands at its receiver without an arrow."
     if thin:
         note += " Of heartbeats, drops and reports that change nothing, not all are drawn."
-    picture.text(LEFT, y + LEGEND_ROW, note, "small faint")
-    return y + 2 * LEGEND_ROW
+    return picture.paragraph(y + LEGEND_ROW, note, "small faint")
 
 
 def draw(events, last):
@@ -313,17 +459,67 @@ def draw(events, last):
     draw_rows(picture)
     draw_lists(picture)
     thin = draw_heartbeats(picture)
+    lacks = draw_knowledge(picture, *knowledge(picture.nodes, events))
+    draw_ticks(picture)
     draw_observers(picture)
     thin = draw_reports(picture) or thin
     draw_watches_and_crashes(picture)
-    draw_labels(picture)
+    labelled = draw_labels(picture)
     draw_end(picture)
-    height = draw_legend(picture, thin)
-    width = max(picture.x(picture.end), NARROWEST) + RIGHT
+    width, height = picture.right + 8, draw_legend(picture, lacks, labelled, thin)
     head = f'<svg xmlns="http://www.w3.org/2000/svg" width="{width:g}" height="{height:g}" viewBox="0 0 {width:g} {height:g}">'
     ground = f'<rect fill="#ffffff" x="0" y="0" width="{width:g}" height="{height:g}"/>'
     return "\n".join([head, f"<style>{STYLE}</style>", ground, *picture.elements, "</svg>"]) + "\n"
 
 
+# ---- files
+
+
+def read_text(path):
+    if path == "-":
+        return sys.stdin.buffer.read().decode("ascii", "replace")
+    with open(path, encoding="ascii", errors="replace", newline="") as file:
+        return file.read()
+
+
+def write_picture(path, picture):
+    """Writes it beside its place, then renames it, so that a picture is there whole or not at all."""
+    if path == "-":
+        sys.stdout.write(picture)
+        return
+    place = os.path.realpath(path)
+    if os.path.exists(place) and not os.path.isfile(place):
+        fail(f"{path} is no file")
+    part = f"{place}.{os.getpid()}.part"
+    try:
+        with open(part, "x", encoding="ascii") as file:
+            file.write(picture)
+        os.replace(part, place)
+    finally:
+        with contextlib.suppress(FileNotFoundError):
+            os.remove(part)
+
+
+def main(arguments):
+    if arguments in (["-h"], ["--help"]):
+        print(__doc__)
+        return
+    if len(arguments) > 2:
+        fail("usage: timeline.py [LOG [PICTURE]]")
+    log, picture = (arguments + ["-", "-"])[:2]
+    try:
+        text = read_text(log)
+    except OSError as error:
+        fail(f"{log}: {error.strerror}")
+    events, last = read_log(text)
+    try:
+        write_picture(picture, draw(events, last))
+    except OSError as error:
+        fail(f"{picture}: {error.strerror}")
+    if last is None:
+        print("timeline: drawn up to an event that was " + in_words(8, 0), file=sys.stderr)
+        sys.exit(2)
+
+
 if __name__ == "__main__":
-    sys.stdout.write(draw(*read_log(sys.stdin.read())))
+    main(sys.argv[1:])

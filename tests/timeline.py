@@ -1,0 +1,437 @@
+"""Holds what docs/timeline.py draws and says against the lines of logs.
+
+Usage: timeline.py SIMULATE DIRECTORY SHOWN FILE..., the simulator's program, a directory for pictures, the run file of the committed
+picture, and more run files, good and damaged. Stops at the first difference.
+"""
+import os
+import re
+import resource
+import subprocess
+import sys
+from collections import Counter, defaultdict
+from xml.etree import ElementTree
+
+SVG = "{http://www.w3.org/2000/svg}"
+LETTER = 0.55  # width of a letter, as a share of the font's size
+simulate, directory, shown, *files = sys.argv[1:]
+place = os.path.join(directory, "picture.svg")
+seen = Counter()
+
+
+def check(holds, words):
+    if not holds:
+        sys.exit(f"timeline: {words}")
+
+
+def log_of(run_file):
+    return subprocess.run([simulate], input=run_file, capture_output=True, check=True).stdout
+
+
+def timeline(log, *arguments, limit=None):
+    """Runs the script; a limit is that of the bytes it may write to a file."""
+    bounds = (lambda: resource.setrlimit(resource.RLIMIT_FSIZE, (limit, limit))) if limit else None
+    done = subprocess.run([sys.executable, "docs/timeline.py", *arguments], input=log, capture_output=True, preexec_fn=bounds)
+    check(b"Traceback" not in done.stderr, f"timeline.py fails on {log[:200]!r}: {done.stderr.decode()}")
+    return done
+
+
+def drawn(log, status=0):
+    """The picture of a log; nothing else is left beside it."""
+    before = sorted(os.listdir(directory))
+    done = timeline(log, "-", place)
+    check(done.returncode == status, f"status {done.returncode}, not {status}, for {log[:200]!r}: {done.stderr.decode()}")
+    check(done.stdout == b"" and (status == 0) == (done.stderr == b""), f"words where none belong: {done.stdout[:200]} {done.stderr}")
+    check(sorted(os.listdir(directory)) == sorted(before + ["picture.svg"]), "a file is left beside the picture")
+    with open(place, "rb") as file:
+        picture = file.read()
+    os.remove(place)
+    return picture
+
+
+def refused(log, *words, arguments=("-", place), limit=None):
+    """Nothing is drawn, no file is made, and standard error has these words."""
+    before = sorted(os.listdir(directory))
+    done = timeline(log, *arguments, limit=limit)
+    said = done.stderr.decode()
+    check(done.returncode == 1 and done.stdout == b"", f"{log[-200:]!r} is not refused: status {done.returncode}")
+    check(sorted(os.listdir(directory)) == before, f"a file is left by the refusal of {log[-200:]!r}")
+    for word in words:
+        check(word in said, f"the refusal of {log[-200:]!r} does not say {word!r}: {said}")
+
+
+# ---- what is said
+
+
+REFUSALS = {
+    1: ["no bytes", "65,536"],
+    2: ["form", "carriage return", "no line feed after the last line", "blank line", "space", "byte order mark"],
+    3: ["range", "not below N"],
+    4: ["W is below H + D"],
+    5: ["rise", "twice"],
+    6: ["2,048 L lines"],
+    7: ["store"],
+    8: ["2,048 messages", "in flight"],
+}
+
+
+def refusals(log):
+    for number, words in REFUSALS.items():
+        refused(b"%d,0\n" % number, f"refused by {number}:", *words)
+        refused(b"%d,17\n" % number, f"refused by {number} at line 17 of the run file:", *words)
+        refused(b"%d,0\n" % number, *words, arguments=())
+    refused(b"13,2\n", "refused by 13 at line 2", "no words")
+    for run_file in [b"P,2,2,3,1,6\r\n", b"P,2,2,3,1,6", b"P,2,2,3,1,6\n\n", b"P,2, 2,3,1,6\n", b"\xef\xbb\xbfP,2,2,3,1,6\n"]:
+        refused(log_of(run_file), "refused by 2 at line", "carriage return")
+    refused(log_of(b"P,2,2,2,1,6\n"), "refused by 4 at line 1", "W is below H + D")
+    with open(place, "wb") as file:
+        file.write(b"an older picture")
+    refused(b"4,1\n", "nothing is drawn")
+    refused(log, "File too large", limit=2000)
+    with open(place, "rb") as file:
+        check(file.read() == b"an older picture", "a refusal changes an older picture")
+    timeline(log, "-", place)
+    with open(place, "rb") as file:
+        check(file.read().endswith(b"</svg>\n"), "a picture does not take an older one's place")
+    os.remove(place)
+    refused(log, "File too large", limit=2000)
+
+
+def incomplete(log):
+    """Cut off at each byte of the last line, after a line now and then, and somewhere in a line."""
+    lines = log.splitlines(keepends=True)
+    last = len(log) - len(lines[-1])
+    refused(b"", "empty", "ends before its last line")
+    for size in [*range(last, len(log)), *range(1, last, 197)]:
+        refused(log[:size], "the log ends before its last line")
+    for count in range(1, len(lines), 20):
+        refused(b"".join(lines[:count]), "the log ends before its last line")
+    refused(b"".join(line for line in lines if line[:1] != b"C"), "beginning may be missing")
+
+
+def strange(log):
+    lines = log.splitlines(keepends=True)
+    refused(lines[0] + b"K,6,0,1,0000000000000002\n" + b"".join(lines[1:]), "line 2 has the letter K", "C H O R X W S E")
+    for line in [b"S,2,0,1,7,0000000000000000\n", b"S,2,0,0000000000000000\n", b"S,2,0,1,0000000000000000\r\n", b"S,02,0,1,0000000000000000\n"]:
+        refused(line + log, "line 1 is no log line")
+    refused(b"S,2,64,1,0000000000000000\n" + log, "line 1 has a number outside its range")
+    refused(lines[-2] + log, "line 2 has an earlier tick")
+    refused(log + lines[-1], f"line {len(lines)} is the last of a log", f"line {len(lines) + 1} follows it")
+    refused(log + b"8,0\n", f"line {len(lines)} is the last of a log", f"line {len(lines) + 1} follows it")
+    refused(b"4,1\n" + log, "line 1 is no log line")
+    refused(log + b"4,1\n", f"line {len(lines) + 1} is no log line")
+    refused(b"P,2,2,3,1,6\nC,3,1\n", "line 1 is no log line", "run file")
+    refused(b"S,2,9,0,0000000000000000\n" + log, "names node 9", "counts 6 nodes")
+    refused(log, "usage", arguments=("-", place, "more"))
+    refused(log, "absent: No such file", arguments=(os.path.join(directory, "absent"), place))
+    refused(log, "absent/picture.svg: No such file", arguments=("-", os.path.join(directory, "absent", "picture.svg")))
+    refused(log, "is no file", arguments=("-", directory))
+
+
+def forms(log):
+    """All forms of the command give the same picture."""
+    picture, kept = drawn(log), os.path.join(directory, "kept.log")
+    with open(kept, "wb") as file:
+        file.write(log)
+    for arguments in [(), ("-",), ("-", "-"), (kept,), (kept, "-")]:
+        check(timeline(log, *arguments).stdout == picture, f"another picture by the arguments {arguments}")
+    timeline(b"", kept, place)
+    with open(place, "rb") as file:
+        check(file.read() == picture, "another picture by LOG PICTURE")
+    os.remove(place)
+    os.remove(kept)
+    check(b"Usage" in timeline(b"", "--help").stdout, "--help does not help")
+
+
+# ---- what the log says
+
+
+def fields(log):
+    """The columns of the events' lines, without the last line."""
+    for line in log.decode().splitlines()[:-1]:
+        letter, tick, node, other, dead = line.split(",")
+        yield letter, int(tick), int(node), int(other), int(dead, 16)
+
+
+def knowledge(nodes, log):
+    """By pairs: the last of the first ticks at which a survivor lists a crashed node; and which nodes each survivor never lists."""
+    first, crashed = {}, set()
+    for letter, tick, node, other, dead in fields(log):
+        if letter == "C":
+            crashed.add(node)
+        for listed in range(nodes):
+            if dead >> listed & 1:
+                first.setdefault((node, listed), tick)
+    pairs = [(survivor, dead) for survivor in range(nodes) if survivor not in crashed for dead in crashed]
+    lacking = defaultdict(set)
+    for survivor, dead in pairs:
+        if (survivor, dead) not in first:
+            lacking[survivor].add(dead)
+    return None if lacking or not pairs else max(first[pair] for pair in pairs), dict(lacking), crashed
+
+
+# ---- what the picture says
+
+
+class Seen:
+    """A picture's elements, by class."""
+
+    def __init__(self, picture):
+        self.root = ElementTree.fromstring(picture)
+        self.width, self.height = float(self.root.get("width")), float(self.root.get("height"))
+        style = self.root.find(SVG + "style").text
+        self.usual = float(re.search(r"(?m)^text \{[^}]*font-size: (\d+)px", style)[1])
+        self.sizes = {}
+        for names, size in re.findall(r"(?m)^([^{}]*)\{[^}]*font-size: (\d+)px", style):
+            self.sizes.update({name.strip(" ."): float(size) for name in names.split(",")})
+        self.texts = list(self.root.iter(SVG + "text"))
+        # The linear map from ticks to places, by the labels; and the rows.
+        ticks = [(int(text.text), float(text.get("x"))) for text in self.of("tick")]
+        self.zero = ticks[0][1]
+        self.scale = (ticks[-1][1] - self.zero) / ticks[-1][0] if len(ticks) > 1 else 0
+        self.rows = [float(text.get("y")) - 4 for text in self.of("node")]
+
+    def of(self, kind):
+        return [text for text in self.texts if kind in text.get("class").split()]
+
+    def words(self, kind):
+        return " ".join(text.text for text in self.of(kind))
+
+    def size(self, text):
+        return min((self.sizes[name] for name in text.get("class").split() if name in self.sizes), default=self.usual)
+
+    def box(self, text):
+        width, size, x, y = LETTER * self.size(text) * len(text.text), self.size(text), float(text.get("x")), float(text.get("y"))
+        left = {"start": x, "middle": x - width / 2, "end": x - width}[text.get("text-anchor")]
+        return left, y - 0.75 * size, left + width, y + 0.2 * size
+
+    def across(self, tick):
+        return round(self.zero + tick * self.scale, 1)
+
+    def row(self, y):
+        """The node in whose row this stands, if any."""
+        node = min(range(len(self.rows)), key=lambda node: abs(self.rows[node] - y))
+        return node if abs(self.rows[node] - y) <= 6 else None
+
+    def points(self, kind):
+        """The points of each line or path of a class."""
+        found = []
+        for element in self.root.iter():
+            if element.get("class") == kind and element.tag == SVG + "line":
+                found.append([(float(element.get("x" + end)), float(element.get("y" + end))) for end in "12"])
+            elif element.get("class") == kind:
+                found.append([tuple(map(float, point.split())) for point in element.get("d")[1:-2].split(" L")])
+        return found
+
+    def marks(self, kind):
+        """The middles of the marks above the legend, each as its row and its place across."""
+        middles = [[(min(values) + max(values)) / 2 for values in zip(*points)] for points in self.points(kind)]
+        return [(self.row(y), round(x, 1)) for x, y in middles if self.row(y) is not None]
+
+
+def close(ones, others):
+    """The same places, up to the rounding of a tick's place."""
+    return len(ones) == len(others) and all(a[:-1] == b[:-1] and abs(a[-1] - b[-1]) < 0.3 for a, b in zip(sorted(ones), sorted(others)))
+
+
+def every_mark(picture, log, name):
+    at = defaultdict(list)
+    for letter, tick, node, other, dead in fields(log):
+        at[letter].append((node, picture.across(tick)))
+    for letter, kind, times in [("S", "sent", 1), ("H", "heard", 1), ("W", "watch", 1), ("C", "crash", 2), ("X", "dropped", 2)]:
+        check(close(picture.marks(kind), at[letter] * times), f"{name}: the marks of {letter} are not those of the log's lines")
+    check(close(picture.marks("report") + picture.marks("known"), at["R"]), f"{name}: the marks of R are not those of the log's lines")
+
+
+def every_arrow(picture, log, name):
+    """An arrow for each O, from a watch of its sender that expired before, to its receiver."""
+    watches, wanted, found = defaultdict(list), [], []
+    for letter, tick, node, other, dead in fields(log):
+        if letter == "W":
+            watches[node].append(picture.across(tick))
+        elif letter == "O":
+            wanted.append((other, node, picture.across(tick)))
+    for [(x, y), _], [(tip_x, tip_y), *_] in zip(picture.points("observer"), picture.points("head")):
+        sender, receiver = picture.row(y), picture.row(tip_y)
+        if sender is not None and receiver is not None:
+            found.append((sender, receiver, tip_x))
+            by_watch = x <= tip_x and any(abs(x - place) < 0.3 for place in watches[sender])
+            check(by_watch, f"{name}: an arrow from node {sender} to {receiver} that no watch sent")
+    check(close(found, wanted), f"{name}: the arrows are not those of the lines O")
+
+
+def every_list(picture, log, name):
+    """Labels and bands stand where a list grows, and each row ends in its node's list or crash."""
+    *_, last = log.decode().splitlines()
+    lists, crashes, grown, bands = [0] * len(picture.rows), {}, defaultdict(set), set()
+    ticks = [int(line.split(",")[1]) for line in log.decode().splitlines()]
+    end = ticks[-1] if last[0] == "E" else ticks[-2]
+    for letter, tick, node, other, dead in fields(log):
+        if letter == "C":
+            crashes[node] = tick
+            bands.discard((node, picture.across(tick)))
+        elif dead != lists[node]:
+            new = dead & ~lists[node]
+            grown[node, "+" + ",".join(str(bit) for bit in range(64) if new >> bit & 1)].add(picture.across(tick))
+            if tick < end:
+                bands.add((node, picture.across(tick)))
+        lists[node] = dead
+    for text in picture.of("new"):
+        row, x = picture.row(float(text.get("y")) + 7), float(text.get("x"))
+        near = [place for place in grown[row, text.text] if 7.7 < abs(x - place) <= 16 + 8 * len(text.text)]
+        check(near, f"{name}: the label {text.text!r} of node {row} stands where its list does not grow so")
+    rects = [(picture.row(float(rect.get("y"))), float(rect.get("x"))) for rect in picture.root.iter(SVG + "rect") if rect.get("class") == "listed"]
+    check(close([rect for rect in rects if rect[0] is not None], list(bands)), f"{name}: the bands are not those of the lists")
+    words = {picture.row(float(text.get("y")) - 4): text.text for text in picture.texts if float(text.get("x")) > picture.across(end)}
+    for node, held in enumerate(lists):
+        held = [bit for bit in range(64) if held >> bit & 1]
+        listed = "{" + ", ".join(map(str, held)) + "}" if len(held) <= 6 else f"{len(held)} nodes"
+        wanted = f"crashed at {crashes[node]}" if node in crashes else listed
+        check(words[node] == wanted, f"{name}: the row of node {node} ends in {words[node]!r}, not {wanted!r}")
+    if last[0] == "E":
+        _, tick, survivors, flying, _ = last.split(",")
+        wanted = f"end of tick {tick}: {survivors} survivor{'s' * (survivors != '1')}, {flying} in flight"
+        check(wanted in picture.words("small"), f"{name}: not said {wanted!r}")
+
+
+def apart(picture, name):
+    """Labels do not overlap, stand inside the picture and are not small."""
+    boxes = [(picture.box(text), text) for text in picture.texts]
+    for place_in_list, (box, text) in enumerate(boxes):
+        check(picture.size(text) >= 12, f"{name}: small letters: {text.text!r}")
+        check(box[0] >= 0 and box[2] <= picture.width and box[1] >= 0 and box[3] <= picture.height, f"{name}: {text.text!r} leaves the picture")
+        for other, beside in boxes[:place_in_list]:
+            overlap = box[0] < other[2] and other[0] < box[2] and box[1] < other[3] and other[1] < box[3]
+            check(not overlap, f"{name}: {text.text!r} overlaps {beside.text!r}")
+    for upper, lower in zip(picture.rows, picture.rows[1:]):
+        check(lower - upper >= 18, f"{name}: rows only {lower - upper} apart")
+    ticks = [(float(text.get("x")), len(text.text)) for text in picture.of("tick")]
+    for (x, _), (after, letters) in zip(ticks, ticks[1:]):
+        check(after - x >= 8 * letters + 6, f"{name}: ticks' labels only {after - x} apart")
+
+
+def numbers(words):
+    """'nodes 1, 4-6' as numbers."""
+    ends = [part.split("-") for part in re.sub("nodes? ", "", words).split(", ")]
+    return {node for part in ends for node in range(int(part[0]), int(part[-1]) + 1)}
+
+
+def who_lacks_whom(words):
+    said = {}
+    for part in words[len("At the end ") : -1].split("; "):
+        who, whom = re.fullmatch("(nodes? .*) lacks? (nodes? .*)", part).groups()
+        said.update({node: numbers(whom) for node in numbers(who)})
+    return said
+
+
+def all_know(picture, run_file, log, name):
+    nodes = int(run_file.split(b",")[1])
+    since, lacking, crashed = knowledge(nodes, log)
+    check(len(picture.rows) == nodes, f"{name}: {len(picture.rows)} rows for {nodes} nodes")
+    lines = [element for element in picture.root.iter(SVG + "line") if element.get("class") == "all" and element.get("x1") == element.get("x2")]
+    check(picture.words("good") == ("" if since is None else f"all know from tick {since}"), f"{name}: all know from {since}, not as drawn")
+    check(len(lines) == (since is not None), f"{name}: the line from which all know is missing or too many")
+    if lines:
+        check(abs(float(lines[0].get("x1")) - picture.across(since)) < 0.3, f"{name}: all know from another tick than drawn")
+    said = " ".join(text.text for text in picture.of("bad") if not text.text.startswith("Refused"))
+    if lacking:
+        check(said.startswith("At the end "), f"{name}: not said who lacks whom")
+        check(who_lacks_whom(said) == lacking, f"{name}: {said!r}, but by the log {lacking}")
+    else:
+        check("At the end" not in said, f"{name}: {said!r}, but none lacks any")
+    seen["mark" if since is not None else "lack" if lacking else "none crashes" if not crashed else "none survives"] += 1
+    return since
+
+
+def whole(run_file, name, status=0, log=None):
+    """Draws the log of a run file, or the one given, and holds all of it against the log. Answers the picture and the tick of the mark."""
+    log = log or log_of(run_file)
+    picture = Seen(drawn(log, status))
+    letters = Counter(line[:1] for line in log.decode().splitlines())
+    thin = letters["S"] + letters["H"] + letters["X"] > 8000 or letters["R"] > 8000
+    check(thin == ("not all are drawn" in picture.words("faint")), f"{name}: what is said about thinning is wrong")
+    if not thin:
+        every_mark(picture, log, name)
+    if picture.scale:
+        every_arrow(picture, log, name)
+        every_list(picture, log, name)
+    apart(picture, name)
+    return picture, all_know(picture, run_file, log, name)
+
+
+# ---- the files
+
+
+def generated():
+    for path in files:
+        with open(path, "rb") as file:
+            run_file = file.read()
+        log = log_of(run_file)
+        if log.endswith(b"8,0\n"):
+            whole(run_file, path, 2)
+        elif log.count(b",") == 1:
+            refused(log, "refused by " + log.decode().split(",")[0])
+            seen["refused"] += 1
+        else:
+            whole(run_file, path)
+
+
+def known_ticks():
+    """Files whose ticks are known: those of README's planner, 01's first log, and some that end early or late."""
+    for w, tick in [(7, 43), (12, 72), (17, 87)]:
+        name = f"README's planner, W {w}"
+        check(whole(b"P,6,5,%d,2,90\nC,30,1\nC,35,2\n" % w, name)[1] == tick, f"{name}: not tick {tick}")
+    check(whole(b"P,6,4,7,3,60\nC,6,2\nC,30,1\n", "crashes far apart")[1] == 45, "crashes far apart: not tick 45")
+    check(whole(b"P,2,2,3,1,6\nC,3,1\n", "01's log")[1] == 6, "01's log: not tick 6")
+    check(whole(b"P,2,1,2,1,2\nC,0,1\n", "a short log")[1] == 2, "a short log: not tick 2")
+    check(whole(b"P,6,5,17,2,86\nC,30,1\nC,35,2\n", "one tick too few")[1] is None, "one tick too few: a mark")
+    check("No node crashes." in whole(b"P,1,1,2,1,5\n", "one node")[0].words("small"), "one node: not said that none crashes")
+    check("No node survives." in whole(b"P,2,2,3,1,6\nC,3,0\nC,3,1\n", "two crash")[0].words("small"), "two crash: not said")
+    whole(b"P,1,1,2,1,0\n", "tick 0 alone")
+    by_hand = [("C,3,2,2", 0), ("W,6,0,2", 4), ("R,7,1,2", 4), ("W,9,0,1", 6), ("E,12,2,0", 4)]
+    log = "".join(f"{line},{dead:016x}\n" for line, dead in by_hand).encode()
+    check(whole(b"P,3,", "a live node listed", log=log)[1] == 7, "a live node listed: not tick 7")
+
+
+def many_nodes():
+    crashes = b"".join(b"C,%d,%d\n" % (40 + 3 * place, node) for place, node in enumerate([3, 5, 4, 9, 10, 8, 11, 12, 13, 1, 2, 16]))
+    for nodes in (20, 48, 64):
+        whole(b"P,%d,5,12,6,400\n" % nodes + crashes, f"{nodes} nodes, twelve of which crash")
+        whole(b"P,%d,10,30,5,300\nC,50,3\n" % nodes, f"{nodes} nodes, one of which crashes")
+        evens = b"".join(b"C,%d,%d\n" % (100 + node % 3 * 9, node) for node in sorted(range(0, nodes, 2), key=lambda node: node % 3))
+        whole(b"P,%d,5,12,6,150\n" % nodes + evens, f"{nodes} nodes, half of which crash soon before the end")
+    whole(b"P,48,1000,1255,255,1000000\nC,999999,47\n", "a million ticks")
+    picture, _ = whole(b"P,64,5,40,21,3000\nC,50,3\nC,50,4\n", "64 nodes, 3,000 ticks")
+    marks = sum(1 for _ in picture.root.iter())
+    check("not all are drawn" in picture.words("faint") and marks < 30000, f"64 nodes, 3,000 ticks: not thinned out, {marks} elements")
+    picture, _ = whole(b"P,64,1,34,33,200\nC,30,5\n", "2,049 in flight", 2)
+    check("Refused by 8" in picture.words("bad"), "2,049 in flight: the refusal is not marked")
+    check(sum(element.get("class") == "refused" for element in picture.root.iter()) == 1, "2,049 in flight: no line at the refusal")
+
+
+def committed(run_file, log):
+    """README's picture is readable at a page's width, and has every letter, two crashes and the mark."""
+    picture, since = whole(run_file, "the committed picture")
+    check(picture.width <= 900, f"the committed picture is {picture.width} wide")
+    check(since is not None and log.count(b"C,") == 2, "the committed picture lacks its crashes or its mark")
+    for letter in "CHORXWSE":
+        check(any(line.startswith(letter) for line in log.decode().splitlines()), f"the committed picture has no {letter}")
+
+
+def main():
+    with open(shown, "rb") as file:
+        run_file = file.read()
+    log = log_of(run_file)
+    refusals(log)
+    incomplete(log)
+    strange(log)
+    forms(log)
+    committed(run_file, log)
+    known_ticks()
+    many_nodes()
+    generated()
+    for outcome in ["mark", "lack", "none crashes", "none survives", "refused"]:
+        check(seen[outcome], f"no file had the outcome: {outcome}")
+    print("timeline: " + ", ".join(f"{outcome} {count}" for outcome, count in sorted(seen.items())))
+
+
+main()
