@@ -51,15 +51,48 @@ extern "C" {
 /*
  * ---- A node ----
  *
- * A node is a record of 64 bytes. The program keeps the record, brings the messages to their receivers and knows the
- * tick, which never goes back. To run a node:
+ * A node is a record of 64 bytes. The program keeps the record, brings messages to their receivers and knows the tick. To
+ * run a node:
  *
- *     uint8_t node[KELBRAUT_RECORD], sent[KELBRAUT_MESSAGES];
- *     kelbraut_node_open(node, sizeof node, number, nodes, h, w);
+ *     uint8_t node[KELBRAUT_RECORD], sent[KELBRAUT_MESSAGES], m[KELBRAUT_MESSAGE];
+ *     uint64_t answer = kelbraut_node_open(node, sizeof node, number, nodes, h, w);
+ *     if (answer != KELBRAUT_ACCEPTED) {
+ *         stop(answer);
+ *     }
+ *     for (;;) {
+ *         uint64_t tick = sleep_until(kelbraut_next_due(node));
+ *         while (receive(m)) {
+ *             answer = kelbraut_node_deliver(node, sizeof node, tick, kelbraut_kind(m), kelbraut_sender(m),
+ *                                            kelbraut_subject(m), sent, sizeof sent);
+ *             if (answer == KELBRAUT_ACCEPTED) {
+ *                 send_all(sent);
+ *             } else if (answer != KELBRAUT_BAD_MESSAGE) {
+ *                 stop(answer);
+ *             }
+ *         }
+ *         while (kelbraut_next_due(node) <= tick) {
+ *             answer = kelbraut_node_timers(node, sizeof node, tick, sent, sizeof sent);
+ *             if (answer != KELBRAUT_ACCEPTED) {
+ *                 stop(answer);
+ *             }
+ *             send_all(sent);
+ *         }
+ *     }
  *
- * then, at each tick, kelbraut_node_deliver for every message that has arrived, and kelbraut_node_timers until it sends
- * nothing. After each accepted call, take the messages out of `sent` and bring each to its receiver. host.c beside this
- * file does so for five nodes.
+ * The program's own: `sleep_until` returns the tick, at the one that it is given or earlier where a message has arrived,
+ * but never the same tick twice; `receive` takes the next message that has arrived for this node off the wire; `send_all`
+ * brings each message of the part to its receiver; `stop` does not return. host.c beside this file runs five nodes so.
+ *
+ * Look at every answer, and send nothing after a refused call: it leaves `sent` as it was, with the messages of the call
+ * before, which would be sent a second time. A message that is refused by 11 was sent by no node of this ring, and is
+ * dropped. Any other refusal is a mistake in the program, or the ticks are at their end (KELBRAUT_MOST_TICK).
+ *
+ * Threads: calls on different records may run at the same time, each with a message part of its own. Those on one record
+ * come one after another.
+ *
+ * Wire: the 8 bytes of a message can be sent as they are. Each field is one byte, so there is no byte order and no padding.
+ *
+ * Library: `rt staticlib host` proves it and builds target/staticlib/libhost.a, for x86-64 Linux, in about a minute.
  */
 
 /* Sizes in bytes: a record, a message, and the message part of a call, which has places for seven messages. */
@@ -68,10 +101,41 @@ extern "C" {
 #define KELBRAUT_MESSAGES 56
 
 /*
+ * The greatest tick; a call with a later one is refused by 12. So a ring runs for nearly 17 minutes with ticks of a
+ * millisecond, for 2 hours 46 minutes with ticks of 10, for 27 hours with ticks of 100, for 11 days with ticks of a second.
+ *
+ * To go on, open all records of the ring anew, together, at one tick, which is then tick 0. Throw away the messages that
+ * are still on their way: the new records would take them for messages of their own ring. Dead lists are forgotten. So give
+ * the live nodes new numbers and leave the dead ones out, or expect these to be listed again from tick W on.
+ */
+#define KELBRAUT_MOST_TICK 1000000
+
+/*
  * Opens a record at tick 0: node `number` of a ring of `nodes`, 0 to nodes - 1. A heartbeat is sent every `h` ticks, and
  * an emitter is given up that has been silent for `w`.
  * Ranges: nodes 1 to 64, number below nodes, h 1 to 1,000, w 1 to 65,535. All bytes of the record are written.
  * Answers 0, 10 or 3.
+ *
+ * With W at least H + D no live node is ever listed, whatever nodes stop. This is proved of rings that run as a rehearsal
+ * does (docs/THEOREMS.md), which no call can test:
+ *
+ *   - D is the longest delay. Each message is delivered 1 to D ticks after it is sent, counted from the tick of the call
+ *     that sends it to the tick of the call that delivers it. Messages may overtake each other.
+ *   - No message between live nodes is lost, and none is delivered twice. At most 2,048 are on their way at a time; of
+ *     heartbeats there are about N x D / H.
+ *   - The records of all nodes are opened at one tick, with the same N, H and W.
+ *   - The clocks agree on the tick. Where two of them differ, so do the delays between their nodes.
+ *   - At each tick deliveries come before timers. A message that arrives after the timers of its tick is delivered at the
+ *     next.
+ *   - The timers are called at every tick, or at each tick at which one is due. Where a call can be late by some ticks, W
+ *     needs as many more; that is not proved.
+ *   - A node stops between two ticks. Nodes that stop in the midst of one, with some of their messages sent, are tested
+ *     (tests/readers.c), not proved.
+ *   - No node comes back. A listed node stays listed, and one that has stopped may not be opened again under its number
+ *     while the ring runs.
+ *
+ * A record opens with any `w` of the range, also with one below H + D; live nodes then get listed. A node that is listed
+ * though it lives is not told so, and goes on. README.md says how to choose W, and how soon all survivors list a node.
  */
 uint64_t kelbraut_node_open(uint8_t *record, size_t record_size, uint64_t number, uint64_t nodes, uint64_t h, uint64_t w);
 
@@ -85,18 +149,58 @@ uint64_t kelbraut_node_deliver(uint8_t *record, size_t record_size, uint64_t tic
 
 /*
  * Does the watch if it is due by this tick, else the heartbeat if that is due, else nothing: at most one of them, so call
- * it until it sends nothing. Writes the record and the first 56 bytes of the message part.
+ * it until none is due (kelbraut_next_due) or it sends nothing. Writes the record and the first 56 bytes of the message
+ * part.
  * Answers 0, 10, 12 or 9.
  */
 uint64_t kelbraut_node_timers(uint8_t *record, size_t record_size, uint64_t tick, uint8_t *messages, size_t messages_size);
 
-/* The dead list of a record: bit i stands for node i. */
-static inline uint64_t kelbraut_dead_list(const uint8_t record[KELBRAUT_RECORD]) {
-    uint64_t list = 0;
-    for (int i = 7; i >= 0; i--) {
-        list = list << 8 | record[8 + i];
+/* The number in `size` bytes of a record from `place` on, the lowest byte first; docs/LAYOUTS.md has the places. */
+static inline uint64_t kelbraut_field(const uint8_t record[KELBRAUT_RECORD], int place, int size) {
+    uint64_t number = 0;
+    for (int i = size - 1; i >= 0; i--) {
+        number = number << 8 | record[place + i];
     }
-    return list;
+    return number;
+}
+
+/* Whom the node watches: itself where it is alone. */
+static inline uint8_t kelbraut_emitter(const uint8_t record[KELBRAUT_RECORD]) {
+    return record[6];
+}
+
+/* To whom it sends its heartbeats: itself where it is alone. */
+static inline uint8_t kelbraut_observer(const uint8_t record[KELBRAUT_RECORD]) {
+    return record[7];
+}
+
+/* Its dead list: bit i stands for node i. */
+static inline uint64_t kelbraut_dead_list(const uint8_t record[KELBRAUT_RECORD]) {
+    return kelbraut_field(record, 8, 8);
+}
+
+/* The tick of the last accepted call, 0 at opening. A call with an earlier one is refused by 12. */
+static inline uint64_t kelbraut_last_tick(const uint8_t record[KELBRAUT_RECORD]) {
+    return kelbraut_field(record, 16, 4);
+}
+
+/* What kelbraut_next_due gives where both timers are off; later than every tick. */
+#define KELBRAUT_NEVER UINT64_MAX
+
+/*
+ * The tick at which the next timer is due, the earlier of watch and heartbeat. Before it kelbraut_node_timers sends nothing
+ * and changes nothing but the last tick; at it, and later, it does a timer. So a program that calls it only while a timer is
+ * due sends the same messages at the same ticks as one that calls it at every tick. Its records are the same, too, but for
+ * the last tick, which is that of its own last call, so that a tick that goes back is found out later.
+ *
+ * Read it anew after each call: a new observer's message, for one, makes a heartbeat due at the tick of that call. It is
+ * before the last tick where a timer is overdue, and can be above KELBRAUT_MOST_TICK.
+ */
+static inline uint64_t kelbraut_next_due(const uint8_t record[KELBRAUT_RECORD]) {
+    /* A timer is 0 where it is off, else one more than its tick. */
+    uint64_t watch = kelbraut_field(record, 20, 4) - 1;
+    uint64_t heartbeat = kelbraut_field(record, 24, 4) - 1;
+    return watch < heartbeat ? watch : heartbeat;
 }
 
 /*

@@ -1,6 +1,8 @@
 #!/bin/sh
-# Tests the calls of a host in C through the static library: tests/host.rs compares them with the simulator's node calls, and
-# the C host of include/ is compiled from the header alone and run. Stops at the first failure.
+# Tests the calls of a host in C through the static library: tests/host.rs compares them with the simulator's node calls,
+# tests/readers.c holds the header's readers against the layouts and the calls, tests/loop.c runs the loop that stands in
+# the header, and the C host of include/ is compiled from the header alone and run. Mistakes planted in the readers have to
+# be found. Stops at the first failure.
 #
 # Usage: tests/host.sh [SEED]
 
@@ -10,8 +12,57 @@ cd "$(dirname "$0")/.."
 seed=${1:-20261115}
 out=target/tests
 library=target/staticlib/libhost.a
+mistaken=$out/host-mistaken
 
-mkdir -p "$out"
+fail() {
+    echo "host: $1" >&2
+    exit 1
+}
+
+# compile SOURCE PROGRAM INCLUDE..
+compile() {
+    source=$1 program=$2
+    shift 2
+    gcc -std=c99 -pedantic -Wall -Wextra -Werror -O2 $(printf ' -I%s' "$@") "$source" "$library" -o "$program"
+}
+
+# prints PROGRAM: it prints the lines on standard input.
+prints() {
+    cat > "$1.expected"
+    "$1" > "$1.out"
+    cmp "$1.expected" "$1.out"
+}
+
+# mistake WORDS EDIT: two parts of tests/readers.c each find the mistake that this edit by sed puts into the header.
+mistake() {
+    sed "$2" include/kelbraut.h > "$mistaken/kelbraut.h"
+    ! cmp -s include/kelbraut.h "$mistaken/kelbraut.h" || fail "$1: the edit changes nothing"
+    compile tests/readers.c "$mistaken/readers" "$mistaken"
+    for part in bytes calls; do
+        status=0
+        "$mistaken/readers" "$seed" "$part" > "$mistaken/out" 2> "$mistaken/err" || status=$?
+        [ "$status" -eq 1 ] && grep -q "^readers: $part, line" "$mistaken/err" || fail "$1: $part does not find it"
+    done
+}
+
+# loop EDIT FILE: tests/loop.c runs the loop that this edit by sed takes out of a file.
+loop() {
+    sed -n "$1" "$2" > "$out/loop.inc"
+    compile tests/loop.c "$out/loop" include "$out"
+    prints "$out/loop" <<'LINES'
+tick 10: H to 2, subject 0
+tick 15: R to 2, subject 0
+tick 17: O to 2, subject 0
+tick 17: R to 2, subject 0
+tick 20: H to 2, subject 0
+tick 30: H to 2, subject 0
+tick 31: H to 2, subject 0
+tick 41: H to 2, subject 0
+tick 1000001: stopped by 12
+LINES
+}
+
+mkdir -p "$out" "$mistaken"
 rt staticlib host > "$out/host.log" 2>&1 || {
     tail -n 20 "$out/host.log" >&2
     exit 1
@@ -20,13 +71,35 @@ rustc --edition 2021 -D warnings -O --crate-type rlib docs/src/simulator.rs --ou
 rustc --edition 2021 -D warnings -O tests/host.rs --extern simulator="$out/libsimulator.rlib" -C link-arg="$library" -o "$out/host"
 "$out/host" "$seed"
 
-gcc -std=c99 -pedantic -Wall -Wextra -Werror -O2 -Iinclude include/host.c "$library" -o "$out/host-c"
-"$out/host-c" > "$out/host-c.out"
-cat > "$out/host-c.expected" <<'LISTS'
-node 0 lists 0000000000000004
-node 1 lists 0000000000000004
-node 3 lists 0000000000000004
-node 4 lists 0000000000000004
-LISTS
-cmp "$out/host-c.expected" "$out/host-c.out"
-echo "host: the C host's lists are as they should be"
+compile tests/readers.c "$out/readers" include
+"$out/readers" "$seed"
+mistake 'the emitter a byte late' 's/return record\[6\];/return record[7];/'
+mistake 'the observer a byte early' 's/return record\[7\];/return record[6];/'
+mistake 'the dead list a byte late' 's/(record, 8, 8)/(record, 9, 8)/'
+mistake 'the last tick a byte late' 's/(record, 16, 4)/(record, 17, 4)/'
+mistake 'the watch a byte late' 's/(record, 20, 4)/(record, 21, 4)/'
+mistake 'the heartbeat in place of the watch' 's/(record, 20, 4)/(record, 24, 4)/'
+mistake 'the watch in place of the heartbeat' 's/(record, 24, 4)/(record, 20, 4)/'
+mistake 'timers a tick late' 's/\(uint64_t [a-z]* = kelbraut_field(record, 2[04], 4)\) - 1;/\1;/'
+mistake 'the heartbeat a tick early' 's/(record, 24, 4) - 1/(record, 24, 4) - 2/'
+mistake 'the later of the timers' 's/return watch < heartbeat/return watch > heartbeat/'
+mistake 'the highest byte first' 's/record\[place + i\]/record[place + size - 1 - i]/'
+echo 'host: 11 mistakes in the readers found'
+
+# Calls on different records may run in several threads: the library has no bytes of its own that a call could write.
+written=$(size "$library" | awk 'NR > 1 { bytes += $2 + $3 } END { print (NR > 1 ? bytes : "unknown") }')
+[ "$written" = 0 ] || fail "the library has data of its own: $written"
+
+loop '/^ \*     uint8_t node\[/,/^ \*$/s/^ \*//p' include/kelbraut.h
+echo "host: the header's loop sends what it should"
+
+compile include/host.c "$out/host-c" include
+prints "$out/host-c" <<'LINES'
+tick 1: bytes for node 1 are dropped
+node 0 watches 4, sends to 1 and lists 0000000000000004
+node 1 watches 0, sends to 3 and lists 0000000000000004
+node 3 watches 1, sends to 4 and lists 0000000000000004
+node 4 watches 3, sends to 0 and lists 0000000000000004
+awake at 74 ticks of 300
+LINES
+echo "host: the C host does as it should"
