@@ -6,6 +6,7 @@ Stops at the first case that fails.
 """
 
 import os
+import resource
 import socket
 import subprocess
 import sys
@@ -56,9 +57,16 @@ def expect_one_line(case, errors, start_with):
         fail(case, f"standard error has {errors[:200]!r}, not one line that starts with {start_with!r}")
 
 
+def busy():
+    """The processor time of all runs that have ended, in seconds."""
+    used = resource.getrusage(resource.RUSAGE_CHILDREN)
+    return used.ru_utime + used.ru_stime
+
+
 def slow_input(program):
-    """A non-blocking input, empty at first, whose C line comes later."""
+    """A non-blocking input, empty at first, whose C line comes later. The program waits and does not spin."""
     case = "slow non-blocking input"
+    before = busy()
     reading, writing = os.pipe()
     os.set_blocking(reading, False)
     run = start(program, stdin=reading)
@@ -73,6 +81,8 @@ def slow_input(program):
     out, errors = ended(case, run)
     expect(case, out, LOG)
     expect(case, errors, b"")
+    if busy() - before > PAUSE:
+        fail(case, f"{busy() - before:.2f} s of processor time while it waited for {4 * PAUSE:.1f} s")
 
 
 def directory(program):

@@ -1,11 +1,20 @@
 // Standard input and output. A call that a signal interrupts, or that finds nothing to move yet, is tried again.
+use libc::types::timespec;
 ghost use Prim.Native.Nat.{_≤_};
 ghost use lib.ListN.{length};
 ghost use Rattle.libc.specs.Io.{Moved};
 
-// Lets others run.
+// Waits a millisecond, so that a stream that is slow does not keep a processor busy.
 fn pause() {
-    libc::sched_yield();
+    let asked = timespec {
+        tv_sec: 0,
+        tv_nsec: 1000000,
+    };
+    let mut left = timespec {
+        tv_sec: 0,
+        tv_nsec: 0,
+    };
+    libc::nanosleep(&asked, &mut left);
 }
 
 // Whether the call that just failed is to be tried again, after a pause where nothing can be moved yet.
