@@ -1,7 +1,7 @@
 #!/bin/sh
 # Tests the calls of a host in C through the static library: tests/host.rs compares them with the simulator's node calls,
 # tests/readers.c holds the header's readers against the layouts and the calls, tests/loop.c runs the loop that stands in
-# the header, and the C host of include/ is compiled from the header alone and run. Mistakes planted in the readers have to
+# the header and the one in README.md, and the C host of include/ is compiled from the header alone and run. Mistakes planted in the readers have to
 # be found. Stops at the first failure.
 #
 # Usage: tests/host.sh [SEED]
@@ -91,6 +91,7 @@ written=$(size "$library" | awk 'NR > 1 { bytes += $2 + $3 } END { print (NR > 1
 [ "$written" = 0 ] || fail "the library has data of its own: $written"
 
 loop '/^ \*     uint8_t node\[/,/^ \*$/s/^ \*//p' include/kelbraut.h
+loop '/^    uint8_t node\[/,/^$/p' README.md
 echo "host: the header's loop sends what it should"
 
 compile include/host.c "$out/host-c" include
