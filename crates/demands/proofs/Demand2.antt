@@ -1,26 +1,37 @@
 -- Demand 2: the events and lines of the calls on a store just opened from an accepted file, and what is read and written again.
 -- Assumes nothing.
-use mathlib.Core.Path.{_≡_, refl, sym, ap, _∙_}
-use mathlib.Core.Bool.{true}
+use mathlib.Core.Path.{_≡_, refl, sym, ap, _∙_, subst}
+use mathlib.Core.Bool.{Bool, true, false}
 use mathlib.Core.List.{List, [], _∷_, _++_, append-nil}
-use Prim.Native.Nat.{ℕ, _≤_}
+use Prim.Native.Nat.{ℕ, _^_, _≤_, _<_}
+use native.Mathlib.Nat.{pow-le-pow-right}
+use native.Mathlib.Omega.{arith}
+use native.Mathlib.Decide.{decLt}
+use lib.Dec.{lit≤, lit<}
 use borrow.Author.Tests.{le-ltb}
-use lib.ListN.{length}
+use lib.ListN.{length, List·getD-eq-default}
 use Rattle.ring.specs.Limits.{lineRoom}
 use Rattle.text.specs.Put.{put}
 use Rattle.logline.specs.declared.Line.{Line}
-use Rattle.logline.specs.Line.{lineText}
+use Rattle.logline.specs.declared.Read.the-variants.{Accepted as Read}
+use Rattle.logline.specs.Line.{lineText, readOf}
+use Rattle.logline.proofs.LineTrip.{text-accepted, written-line}
 use Rattle.runfile.specs.Plan.{Plan}
 use Rattle.runfile.specs.File.{accepted, fileOf}
-use Rattle.runfile.proofs.RoundTrip.{written-back}
-use Rattle.model.specs.Platform.{State, Outcome, did, ended, refused, try, left, steps, after, eventCount, runAnswer}
-use Rattle.model.specs.Lines.{eventLines, lastLine, linesFrom}
+use Rattle.runfile.proofs.RoundTrip.{written-back, accepted-plan, accepted-order}
+use Rattle.node.specs.Node.{alone}
+use Rattle.model.specs.Platform.{State, Event, Entry, crash, message, watch, heartbeat, Outcome, did, ended, refused, alive, nodeOf, messageAt}
+use Rattle.model.specs.Platform.{try, left, steps, after, eventCount, runAnswer}
+use Rattle.model.specs.Lines.{messageLine, lineOf, eventLines, lastLine, linesFrom}
+use Rattle.model.specs.Range.{Plain, Sound}
+use Rattle.model.proofs.RangesKept.{try-ok, left-range, after-range}
 use Rattle.store.specs.Store.{storeSize, encode, planIn, stateIn, storeInRange}
 use Rattle.platform.specs.declared.Wrote.the-variants.{Bytes}
 use Rattle.platform.specs.Calls.{AfterStep, AfterRun, fileRoom, linesText, stepOutcome, step, ran, runState, run, writeFile}
 use Rattle.platform.specs.CallLists.{Call, eventsOf}
-use Rattle.platform.proofs.Stores.{Holds, plan-of, state-of, in-range, step-in, run-in, write-in, outcome-store}
+use Rattle.platform.proofs.Stores.{Holds, plain-of, plan-of, state-of, in-range, step-in, run-in, write-in, outcome-store}
 use Rattle.platform.proofs.CallLists.{after-small, after-holds}
+use Rattle.platform.proofs.Lines.{TakesOf, outcome-takes}
 use Rattle.demands.specs.Demands.{storeOf, NextEvents}
 use Rattle.demands.proofs.Demand3.{good, order, called}
 
@@ -73,3 +84,36 @@ module _ (file store : List ℕ) (p : Plan) (ok : fileOf file ≡ accepted p) (s
   file-again out room =
       write-in b p s inside plan state out room
       ∙ ap (λ (text : List ℕ). record { answer = Bytes (length text); out = put out 0 text }) (written-back file p ok)
+
+-- ---- every event's line is one that the reader takes
+
+-- a node's list has 64 bits at most
+list-small : (p : Plan) → Plain p → (s : State) → Sound p s → (x : ℕ) → (nodeOf s x) .list < 2 ^ 64
+list-small p pl s r x = go (decLt x (p .n))
+  where
+    go : Dec (x < p .n) → (nodeOf s x) .list < 2 ^ 64
+    go (yes h) = omega (arith, r .fields x h .list, pow-le-pow-right {n = 2} (lit< tt) (pl .n≤))
+    go (no h) = rw (List·getD-eq-default (s .nodes) (alone x 0) {n = x} (rw (r .nodes) (omega arith))) (lit< tt)
+
+line-list : (p : Plan) → Plain p → (s s' : State) → Sound p s' → (t : ℕ) (e : Event) → (lineOf p s s' t e) .list < 2 ^ 64
+unfolding lineOf messageLine
+line-list p pl s s' r t (crash k) = list-small p pl s' r k
+line-list p pl s s' r t (message i) = go (alive p (s .done) ((messageAt s i) .to))
+  where
+    go : (live : Bool) → (messageLine t (messageAt s i) live ((nodeOf s' ((messageAt s i) .to)) .list)) .list < 2 ^ 64
+    go true = list-small p pl s' r ((messageAt s i) .to)
+    go false = list-small p pl s' r ((messageAt s i) .to)
+line-list p pl s s' r t (watch x) = list-small p pl s' r x
+line-list p pl s s' r t (heartbeat x) = list-small p pl s' r x
+
+pub line-read : (file : List ℕ) (p : Plan) → fileOf file ≡ accepted p → (k : ℕ) (e : Entry) (s' : State) → try p (after p k) ≡ did e s'
+    → let l : Line = lineOf p (after p k) s' (e .tick) (e .event) in readOf (lineText l) ≡ Read l
+unfolding TakesOf left
+line-read file p ok k e s' h =
+    let pl : Plain p = plain-of p (accepted-order file p ok) (accepted-plan file p ok) in
+    let s : State = after p k in
+    let r : Sound p s = after-range p pl k in
+    let r' : Sound p s' = subst (λ (o : Outcome). Sound p (left s o)) h (left-range p pl s r (try p s) (try-ok p pl s r)) in
+    let takes : TakesOf p s (did e s') = subst (TakesOf p s) h (outcome-takes p pl s r) in
+    let l : Line = lineOf p s s' (e .tick) (e .event) in
+    text-accepted l ((written-line l 40 (length (lineText l)) (takes .written 40 (lit≤ tt))) .0) (line-list p pl s s' r' (e .tick) (e .event))

@@ -1,12 +1,13 @@
 -- THE THEOREMS: the customer's three demands. The statements stand in specs/Demands.antt. Assumes nothing.
 use Rattle.runfile.proofs.RoundTrip.{written-back, accepted-plan, accepted-order, read-back}
 use Rattle.logline.proofs.LineTrip.{written-of-read, read-of-written}
+use Rattle.logline.proofs.ColumnTrip.{five-columns}
 use Rattle.rehearsal.proofs.Parts.{whole-output}
 use Rattle.planner.proofs.Answered.{taken-apart}
 use Rattle.demands.specs.Demands.{Demand1, Demand2, Demand3}
 use Rattle.demands.proofs.Demand1.{open-down, step-down, run-down, run-bad-store, write-down}
 use Rattle.demands.proofs.Demand1.{open-line, step-numbers, run-numbers, write-numbers, open-record-down, deliver-down, fire-down, line-taken, line-only, line-down, table-down}
-use Rattle.demands.proofs.Demand2.{next-events, file-again}
+use Rattle.demands.proofs.Demand2.{next-events, line-read, file-again}
 use Rattle.demands.proofs.Nodes.{rehearsed}
 use Rattle.demands.proofs.Demand3.{any-calls}
 
@@ -36,7 +37,16 @@ demand1 = record {
 
 -- every event and line as 01 fixes them, and the same bytes when read and written again
 pub demand2 : Demand2
-demand2 = record { nodes = rehearsed; events = next-events; program = whole-output; fileAgain = file-again; lineAgain = written-of-read; lineBack = read-of-written }
+demand2 = record {
+  nodes = rehearsed;
+  events = next-events;
+  lines = line-read;
+  columns = five-columns;
+  program = whole-output;
+  fileAgain = file-again;
+  lineAgain = written-of-read;
+  lineBack = read-of-written;
+}
 
 -- no live node is ever listed, and the platform settles between two crashes
 pub demand3 : Demand3

@@ -11,15 +11,17 @@ use lib.ListN.{length, take}
 use Rattle.ring.specs.Limits.{mostNodes, mostInFlight, lineRoom}
 use Rattle.ring.specs.Ring.{numbers, tableAnswer}
 use Rattle.text.specs.Put.{put}
+use Rattle.text.specs.Number.{decimal}
+use Rattle.text.specs.Hex.{hexOf}
 use Rattle.runfile.specs.Plan.{Plan, planTest, planText}
 use Rattle.runfile.specs.File.{Answer, accepted, refused as turnedDown, fileOf}
 use Rattle.logline.specs.declared.Line.{Line}
 use Rattle.logline.specs.declared.Read.the-variants.{Accepted as Read}
 use Rattle.logline.specs.declared.Written.{Written}
 use Rattle.logline.specs.declared.Written.the-variants.{Bytes as Put, Refused as Unput}
-use Rattle.logline.specs.Line.{Ranges, upTo, unknown, ranges, within, readOf, lineText, writtenOf, outOf}
-use Rattle.model.specs.Platform.{State, Entry, nextEvent, apply, try, steps, eventCount, runAnswer, firstEvents, after}
-use Rattle.model.specs.Lines.{linesFrom}
+use Rattle.logline.specs.Line.{Ranges, upTo, unknown, ranges, within, readOf, fields as columnsOf, lineText, writtenOf, outOf}
+use Rattle.model.specs.Platform.{State, Entry, nextEvent, apply, did, try, steps, eventCount, runAnswer, firstEvents, after}
+use Rattle.model.specs.Lines.{lineOf, linesFrom}
 use Rattle.model.specs.Claims.{CrashedAre, Safe, Settles}
 use Rattle.host.specs.Record.{recordSize, decode, openable, sound}
 use Rattle.host.specs.Call.{tickTaken, messageTaken, partSize, openAnswer, openLeaves, deliverAnswer, deliverLeaves, deliverSends, timersAnswer, timersLeaves, timersSends}
@@ -190,6 +192,11 @@ pub record Demand2 : Type 0 where
   -- events and lines
   pub events : (file store : List ℕ) (p : Plan) → fileOf file ≡ accepted p → length store ≡ storeSize
       → (cs : List Call) → NextEvents p cs (storeOf file store cs)
+  -- every event's line is one that the log reader takes, and such a line has five columns
+  pub lines : (file : List ℕ) (p : Plan) → fileOf file ≡ accepted p → (k : ℕ) (e : Entry) (s' : State) → try p (after p k) ≡ did e s'
+      → let l : Line = lineOf p (after p k) s' (e .tick) (e .event) in readOf (lineText l) ≡ Read l
+  pub columns : (text : List ℕ) (l : Line) → readOf text ≡ Read l
+      → columnsOf text ≡ (l .letter ∷ []) ∷ decimal (l .tick) ∷ decimal (l .node) ∷ decimal (l .other) ∷ hexOf 16 (l .list) ∷ []
   -- the rehearsal program: all that it writes of an input is the refusal's number and line, or the whole log
   pub program : WholeOutput
   -- a run file that is read and written again, whatever calls came between
