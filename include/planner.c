@@ -1,9 +1,18 @@
 /*
- * What does a longer time-out cost? It leaves room for delays beyond D, but crashes are listed later. This program
- * rehearses the crashes of a run file, read from standard input, with each W from the least, H + D, up to the file's own
- * in steps of H. For each it prints when a list last changed, and how many of the survivors then list all crashed nodes.
- * A refused file is answered with its number and line.
- * Build: gcc -Iinclude include/planner.c libplanner.a
+ * Which time-out? This program rehearses the crashes of a run file, read from standard input, with several time-outs W.
+ * A row of its table says how many ticks go by from the last crash until every survivor lists every crashed node.
+ *
+ * Heartbeats go out every H ticks, so that the answer moves with the tick of the crash, and the worst may come one tick
+ * after the best. Each W is therefore rehearsed with all C lines shifted together by 0 to H - 1 ticks, a whole period. Its
+ * row has the worst and the best of these, each with its shift.
+ *
+ *     planner [--each] [W ..] < RUN-FILE
+ *
+ * Without a W it takes H + D, then H more each time, and at last the file's own. With --each it prints a row for each
+ * shift. In the place of ticks stands `not yet` where the end tick came first, `never` where a list stays short for good,
+ * and `refused` where the shifted file or an event is refused. Exit status: 0 where all was rehearsed, else 1.
+ *
+ * Build: gcc -std=c11 -O2 -Iinclude include/planner.c target/staticlib/libplanner.a -o target/planner
  */
 #include <inttypes.h>
 #include <stdio.h>
@@ -12,55 +21,235 @@
 
 #include "kelbraut.h"
 
-static uint8_t store[KELBRAUT_STORE];
+#define BUDGET 1024 /* events between two looks at the lists */
 
-static void open_store(const char *file, size_t size) {
-    uint64_t answer = kelbraut_open((const uint8_t *)file, size, store, sizeof store);
+/* What is read of a store: the first byte of each field, by docs/LAYOUTS.md. */
+enum {
+    N = 0, D = 1, H = 2, W = 4, ROWS = 6, ROWS_DONE = 7, END = 8, LAST_TICK = 12, IN_FLIGHT = 26,
+    EMITTERS = 128, LISTS = 768, ROW_TICKS = 1792, ROW_NODES = 2048, KINDS = 36928, RECEIVERS = 41024, SUBJECTS = 43072
+};
+
+/* From good to bad. KNOWN: every survivor lists every crashed node. NEVER: some will not. NOT_YET: neither is so yet. */
+enum kind { KNOWN, NOT_YET, NEVER, REFUSED };
+
+struct outcome {
+    enum kind kind;
+    uint64_t ticks;  /* from the last crash until it was KNOWN or NEVER; on NOT_YET until the end tick */
+    uint64_t shift;
+    uint64_t answer; /* on REFUSED: of the refused call */
+};
+
+static char file[KELBRAUT_LONGEST_FILE + 1];
+static uint8_t plan[KELBRAUT_STORE]; /* as opened from the file */
+static uint8_t store[KELBRAUT_STORE], before[KELBRAUT_STORE];
+static uint64_t crashed; /* the nodes of the file's C lines */
+
+/* A number of a store, lowest byte first. */
+static uint64_t number(const uint8_t *from, size_t place, size_t bytes) {
+    uint64_t value = 0;
+    while (bytes-- > 0) {
+        value = value << 8 | from[place + bytes];
+    }
+    return value;
+}
+
+static int has(uint64_t set, unsigned node) {
+    return set >> node & 1;
+}
+
+/* The crashed nodes that a survivor does not list. */
+static uint64_t lacking(unsigned node) {
+    return has(crashed, node) ? 0 : crashed & ~number(store, LISTS + 8 * node, 8);
+}
+
+/*
+ * How the lists stand. A list only grows: when the node's watch expires, or when a report arrives of a node that it lacks.
+ * No watch on a live node expires, as no live node is ever listed. So once it is KNOWN or NEVER it stays so.
+ */
+static enum kind standing(void) {
+    int complete = store[ROWS_DONE] == plan[ROWS], to_come = !complete;
+    for (unsigned i = 0; i < plan[N]; i++) {
+        complete &= lacking(i) == 0;
+        to_come |= !has(crashed, i) && has(crashed, store[EMITTERS + i]);
+    }
+    for (unsigned i = 0; i < number(store, IN_FLIGHT, 2); i++) {
+        to_come |= store[KINDS + i] == KELBRAUT_REPORT && has(lacking(store[RECEIVERS + i]), store[SUBJECTS + i]);
+    }
+    return complete ? KNOWN : to_come ? NOT_YET : NEVER;
+}
+
+/* Opens the store from the file with this W and with later crashes. An accepted file has fewer than 30,000 bytes. */
+static uint64_t open_shifted(uint64_t w, uint64_t shift) {
+    static char text[KELBRAUT_LONGEST_FILE];
+    const char *delays = strchr(file, '\n') + 1; /* the L lines, once the C lines are passed over */
+    int size = sprintf(text, "P,%u,%" PRIu64 ",%" PRIu64 ",%u,%" PRIu64 "\n", plan[N], number(plan, H, 2), w, plan[D],
+                       number(plan, END, 4));
+    for (unsigned row = 0; row < plan[ROWS]; row++) {
+        uint64_t tick = number(plan, ROW_TICKS + 4 * row, 4) + shift;
+        size += sprintf(text + size, "C,%" PRIu64 ",%u\n", tick, plan[ROW_NODES + row]);
+        delays = strchr(delays, '\n') + 1;
+    }
+    size += sprintf(text + size, "%s", delays);
+    return kelbraut_open((const uint8_t *)text, (size_t)size, store, sizeof store);
+}
+
+/*
+ * Rehearses until it is KNOWN or NEVER, or to the end tick. A run is far quicker than as many steps. Where it is so after
+ * a run, that run is taken back and done by halves, down to the single event after which it is so.
+ */
+static struct outcome rehearse(uint64_t w, uint64_t shift) {
+    uint64_t answer = open_shifted(w, shift), budget = BUDGET, events, spent;
+    while (answer == KELBRAUT_ACCEPTED) {
+        memcpy(before, store, sizeof store);
+        answer = kelbraut_run(store, sizeof store, budget, &events, &spent);
+        enum kind kind = standing();
+        if (kind != NOT_YET && budget > 1) { /* also where a later event of this run was refused */
+            memcpy(store, before, sizeof store);
+            budget /= 2;
+            answer = KELBRAUT_ACCEPTED;
+        } else if (kind != NOT_YET || (answer == KELBRAUT_ACCEPTED && !spent)) {
+            uint64_t tick = number(store, kind == NOT_YET ? END : LAST_TICK, 4);
+            return (struct outcome){kind, tick - number(store, ROW_TICKS + 4 * (plan[ROWS] - 1u), 4), shift, answer};
+        }
+    }
+    return (struct outcome){REFUSED, 0, shift, answer};
+}
+
+static void print_refusal(FILE *to, uint64_t answer) {
+    static const char *const meanings[] = {
+        [KELBRAUT_BAD_LENGTH] = "the file is empty or longer than 65,536 bytes",
+        [KELBRAUT_BAD_FORM] = "letter, number of fields, digits, line feed or order of the letters",
+        [KELBRAUT_BAD_NUMBER] = "a number out of range, a node not below N, or a crash after the end tick",
+        [KELBRAUT_SHORT_TIME_OUT] = "W is below H + D",
+        [KELBRAUT_BAD_ORDER] = "C or L lines do not rise, or a node crashes twice",
+        [KELBRAUT_MANY_DELAYS] = "more than 2,048 L lines",
+        [KELBRAUT_BAD_STORE] = "the store is out of range",
+        [KELBRAUT_OVERFULL] = "more than 2,048 messages would be in flight"};
+    uint64_t by = KELBRAUT_NUMBER(answer);
+    fprintf(to, "%" PRIu64 ",%" PRIu64 ": %s", by, KELBRAUT_LINE(answer), by <= KELBRAUT_OVERFULL ? meanings[by] : "");
+}
+
+/* Prints nodes as `0,3-5`: of neighbours the first and the last. */
+static void print_nodes(uint64_t set) {
+    for (unsigned i = 0; i < 64; i++) {
+        int follows = i > 0 && has(set, i - 1), goes_on = i < 63 && has(set, i + 1);
+        if (has(set, i) && !(follows && goes_on)) {
+            int first = (set & ((UINT64_C(1) << i) - 1)) == 0;
+            printf("%s%u", follows ? "-" : first ? "" : ",", i);
+        }
+    }
+}
+
+/* Prints which survivors lack which nodes, those that lack the same together. */
+static void print_lacking(void) {
+    uint64_t printed = 0;
+    for (unsigned i = 0; i < plan[N]; i++) {
+        uint64_t same = 0;
+        for (unsigned j = i; j < plan[N]; j++) {
+            same |= (uint64_t)(lacking(j) == lacking(i)) << j;
+        }
+        if (lacking(i) != 0 && !has(printed, i)) {
+            printf(printed == 0 ? "  " : "; ");
+            print_nodes(same);
+            printf(same == UINT64_C(1) << i ? " lacks " : " lack ");
+            print_nodes(lacking(i));
+            printed |= same;
+        }
+    }
+}
+
+static void print_outcome(struct outcome o) {
+    static const char *const words[] = {[NOT_YET] = "not yet", [NEVER] = "never", [REFUSED] = "refused"};
+    if (o.kind == KNOWN) {
+        printf("%10" PRIu64 "%8" PRIu64, o.ticks, o.shift);
+    } else {
+        printf("%10s%8" PRIu64, words[o.kind], o.shift);
+    }
+}
+
+/* Prints a row, and why its first outcome is no number, from the store that this rehearsal left. */
+static void print_row(uint64_t w, struct outcome first, const struct outcome *second) {
+    printf("%6" PRIu64, w);
+    print_outcome(first);
+    if (second != NULL) {
+        print_outcome(*second);
+    }
+    if (first.kind == REFUSED) {
+        printf("  ");
+        print_refusal(stdout, first.answer);
+    } else if (first.kind != KNOWN) {
+        print_lacking();
+        printf(" %s, after %" PRIu64 " ticks", first.kind == NEVER ? "for good" : "at the end tick", first.ticks);
+    }
+    printf("\n");
+    fflush(stdout);
+}
+
+static int worse(struct outcome a, struct outcome b) {
+    return a.kind > b.kind || (a.kind == KNOWN && b.kind == KNOWN && a.ticks > b.ticks);
+}
+
+/* Prints a row for this W, or one for each shift, and answers whether something was refused. */
+static int try_time_out(uint64_t w, int each) {
+    struct outcome worst = {0}, best = {0};
+    for (uint64_t shift = 0; shift < number(plan, H, 2); shift++) {
+        struct outcome o = rehearse(w, shift);
+        worst = shift == 0 || worse(o, worst) ? o : worst;
+        best = shift == 0 || worse(best, o) ? o : best;
+        if (each) {
+            print_row(w, o, NULL);
+        }
+    }
+    if (!each) {
+        rehearse(w, worst.shift); /* for its lists */
+        print_row(w, worst, &best);
+    }
+    return worst.kind == REFUSED;
+}
+
+/* Prints the table: for the time-outs in the arguments, or where there are none for those up to the file's own. */
+static int print_table(int each, char **time_outs) {
+    uint64_t h = number(plan, H, 2), own = number(plan, W, 2);
+    int refused = 0;
+    printf("Ticks from the last crash until every survivor lists ");
+    print_nodes(crashed);
+    printf(", with the crashes shifted by 0 to %" PRIu64 " ticks\n", h - 1);
+    printf(each ? "     W     ticks   shift\n" : "     W     worst   shift      best   shift\n");
+    for (char **w = time_outs; *w != NULL; w++) {
+        refused |= try_time_out(strtoul(*w, NULL, 10), each);
+    }
+    for (uint64_t w = h + plan[D]; *time_outs == NULL && w < own + h; w += h) {
+        refused |= try_time_out(w < own ? w : own, each);
+    }
+    return refused || ferror(stdout);
+}
+
+int main(int argc, char **argv) {
+    int each = argc > 1 && strcmp(argv[1], "--each") == 0;
+    for (int i = 1 + each; i < argc; i++) {
+        size_t digits = strspn(argv[i], "0123456789");
+        if (digits == 0 || digits > 9 || argv[i][digits] != '\0') {
+            fprintf(stderr, "usage: planner [--each] [W ..] < RUN-FILE\n");
+            return 1;
+        }
+    }
+    size_t size = fread(file, 1, sizeof file, stdin);
+    if (ferror(stdin)) {
+        perror("planner");
+        return 1;
+    }
+    uint64_t answer = kelbraut_open((const uint8_t *)file, size, plan, sizeof plan);
     if (answer != KELBRAUT_ACCEPTED) {
-        printf("%" PRIu64 ",%" PRIu64 "\n", KELBRAUT_NUMBER(answer), KELBRAUT_LINE(answer));
-        exit(1);
+        print_refusal(stderr, answer);
+        fprintf(stderr, "\n");
+        return 1;
     }
-}
-
-/* Steps to the end tick. A node lists another when its watch on it expires or a report of it arrives. */
-static void rehearse(unsigned nodes, unsigned w) {
-    uint8_t log[KELBRAUT_LOG_PART];
-    uint64_t letter, tick, node, other, size;
-    uint64_t lists[64] = {0}, crashed = 0, changed = 0;
-    for (;;) {
-        uint64_t answer = kelbraut_step(store, sizeof store, log, sizeof log, &letter, &tick, &node, &other, &size);
-        if (answer != KELBRAUT_ACCEPTED) {
-            printf("W %u: refused by %" PRIu64 "\n", w, answer);
-            return;
-        }
-        if (letter == KELBRAUT_END) {
-            break;
-        }
-        uint64_t bit = UINT64_C(1) << other;
-        if (letter == KELBRAUT_CRASH) {
-            crashed |= bit;
-        } else if ((letter == KELBRAUT_EXPIRED || letter == KELBRAUT_REPORT) && !(lists[node] & bit)) {
-            lists[node] |= bit;
-            changed = tick;
-        }
+    for (unsigned row = 0; row < plan[ROWS]; row++) {
+        crashed |= UINT64_C(1) << plan[ROW_NODES + row];
     }
-    unsigned complete = 0;
-    for (unsigned i = 0; i < nodes; i++) {
-        complete += !(crashed >> i & 1) && lists[i] == crashed;
+    if (plan[ROWS] == 0 || plan[ROWS] == plan[N]) {
+        fprintf(stderr, "nothing to rehearse: no node %s\n", plan[ROWS] == 0 ? "crashes" : "survives");
+        return 1;
     }
-    printf("W %u: a list last changes at tick %" PRIu64 "; %u of %" PRIu64 " survivors list all crashed nodes\n", w,
-           changed, complete, node);
-}
-
-int main(void) {
-    static char file[KELBRAUT_LONGEST_FILE + 1], trial[KELBRAUT_LONGEST_FILE + 1];
-    open_store(file, fread(file, 1, sizeof file, stdin));
-    unsigned n, h, most, d, end; /* of the P line, with which an accepted file begins */
-    sscanf(file, "P,%u,%u,%u,%u,%u", &n, &h, &most, &d, &end);
-    for (unsigned w = h + d; w <= most; w += h) {
-        int size = snprintf(trial, sizeof trial, "P,%u,%u,%u,%u,%u%s", n, h, w, d, end, strchr(file, '\n'));
-        open_store(trial, (size_t)size);
-        rehearse(n, w);
-    }
-    return 0;
+    return print_table(each, argv + 1 + each);
 }
