@@ -64,6 +64,16 @@ bad_number='a number out of range, a node not below N, or a crash after the end 
 bad_order='C or L lines do not rise, or a node crashes twice\n'
 
 tables() {
+    printf 'P,6,5,17,2,90\nC,30,1\nC,35,2\n' | prints 0 "$lists 1-2$shifted 4 ticks\n$head\
+     7        26       1         8       0
+    12        41       1        37       0
+    17   not yet       1        52       0  0 lacks 1 at the end tick, after 54 ticks
+" ''
+    printf 'P,6,5,17,2,150\nC,30,1\nC,35,2\n' | prints 0 "$lists 1-2$shifted 4 ticks\n$head\
+     7        26       1         8       0
+    12        41       1        37       0
+    17        56       1        52       0
+" ''
     printf "$six_nodes" | prints 0 "$lists 1-2$shifted 4 ticks\n$head\
      7        26       1         8       0
     12        41       1        37       0
