@@ -20,7 +20,8 @@ use Rattle.logline.specs.declared.Read.the-variants.{Accepted as Read}
 use Rattle.logline.specs.declared.Written.the-variants.{Bytes as Put, Refused as Unput}
 use Rattle.logline.specs.Line.{Ranges, upTo, unknown, ranges, within, readOf, lineText, writtenIn, writtenOf, holds, outOf}
 use Rattle.logline.proofs.LineTrip.{read-trip, text-accepted}
-use Rattle.model.specs.Platform.{State, start, Entry, Outcome, did, ended, refused, Answer, spent, finished, overfull as overfullRun, nextEvent, apply, fits, tried, try, left, steps, eventCount, runAnswer}
+use Rattle.model.specs.Platform.{State, start, Entry, Outcome, did, ended, refused, Answer, spent, finished, overfull as overfullRun}
+use Rattle.model.specs.Platform.{nextEvent, apply, fits, tried, try, left, steps, eventCount, runAnswer}
 use Rattle.model.proofs.Calls.{stuck, counted}
 use Rattle.host.specs.Call.{accepted, answer, recordAfter, partAfter, openAnswer, openLeaves}
 use Rattle.host.specs.Call.{deliverAnswer, deliverLeaves, deliverSends, timersAnswer, timersLeaves, timersSends}
@@ -34,9 +35,11 @@ use Rattle.platform.specs.declared.Ran.{Ran}
 use Rattle.platform.specs.declared.Ran.the-variants.{Done as Finished, Spent, Refused as Unrun}
 use Rattle.platform.specs.declared.Wrote.{Wrote}
 use Rattle.platform.specs.declared.Wrote.the-variants.{Bytes, Refused as Unwritten}
-use Rattle.platform.specs.Calls.{AfterOpen, AfterStep, AfterRun, AfterWrite, openPlan, openAnswer as fileAnswer, openFile, stepOutcome, step, ran, runState, run, writeFile, openRefusal, stepRefusal, runRefusal, writeRefusal}
+use Rattle.platform.specs.Calls.{AfterOpen, AfterStep, AfterRun, AfterWrite, openPlan, openAnswer as fileAnswer, openFile, stepOutcome}
+use Rattle.platform.specs.Calls.{step, ran, runState, run, writeFile, openRefusal, stepRefusal, runRefusal, writeRefusal}
 use Rattle.planner.specs.Answers.{stepLetter, stepTick, stepNode, stepOther, stepSize, runEvents, runSpent, writeSize}
-use Rattle.demands.specs.Demands.{place, firstBroken, TurnsDown, fileNumber, openPlaces, overfullBy, overfull, stepPlaces, stopped, runPlaces, eventsDone, keepsEarlier, writePlaces}
+use Rattle.demands.specs.Demands.{place, firstBroken, TurnsDown, fileNumber, openPlaces, overfullBy, overfull, stepPlaces, stopped}
+use Rattle.demands.specs.Demands.{runPlaces, eventsDone, KeepsEarlier, writePlaces}
 use Rattle.demands.specs.Demands.{recordPlaces, deliverPlaces, timersPlaces, letterUnknown, outside, linePlaces, lineRefusal, tablePlaces}
 
 -- ---- tests
@@ -81,7 +84,9 @@ module _ (p : Plan) where
     where
       go : (o : Option Entry) → isRefused (tried p s o) ≡ overfullBy p s o
       go none = refl
-      go (some e) = by (leb (length (apply p s (e .tick) (e .event) .flight)) mostInFlight) ∙ sym (below mostInFlight (length (apply p s (e .tick) (e .event) .flight)))
+      go (some e) =
+          let count : ℕ = length (apply p s (e .tick) (e .event) .flight) in
+          by (leb count mostInFlight) ∙ sym (below mostInFlight count)
         where
           by : (t : Bool) → isRefused (cond t (did e (apply p s (e .tick) (e .event))) refused) ≡ not t
           by true = refl
@@ -148,7 +153,8 @@ open-down file store = go (fileOf file) refl
     by p false = record { first = refl; untouched = λ h. refl }
 
     go : (a : FileAnswer) → fileOf file ≡ a
-        → TurnsDown (openRefusal (fileAnswer a store .answer)) (place (not (eqb (fileNumber a) 0)) (fileNumber a) ∷ place (not (eqb (length store) storeSize)) 7 ∷ [])
+        → TurnsDown (openRefusal (fileAnswer a store .answer))
+        (place (not (eqb (fileNumber a) 0)) (fileNumber a) ∷ place (not (eqb (length store) storeSize)) 7 ∷ [])
         (fileAnswer a store .store ≡ store)
     go (acceptedFile p) e = by p (eqb (length store) storeSize)
     go (turnedDown number line) e = record { first = rw (ne-eqb number 0 (not-zero (refusal-small file number line e .0))) refl; untouched = λ h. refl }
@@ -182,8 +188,8 @@ step-down store log = go (storeInRange store) (ltb (length log) 40)
       untouched = outcome-left p s (try p s) store log;
     }
 
-pub run-down : (store : List ℕ) (budget : ℕ) → TurnsDown (runRefusal (run store budget .answer)) (runPlaces store budget) (keepsEarlier store budget)
-unfolding run runState runPlaces firstBroken runRefusal keepsEarlier
+pub run-down : (store : List ℕ) (budget : ℕ) → TurnsDown (runRefusal (run store budget .answer)) (runPlaces store budget) (KeepsEarlier store budget)
+unfolding run runState runPlaces firstBroken runRefusal KeepsEarlier
 run-down store budget = go (storeInRange store) refl
   where
     p : Plan
@@ -304,7 +310,8 @@ fire-down s tick part = record {
 
 -- ---- log lines and forwarding tables
 
-pub line-taken : (l : Line) → letterUnknown (ranges (l .letter)) ≡ false → outside (ranges (l .letter)) l ≡ false → l .list < 2 ^ 64 → readOf (lineText l) ≡ Read l
+pub line-taken : (l : Line) → letterUnknown (ranges (l .letter)) ≡ false → outside (ranges (l .letter)) l ≡ false → l .list < 2 ^ 64
+    → readOf (lineText l) ≡ Read l
 unfolding letterUnknown outside
 line-taken l known inside d = go (ranges (l .letter)) refl known inside
   where
@@ -330,7 +337,8 @@ line-down l out = go (ranges (l .letter))
     by node other true true = record { first = refl; untouched = λ h. refl }
     by node other true false = record { first = refl; untouched = λ h. absurd (h refl) }
 
-    go : (r : Ranges) → TurnsDown (lineRefusal (writtenIn r l (length out))) (place (letterUnknown r) 2 ∷ place (outside r l) 3 ∷ place (ltb (length out) 40) 9 ∷ [])
+    go : (r : Ranges) → TurnsDown (lineRefusal (writtenIn r l (length out)))
+        (place (letterUnknown r) 2 ∷ place (outside r l) 3 ∷ place (ltb (length out) 40) 9 ∷ [])
         (holds (writtenIn r l (length out)) l out ≡ out)
     go (upTo node other) = by node other (within l node other) (ltb (length out) 40)
     go unknown = record { first = refl; untouched = λ h. refl }

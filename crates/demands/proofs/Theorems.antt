@@ -6,7 +6,8 @@ use Rattle.rehearsal.proofs.Parts.{whole-output}
 use Rattle.planner.proofs.Answered.{taken-apart}
 use Rattle.demands.specs.Demands.{Demand1, Demand2, Demand3}
 use Rattle.demands.proofs.Demand1.{open-down, step-down, run-down, run-bad-store, write-down}
-use Rattle.demands.proofs.Demand1.{open-line, step-numbers, run-numbers, write-numbers, open-record-down, deliver-down, fire-down, line-taken, line-only, line-down, table-down}
+use Rattle.demands.proofs.Demand1.{open-line, step-numbers, run-numbers, write-numbers, open-record-down, deliver-down, fire-down}
+use Rattle.demands.proofs.Demand1.{line-taken, line-only, line-down, table-down}
 use Rattle.demands.proofs.Demand2.{next-events, line-read, file-again}
 use Rattle.demands.proofs.Nodes.{rehearsed}
 use Rattle.demands.proofs.Demand3.{any-calls}

@@ -16,15 +16,16 @@ use Rattle.text.specs.Hex.{hexOf}
 use Rattle.runfile.specs.Plan.{Plan, planTest, planText}
 use Rattle.runfile.specs.File.{Answer, accepted, refused as turnedDown, fileOf}
 use Rattle.logline.specs.declared.Line.{Line}
-use Rattle.logline.specs.declared.Read.the-variants.{Accepted as Read}
+use Rattle.logline.specs.declared.Read.the-variants.{Accepted as LineRead}
 use Rattle.logline.specs.declared.Written.{Written}
-use Rattle.logline.specs.declared.Written.the-variants.{Bytes as Put, Refused as Unput}
+use Rattle.logline.specs.declared.Written.the-variants.{Bytes as LineBytes, Refused as LineRefused}
 use Rattle.logline.specs.Line.{Ranges, upTo, unknown, ranges, within, readOf, fields as columnsOf, lineText, writtenOf, outOf}
 use Rattle.model.specs.Platform.{State, Entry, nextEvent, apply, did, try, steps, eventCount, runAnswer, firstEvents, after}
 use Rattle.model.specs.Lines.{lineOf, linesFrom}
 use Rattle.model.specs.Claims.{CrashedAre, Safe, Settles}
 use Rattle.host.specs.Record.{recordSize, decode, openable, sound}
-use Rattle.host.specs.Call.{tickTaken, messageTaken, partSize, openAnswer, openLeaves, deliverAnswer, deliverLeaves, deliverSends, timersAnswer, timersLeaves, timersSends}
+use Rattle.host.specs.Call.{tickTaken, messageTaken, partSize, openAnswer, openLeaves, deliverAnswer, deliverLeaves, deliverSends}
+use Rattle.host.specs.Call.{timersAnswer, timersLeaves, timersSends}
 use Rattle.store.specs.Store.{storeSize, encode, planIn, stateIn, storeInRange}
 use Rattle.platform.specs.declared.Opened.the-variants.{Ready, Refused as Unopened}
 use Rattle.platform.specs.declared.Stepped.{Stepped}
@@ -95,8 +96,8 @@ eventsDone (Spent n) = n
 eventsDone (Unrun number n) = n
 
 -- 'Nothing lent changes, but for a run's earlier events': a refused run leaves what a run of just these events leaves
-unfoldable pub keepsEarlier : List ℕ → ℕ → Type 0
-keepsEarlier store budget = run store budget .store ≡ run store (eventsDone (run store budget .answer)) .store
+unfoldable pub KeepsEarlier : List ℕ → ℕ → Type 0
+KeepsEarlier store budget = run store budget .store ≡ run store (eventsDone (run store budget .answer)) .store
 
 unfoldable pub writePlaces : List ℕ → List ℕ → List Place
 writePlaces store out = place (not (storeInRange store)) 7 ∷ place (ltb (length out) 65536) 9 ∷ []
@@ -127,8 +128,8 @@ linePlaces l out =
     place (letterUnknown (ranges (l .letter))) 2 ∷ place (outside (ranges (l .letter)) l) 3 ∷ place (ltb (length out) 40) 9 ∷ []
 
 unfoldable pub lineRefusal : Written → ℕ
-lineRefusal (Put size) = 0
-lineRefusal (Unput number) = number
+lineRefusal (LineBytes size) = 0
+lineRefusal (LineRefused number) = number
 
 -- 'N outside 1 to 64, or a list with a bit from N on, is refused by 3'
 unfoldable pub tablePlaces : ℕ → ℕ → List Place
@@ -142,7 +143,7 @@ pub record Demand1 : Type 0 where
   pub opening : (file store : List ℕ) → TurnsDown (openRefusal (openFile file store .answer)) (openPlaces file store) (openFile file store .store ≡ store)
   pub stepping : (store log : List ℕ)
       → TurnsDown (stepRefusal (step store log .answer)) (stepPlaces store log) ((step store log .store ≡ store) × (step store log .log ≡ log))
-  pub running : (store : List ℕ) (budget : ℕ) → TurnsDown (runRefusal (run store budget .answer)) (runPlaces store budget) (keepsEarlier store budget)
+  pub running : (store : List ℕ) (budget : ℕ) → TurnsDown (runRefusal (run store budget .answer)) (runPlaces store budget) (KeepsEarlier store budget)
   pub badStore : (store : List ℕ) (budget : ℕ) → storeInRange store ≡ false → run store budget .store ≡ store
   pub writing : (store out : List ℕ) → TurnsDown (writeRefusal (writeFile store out .answer)) (writePlaces store out) (writeFile store out .out ≡ out)
   -- for files the line is answered too, in C both in one number
@@ -163,8 +164,9 @@ pub record Demand1 : Type 0 where
   pub nodeTimers : (s : List ℕ) (tick : ℕ) (part : List ℕ)
       → TurnsDown (timersAnswer s tick part) (timersPlaces s tick part) ((timersLeaves s tick part ≡ s) × (timersSends s tick part ≡ part))
   -- log lines and forwarding tables
-  pub lineTaken : (l : Line) → letterUnknown (ranges (l .letter)) ≡ false → outside (ranges (l .letter)) l ≡ false → l .list < 2 ^ 64 → readOf (lineText l) ≡ Read l
-  pub lineOnly : (text : List ℕ) (l : Line) → readOf text ≡ Read l
+  pub lineTaken : (l : Line) → letterUnknown (ranges (l .letter)) ≡ false → outside (ranges (l .letter)) l ≡ false → l .list < 2 ^ 64
+      → readOf (lineText l) ≡ LineRead l
+  pub lineOnly : (text : List ℕ) (l : Line) → readOf text ≡ LineRead l
       → (lineText l ≡ text) × (letterUnknown (ranges (l .letter)) ≡ false) × (outside (ranges (l .letter)) l ≡ false)
   pub lineWriting : (l : Line) (out : List ℕ) → TurnsDown (lineRefusal (writtenOf l (length out))) (linePlaces l out) (outOf l out ≡ out)
   pub table : (n d : ℕ) → tableAnswer n d ≡ firstBroken (tablePlaces n d)
@@ -194,8 +196,8 @@ pub record Demand2 : Type 0 where
       → (cs : List Call) → NextEvents p cs (storeOf file store cs)
   -- every event's line is one that the log reader takes, and such a line has five columns
   pub lines : (file : List ℕ) (p : Plan) → fileOf file ≡ accepted p → (k : ℕ) (e : Entry) (s' : State) → try p (after p k) ≡ did e s'
-      → let l : Line = lineOf p (after p k) s' (e .tick) (e .event) in readOf (lineText l) ≡ Read l
-  pub columns : (text : List ℕ) (l : Line) → readOf text ≡ Read l
+      → let l : Line = lineOf p (after p k) s' (e .tick) (e .event) in readOf (lineText l) ≡ LineRead l
+  pub columns : (text : List ℕ) (l : Line) → readOf text ≡ LineRead l
       → columnsOf text ≡ (l .letter ∷ []) ∷ decimal (l .tick) ∷ decimal (l .node) ∷ decimal (l .other) ∷ hexOf 16 (l .list) ∷ []
   -- the rehearsal program: all that it writes of an input is the refusal's number and line, or the whole log
   pub program : WholeOutput
@@ -204,9 +206,10 @@ pub record Demand2 : Type 0 where
       → (cs : List Call) (out : List ℕ) → fileRoom ≤ length out
       → writeFile (storeOf file store cs) out ≡ record { answer = Bytes (length file); out = put out 0 file }
   -- a log's line that is read and written again, and one that is written and read
-  pub lineAgain : (text : List ℕ) (l : Line) (out : List ℕ) → readOf text ≡ Read l → lineRoom ≤ length out
-      → (writtenOf l (length out) ≡ Put (length text)) × (outOf l out ≡ put out 0 text)
-  pub lineBack : (l : Line) (out : List ℕ) (size : ℕ) → writtenOf l (length out) ≡ Put size → l .list < 2 ^ 64 → readOf (take size (outOf l out)) ≡ Read l
+  pub lineAgain : (text : List ℕ) (l : Line) (out : List ℕ) → readOf text ≡ LineRead l → lineRoom ≤ length out
+      → (writtenOf l (length out) ≡ LineBytes (length text)) × (outOf l out ≡ put out 0 text)
+  pub lineBack : (l : Line) (out : List ℕ) (size : ℕ) → writtenOf l (length out) ≡ LineBytes size → l .list < 2 ^ 64
+      → readOf (take size (outOf l out)) ≡ LineRead l
 
 -- ---- DEMAND 3: 'Between two crashes, the platform settles and no live node is ever listed'
 

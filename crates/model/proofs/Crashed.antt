@@ -9,7 +9,8 @@ use native.Mathlib.Decide.{ℕ-discrete}
 use lib.ListN.{length, getD, take, length-take}
 use lib.Seq.{getD-take}
 use Rattle.runfile.specs.Plan.{Crash, Plan, hits}
-use Rattle.model.specs.Platform.{State, Event, Entry, crash, message, watch, heartbeat, alive, start, taken, apply, Outcome, did, ended, refused, try, left, steps, eventsFrom, firstEvents, after}
+use Rattle.model.specs.Platform.{State, Event, Entry, crash, message, watch, heartbeat, alive, start, taken, apply, Outcome, did}
+use Rattle.model.specs.Platform.{ended, refused, try, left, steps, eventsFrom, firstEvents, after}
 use Rattle.model.specs.Range.{noCrash, rowAt, Plain, Sound}
 use Rattle.model.specs.Claims.{crashOf, CrashedAmong, CrashedAre}
 use Rattle.model.proofs.NextEvent.{Chosen, hit-where, hit-of}
@@ -89,7 +90,8 @@ module _ (p : Plan) (pl : Plain p) where
   among-row (suc k) s v r m = go (try p s) (try-ok p pl s v) (among-row k) m
     where
       go : (o : Outcome) → Tried p pl s o
-          → ((s' : State) → Sound p s' → (r : Crash) → List·Memᴰ (crashOf r) (eventsFrom p k s') → (i : ℕ) × (i < (steps p k s') .done) × (rowAt p i .node ≡ r .node))
+          → ((s' : State) → Sound p s' → (r : Crash) → List·Memᴰ (crashOf r) (eventsFrom p k s')
+          → (i : ℕ) × (i < (steps p k s') .done) × (rowAt p i .node ≡ r .node))
           → List·Memᴰ (crashOf r) (rest k s o) → (i : ℕ) × (i < (steps p k (left s o)) .done) × (rowAt p i .node ≡ r .node)
       go o (happened e b a ch f) ih m = at (List·Memᴰ·cases-cons m)
         where
@@ -114,7 +116,8 @@ module _ (p : Plan) (pl : Plain p) where
   dead-by : (done i k : ℕ) → i < done → i < length (p .crashes) → rowAt p i .node ≡ k → alive p done k ≡ false
   unfolding alive
   dead-by done i k l m q =
-      ap not (hit-of (take done (p .crashes)) noCrash i k (rw length-take (omega arith)) (ap (λ (r : Crash). r .node) (getD-take done (p .crashes) i noCrash l) ∙ q))
+      let row : (getD (take done (p .crashes)) i noCrash) .node ≡ k = ap (λ (r : Crash). r .node) (getD-take done (p .crashes) i noCrash l) ∙ q in
+      ap not (hit-of (take done (p .crashes)) noCrash i k (rw length-take (omega arith)) row)
 
   by-row : (done k : ℕ) → done ≤ length (p .crashes) → alive p done k ≡ false → (i : ℕ) × (i < done) × (rowAt p i .node ≡ k)
   unfolding alive

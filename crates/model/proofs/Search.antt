@@ -173,7 +173,10 @@ module _ (p : Plan) (pl : Plain p) (s : State) where
 -- ---- a timer
 
 module _ (p : Plan) (d : ℕ) (z : Node) where
-  pub timer-split : (ns : List Node) (j x : ℕ) → x < length ns → timerEntries p d j ns ≡ timerEntries p d j (take x ns) ++ (cond (alive p d (j + x)) (timerEntry ((getD ns x z) .watch) (watch (j + x)) ++ timerEntry ((getD ns x z) .heartbeat) (heartbeat (j + x))) [] ++ timerEntries p d (suc (j + x)) (drop (suc x) ns))
+  pub timer-split : (ns : List Node) (j x : ℕ) → x < length ns → timerEntries p d j ns
+      ≡ timerEntries p d j (take x ns)
+      ++ (cond (alive p d (j + x)) (timerEntry ((getD ns x z) .watch) (watch (j + x)) ++ timerEntry ((getD ns x z) .heartbeat) (heartbeat (j + x))) []
+      ++ timerEntries p d (suc (j + x)) (drop (suc x) ns))
   unfolding timerEntries
   timer-split [] j x h = absurd (omega arith)
   timer-split (n ∷ ns) j zero h = rw add-zero

@@ -27,7 +27,8 @@ use Rattle.store.proofs.Store.{plan-encode, state-encode, held-read}
 use Rattle.event.proofs.Fitting.{ranges, Room, sound-fits}
 use Rattle.platform.specs.declared.Stepped.the-variants.{Refused as Unstepped}
 use Rattle.platform.specs.declared.Wrote.the-variants.{Bytes}
-use Rattle.platform.specs.Calls.{badStore, shortPart, fileRoom, AfterStep, AfterRun, stepOutcome, step, ran, runState, run, writeFile, stepRefusal, runRefusal}
+use Rattle.platform.specs.Calls.{badStore, shortPart, fileRoom, AfterStep, AfterRun, stepOutcome, step, ran, runState, run}
+use Rattle.platform.specs.Calls.{writeFile, stepRefusal, runRefusal}
 use Rattle.platform.specs.CallLists.{Call as Lent, aStep, aRun, sized, storeAfter, refusal}
 use Rattle.platform.proofs.Encoded.{in-range-encode}
 
