@@ -3,27 +3,31 @@
 use mathlib.Core.Path.{_≡_, refl, sym, ap, _∙_, subst}
 use mathlib.Core.Bool.{Bool, true, false}
 use mathlib.Core.List.{List, [], _∷_, _++_, append-nil}
-use Prim.Native.Nat.{ℕ, _^_, _≤_, _<_}
+use Prim.Native.Nat.{ℕ, zero, suc, _^_, _≤_, _<_}
 use native.Mathlib.Nat.{pow-le-pow-right}
 use native.Mathlib.Omega.{arith}
 use native.Mathlib.Decide.{decLt}
 use lib.Dec.{lit≤, lit<}
 use borrow.Author.Tests.{le-ltb}
-use lib.ListN.{length, List·getD-eq-default}
+use lib.ListN.{length, getD, take, length-take, List·getD-eq-default}
+use lib.Seq.{getD-take}
+use lib.Pow.{pow-pos}
 use Rattle.ring.specs.Limits.{lineRoom}
+use Rattle.ring.specs.Ring.{listing}
+use Rattle.ring.proofs.Lists.{listing-lt}
 use Rattle.text.specs.Put.{put}
 use Rattle.logline.specs.declared.Line.{Line}
 use Rattle.logline.specs.declared.Read.the-variants.{Accepted as Read}
 use Rattle.logline.specs.Line.{lineText, readOf}
 use Rattle.logline.proofs.LineTrip.{text-accepted, written-line}
-use Rattle.runfile.specs.Plan.{Plan}
+use Rattle.runfile.specs.Plan.{Crash, Plan}
 use Rattle.runfile.specs.File.{accepted, fileOf}
 use Rattle.runfile.proofs.RoundTrip.{written-back, accepted-plan, accepted-order}
 use Rattle.node.specs.Node.{alone}
-use Rattle.model.specs.Platform.{State, Event, Entry, crash, message, watch, heartbeat, Outcome, did, ended, refused, alive, nodeOf, messageAt}
-use Rattle.model.specs.Platform.{try, left, steps, after, eventCount, runAnswer}
+use Rattle.model.specs.Platform.{State, Event, Entry, crash, message, watch, heartbeat, Outcome, did, ended, refused, alive, withCrashed, crashedList, nodeOf}
+use Rattle.model.specs.Platform.{messageAt, try, left, steps, after, eventCount, runAnswer}
 use Rattle.model.specs.Lines.{messageLine, lineOf, eventLines, lastLine, linesFrom}
-use Rattle.model.specs.Range.{Plain, Sound}
+use Rattle.model.specs.Range.{noCrash, Plain, Sound}
 use Rattle.model.proofs.RangesKept.{try-ok, left-range, after-range}
 use Rattle.store.specs.Store.{storeSize, encode, planIn, stateIn, storeInRange}
 use Rattle.platform.specs.declared.Wrote.the-variants.{Bytes}
@@ -31,7 +35,7 @@ use Rattle.platform.specs.Calls.{AfterStep, AfterRun, fileRoom, linesText, step
 use Rattle.platform.specs.CallLists.{Call, eventsOf}
 use Rattle.platform.proofs.Stores.{Holds, plain-of, plan-of, state-of, in-range, step-in, run-in, write-in, outcome-store}
 use Rattle.platform.proofs.CallLists.{after-small, after-holds}
-use Rattle.platform.proofs.Lines.{TakesOf, outcome-takes}
+use Rattle.platform.proofs.Lines.{TakesOf, last-takes, outcome-takes}
 use Rattle.demands.specs.Demands.{storeOf, NextEvents}
 use Rattle.demands.proofs.Demand3.{good, order, called}
 
@@ -117,3 +121,29 @@ line-read file p ok k e s' h =
     let takes : TakesOf p s (did e s') = subst (TakesOf p s) h (outcome-takes p pl s r) in
     let l : Line = lineOf p s s' (e .tick) (e .event) in
     text-accepted l ((written-line l 40 (length (lineText l)) (takes .written 40 (lit≤ tt))) .0) (line-list p pl s s' r' (e .tick) (e .event))
+
+-- ---- and so is the last line
+
+with-small : (n : ℕ) (rows : List Crash) (d : ℕ) → d < 2 ^ n → ((i : ℕ) → i < length rows → (getD rows i noCrash) .node < n) → withCrashed d rows < 2 ^ n
+unfolding withCrashed
+with-small n [] d h f = h
+with-small n (r ∷ rs) d h f = with-small n rs (listing d (r .node)) (listing-lt n d (r .node) h (f 0 (omega arith))) (λ i l. f (suc i) (omega arith))
+
+crashed-small : (p : Plan) → Plain p → (done : ℕ) → crashedList p done < 2 ^ p .n
+unfolding crashedList
+crashed-small p pl done = with-small (p .n) (take done (p .crashes)) 0 (pow-pos (p .n)) row
+  where
+    row : (i : ℕ) → i < length (take done (p .crashes)) → (getD (take done (p .crashes)) i noCrash) .node < p .n
+    row i h =
+        let few : i < done = omega (arith, h, length-take done (p .crashes)) in
+        rw (getD-take done (p .crashes) i noCrash few) (pl .node i (omega (arith, h, length-take done (p .crashes))))
+
+pub last-read : (file : List ℕ) (p : Plan) → fileOf file ≡ accepted p → (k : ℕ) → let l : Line = lastLine p (after p k) in readOf (lineText l) ≡ Read l
+unfolding lastLine
+last-read file p ok k =
+    let pl : Plain p = plain-of p (accepted-order file p ok) (accepted-plan file p ok) in
+    let s : State = after p k in
+    let l : Line = lastLine p s in
+    let takes = last-takes p pl s (after-range p pl k) in
+    text-accepted l ((written-line l 40 (length (lineText l)) (takes .written 40 (lit≤ tt))) .0)
+    (omega (arith, crashed-small p pl (s .done), pow-le-pow-right {n = 2} (lit< tt) (pl .n≤)))

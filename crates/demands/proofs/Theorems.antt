@@ -8,7 +8,7 @@ use Rattle.demands.specs.Demands.{Demand1, Demand2, Demand3}
 use Rattle.demands.proofs.Demand1.{open-down, step-down, run-down, run-bad-store, write-down}
 use Rattle.demands.proofs.Demand1.{open-line, step-numbers, run-numbers, write-numbers, open-record-down, deliver-down, fire-down}
 use Rattle.demands.proofs.Demand1.{line-taken, line-only, line-down, table-down}
-use Rattle.demands.proofs.Demand2.{next-events, line-read, file-again}
+use Rattle.demands.proofs.Demand2.{next-events, line-read, last-read, file-again}
 use Rattle.demands.proofs.Nodes.{rehearsed}
 use Rattle.demands.proofs.Demand3.{any-calls}
 
@@ -42,6 +42,7 @@ demand2 = record {
   nodes = rehearsed;
   events = next-events;
   lines = line-read;
+  lastLines = last-read;
   columns = five-columns;
   program = whole-output;
   fileAgain = file-again;

@@ -21,7 +21,7 @@ use Rattle.logline.specs.declared.Written.{Written}
 use Rattle.logline.specs.declared.Written.the-variants.{Bytes as LineBytes, Refused as LineRefused}
 use Rattle.logline.specs.Line.{Ranges, upTo, unknown, ranges, within, readOf, fields as columnsOf, lineText, writtenOf, outOf}
 use Rattle.model.specs.Platform.{State, Entry, nextEvent, apply, did, try, steps, eventCount, runAnswer, firstEvents, after}
-use Rattle.model.specs.Lines.{lineOf, linesFrom}
+use Rattle.model.specs.Lines.{lineOf, lastLine, linesFrom}
 use Rattle.model.specs.Claims.{CrashedAre, Safe, Settles}
 use Rattle.host.specs.Record.{recordSize, decode, openable, sound}
 use Rattle.host.specs.Call.{tickTaken, messageTaken, partSize, openAnswer, openLeaves, deliverAnswer, deliverLeaves, deliverSends}
@@ -194,9 +194,10 @@ pub record Demand2 : Type 0 where
   -- events and lines
   pub events : (file store : List ℕ) (p : Plan) → fileOf file ≡ accepted p → length store ≡ storeSize
       → (cs : List Call) → NextEvents p cs (storeOf file store cs)
-  -- every event's line is one that the log reader takes, and such a line has five columns
+  -- every event's line, and the last line, is one that the log reader takes, and such a line has five columns
   pub lines : (file : List ℕ) (p : Plan) → fileOf file ≡ accepted p → (k : ℕ) (e : Entry) (s' : State) → try p (after p k) ≡ did e s'
       → let l : Line = lineOf p (after p k) s' (e .tick) (e .event) in readOf (lineText l) ≡ LineRead l
+  pub lastLines : (file : List ℕ) (p : Plan) → fileOf file ≡ accepted p → (k : ℕ) → let l : Line = lastLine p (after p k) in readOf (lineText l) ≡ LineRead l
   pub columns : (text : List ℕ) (l : Line) → readOf text ≡ LineRead l
       → columnsOf text ≡ (l .letter ∷ []) ∷ decimal (l .tick) ∷ decimal (l .node) ∷ decimal (l .other) ∷ hexOf 16 (l .list) ∷ []
   -- the rehearsal program: all that it writes of an input is the refusal's number and line, or the whole log
