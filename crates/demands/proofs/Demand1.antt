@@ -25,7 +25,8 @@ use Rattle.model.specs.Platform.{nextEvent, apply, fits, tried, try, left, step
 use Rattle.model.proofs.Calls.{stuck, counted}
 use Rattle.host.specs.Call.{accepted, answer, recordAfter, partAfter, openAnswer, openLeaves}
 use Rattle.host.specs.Call.{deliverAnswer, deliverLeaves, deliverSends, timersAnswer, timersLeaves, timersSends}
-use Rattle.host.specs.Record.{recordSize, openable}
+use Rattle.host.specs.Record.{recordSize, openable, sound}
+use Rattle.host.proofs.Range.{opened-in-range, deliver-stays, timers-stay}
 use Rattle.node.specs.Node.{Turn}
 use Rattle.store.specs.Store.{storeSize, encode, planIn, stateIn, storeInRange}
 use Rattle.platform.specs.declared.Opened.the-variants.{Ready, Refused as Unopened}
@@ -40,7 +41,8 @@ use Rattle.platform.specs.Calls.{step, ran, runState, run, writeFile, openRefus
 use Rattle.planner.specs.Answers.{stepLetter, stepTick, stepNode, stepOther, stepSize, runEvents, runSpent, writeSize}
 use Rattle.demands.specs.Demands.{place, firstBroken, TurnsDown, fileNumber, openPlaces, overfullBy, overfull, stepPlaces, stopped}
 use Rattle.demands.specs.Demands.{runPlaces, eventsDone, KeepsEarlier, writePlaces}
-use Rattle.demands.specs.Demands.{recordPlaces, deliverPlaces, timersPlaces, letterUnknown, outside, linePlaces, lineRefusal, tablePlaces}
+use Rattle.demands.specs.Nodes.{Call as NodeCall, deliver, timers, leaves}
+use Rattle.demands.specs.Demands.{RecordCall, recordAfterAll, recordPlaces, deliverPlaces, timersPlaces, letterUnknown, outside, linePlaces, lineRefusal, tablePlaces}
 
 -- ---- tests
 
@@ -307,6 +309,21 @@ fire-down s tick part = record {
   first = rw (below (length part) 56) (timers-down _ _ _);
   untouched = λ h. call-left _ s part tick _ h;
 }
+
+-- an accepted call leaves a record in range, a refused one leaves it as it was
+leaves-sound : (c : NodeCall) (tick : ℕ) (s part : List ℕ) → sound s ≡ true → sound (leaves c tick s part) ≡ true
+unfolding leaves
+leaves-sound (deliver kind sender subject) tick s part e = deliver-stays s tick kind sender subject part e
+leaves-sound timers tick s part e = timers-stay s tick part e
+
+all-sound : (cs : List RecordCall) (s : List ℕ) → sound s ≡ true → sound (recordAfterAll cs s) ≡ true
+unfolding recordAfterAll
+all-sound [] s e = e
+all-sound (c ∷ cs) s e = all-sound cs (leaves (c .call) (c .tick) s (c .part)) (leaves-sound (c .call) (c .tick) s (c .part) e)
+
+pub records-stay : (s : List ℕ) (number nodes h w : ℕ) → openAnswer s number nodes h w ≡ 0
+    → (cs : List RecordCall) → sound (recordAfterAll cs (openLeaves s number nodes h w)) ≡ true
+records-stay s number nodes h w e cs = all-sound cs (openLeaves s number nodes h w) (opened-in-range s number nodes h w e)
 
 -- ---- log lines and forwarding tables
 

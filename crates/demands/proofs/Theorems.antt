@@ -6,7 +6,7 @@ use Rattle.rehearsal.proofs.Parts.{whole-output}
 use Rattle.planner.proofs.Answered.{taken-apart}
 use Rattle.demands.specs.Demands.{Demand1, Demand2, Demand3}
 use Rattle.demands.proofs.Demand1.{open-down, step-down, run-down, run-bad-store, write-down}
-use Rattle.demands.proofs.Demand1.{open-line, step-numbers, run-numbers, write-numbers, open-record-down, deliver-down, fire-down}
+use Rattle.demands.proofs.Demand1.{open-line, step-numbers, run-numbers, write-numbers, open-record-down, deliver-down, fire-down, records-stay}
 use Rattle.demands.proofs.Demand1.{line-taken, line-only, line-down, table-down}
 use Rattle.demands.proofs.Demand2.{next-events, line-read, last-read, file-again}
 use Rattle.demands.proofs.Nodes.{rehearsed}
@@ -30,6 +30,7 @@ demand1 = record {
   nodeOpen = open-record-down;
   nodeDeliver = deliver-down;
   nodeTimers = fire-down;
+  recordsStay = records-stay;
   lineTaken = line-taken;
   lineOnly = line-only;
   lineWriting = line-down;

@@ -37,7 +37,7 @@ use Rattle.platform.specs.Calls.{fileRoom, linesText, openFile, step, ran, run,
 use Rattle.platform.specs.CallLists.{Call, storeAfterAll, NoneAnswers, eventsOf}
 use Rattle.rehearsal.specs.Part.{WholeOutput}
 use Rattle.planner.specs.Answers.{numberAndLine, stepLetter, stepTick, stepNode, stepOther, stepSize, runEvents, runSpent, writeSize}
-use Rattle.demands.specs.Nodes.{SameAsNodes}
+use Rattle.demands.specs.Nodes.{Call as NodeCall, leaves, SameAsNodes}
 
 -- ---- DEMAND 1: 'Refused by number, with nothing lent to the call written .. All else is accepted, and every call returns, with no duty on
 -- the caller beforehand'. That a call returns whatever it is lent is in its contract, which asks for nothing.
@@ -114,6 +114,17 @@ deliverPlaces s tick kind sender subject part =
 unfoldable pub timersPlaces : List ℕ → ℕ → List ℕ → List Place
 timersPlaces s tick part = place (not (sound s)) 10 ∷ place (not (tickTaken (decode s) tick)) 12 ∷ place (ltb (length part) 56) 9 ∷ []
 
+-- a call on a record after it was opened, at a tick, with a message part; and the record after such calls, refused ones included, each with
+-- the record that the last one left
+pub record RecordCall : Type 0 where
+  pub call : NodeCall
+  pub tick : ℕ
+  pub part : List ℕ
+
+unfoldable pub recordAfterAll : List RecordCall → List ℕ → List ℕ
+recordAfterAll [] s = s
+recordAfterAll (c ∷ cs) s = recordAfterAll cs (leaves (c .call) (c .tick) s (c .part))
+
 -- the log writer: letter, range, part
 unfoldable pub letterUnknown : Ranges → Bool
 letterUnknown (upTo node other) = false
@@ -163,6 +174,9 @@ pub record Demand1 : Type 0 where
       ((deliverLeaves s tick kind sender subject part ≡ s) × (deliverSends s tick kind sender subject part ≡ part))
   pub nodeTimers : (s : List ℕ) (tick : ℕ) (part : List ℕ)
       → TurnsDown (timersAnswer s tick part) (timersPlaces s tick part) ((timersLeaves s tick part ≡ s) × (timersSends s tick part ≡ part))
+  -- 'as is an opened record and every one that accepted calls then leave': no record that the rules lead to is refused by 10
+  pub recordsStay : (s : List ℕ) (number nodes h w : ℕ) → openAnswer s number nodes h w ≡ 0
+      → (cs : List RecordCall) → sound (recordAfterAll cs (openLeaves s number nodes h w)) ≡ true
   -- log lines and forwarding tables
   pub lineTaken : (l : Line) → letterUnknown (ranges (l .letter)) ≡ false → outside (ranges (l .letter)) l ≡ false → l .list < 2 ^ 64
       → readOf (lineText l) ≡ LineRead l

@@ -2,7 +2,7 @@
 -- Assumes nothing.
 use mathlib.Core.Path.{_≡_, refl}
 use mathlib.Core.Bool.{Bool, true, false, cond}
-use mathlib.Core.List.{List, [], _∷_}
+use mathlib.Core.List.{List}
 use Prim.Native.Nat.{ℕ}
 use native.Mathlib.Omega.{arith}
 use borrow.Author.Tests.{eqb-true}
@@ -45,22 +45,7 @@ timers-keep-range s tick part e =
     (encode-sound (moved (decode s) tick (fired (decode s) tick .node))
     (fired-in-range (decode s) (sound-facts s (a .0) .fields) tick (tick-facts (decode s) tick (a .1))))
 
--- ---- any calls after opening
-
--- a call with its numbers and its message part
-pub data Call : Type 0 where
-  deliver : ℕ → ℕ → ℕ → ℕ → List ℕ → Call
-  timers : ℕ → List ℕ → Call
-
--- the record after a call
-pub after : List ℕ → Call → List ℕ
-after s (deliver tick kind sender subject part) = deliverLeaves s tick kind sender subject part
-after s (timers tick part) = timersLeaves s tick part
-
--- the record after calls, one after another, each with the record that the last one left
-pub afterAll : List ℕ → List Call → List ℕ
-afterAll s [] = s
-afterAll s (c ∷ cs) = afterAll (after s c) cs
+-- ---- any call
 
 -- a record after a call is the one before it or has been left by an accepted one
 kept : (a : ℕ) (s : List ℕ) (tick : ℕ) (u : Turn) → (a ≡ accepted → sound (recordAfter a s tick u) ≡ true) → sound s ≡ true → sound (recordAfter a s tick u) ≡ true
@@ -71,19 +56,12 @@ kept a s tick u h e = go (eqb a accepted) refl
     go true q = h (eqb-true a accepted q)
     go false q = rw q e
 
-after-keeps : (s : List ℕ) (c : Call) → sound s ≡ true → sound (after s c) ≡ true
-unfolding after deliverLeaves timersLeaves
-after-keeps s (deliver tick kind sender subject part) e =
-    kept (deliverAnswer s tick kind sender subject part) s tick (delivered (decode s) tick kind sender subject) (deliver-keeps-range s tick kind sender subject part) e
-after-keeps s (timers tick part) e =
-    kept (timersAnswer s tick part) s tick (fired (decode s) tick) (timers-keep-range s tick part) e
+pub deliver-stays : (s : List ℕ) (tick kind sender subject : ℕ) (part : List ℕ) → sound s ≡ true → sound (deliverLeaves s tick kind sender subject part) ≡ true
+unfolding deliverLeaves
+deliver-stays s tick kind sender subject part e =
+    kept (deliverAnswer s tick kind sender subject part) s tick (delivered (decode s) tick kind sender subject)
+    (deliver-keeps-range s tick kind sender subject part) e
 
--- whatever calls follow an accepted opening, refused ones among them, the record stays one that calls take
-pub calls-keep-range : (s : List ℕ) (cs : List Call) → sound s ≡ true → sound (afterAll s cs) ≡ true
-unfolding afterAll
-calls-keep-range s [] e = e
-calls-keep-range s (c ∷ cs) e = calls-keep-range (after s c) cs (after-keeps s c e)
-
-pub opened-stays-in-range : (s : List ℕ) (number nodes h w : ℕ) (cs : List Call) → openAnswer s number nodes h w ≡ accepted
-    → sound (afterAll (openLeaves s number nodes h w) cs) ≡ true
-opened-stays-in-range s number nodes h w cs e = calls-keep-range (openLeaves s number nodes h w) cs (opened-in-range s number nodes h w e)
+pub timers-stay : (s : List ℕ) (tick : ℕ) (part : List ℕ) → sound s ≡ true → sound (timersLeaves s tick part) ≡ true
+unfolding timersLeaves
+timers-stay s tick part e = kept (timersAnswer s tick part) s tick (fired (decode s) tick) (timers-keep-range s tick part) e
