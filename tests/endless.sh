@@ -1,7 +1,7 @@
 #!/bin/sh
 # The comparisons with the simulator for as long as one likes, each round with a fresh seed: run files through the rehearsal
-# program, the platform's calls, the reader of run files, log lines, node records; and rings of node records beside the rehearsal
-# program. Builds all of them first. Prints what it tries, stops at the first difference and says how to repeat it.
+# program, the platform's calls, the reader of run files, log lines, node records and the header's readers of them; and rings of
+# node records beside the rehearsal program. Builds all of them first. Prints what it tries, stops at the first difference and says how to repeat it.
 #
 # Usage: tests/endless.sh [SEED [ROUNDS]]: the seed of the first round, by default from the clock, and how many rounds, by default
 # until it is stopped. REHEARSE names another program than the proved one.
@@ -49,6 +49,7 @@ while [ "$rounds" -eq 0 ] || [ "$round" -le "$rounds" ]; do
     try "$out/files" "$seed" 400
     try "$out/lines" "$seed" 200000
     try "$out/host" "$seed"
+    try "$out/readers" "$seed"
     try sh tests/records.sh "$seed" 150
     seed=$((seed + 1000))
     round=$((round + 1))
