@@ -6,7 +6,7 @@ LOG and PICTURE are files; without them, or with -, standard input and output. A
 Status 0: the log is drawn. Status 2: the log ends in a refused event and is drawn up to there. Status 1: nothing is drawn. Where the
 status is not 0, standard error says why.
 
-A row for each node, ticks across. A column's meaning is document 01's: on H, O and X `other` is the sender, on R the subject, on W the
+A row for each node, ticks across. A column's meaning is that of README.md's table of letters: on H, O and X `other` is the sender, on R the subject, on W the
 node listed, on S the observer. The log does not name the sender of a report, so a report is drawn at its receiver, without an arrow.
 An O is drawn from the expired watch that sent it: the list on that W line tells to whom it went.
 """

@@ -248,6 +248,12 @@ static inline uint8_t kelbraut_subject(const uint8_t message[KELBRAUT_MESSAGE]) 
  * An accepted call writes every number behind its pointers. A refused one leaves them as they were, so look at the answer
  * first; on 8 a run writes `events` alone.
  *
+ * Threads: calls on different stores may run at the same time, each with parts of its own. Those on one store come one
+ * after another.
+ *
+ * Library: `rt staticlib planner` proves it and builds target/staticlib/libplanner.a, for x86-64 Linux, in about four
+ * minutes, in a third of one where what is below it is proved already.
+ *
  * Run file: lines of fields parted by commas, each line ended by one line feed (hexadecimal 0A); first the P line, then C
  * lines, then L lines. Numbers are decimal, with no sign, space or leading zero.
  *

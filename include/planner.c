@@ -12,7 +12,8 @@
  * shift. In the place of ticks stands `not yet` where the end tick came first, `never` where a list stays short for good,
  * and `refused` where the shifted file or an event is refused. Exit status: 0 where all was rehearsed, else 1.
  *
- * Build: gcc -std=c11 -O2 -Iinclude include/planner.c target/staticlib/libplanner.a -o target/planner
+ * Build: rt staticlib planner
+ *        gcc -std=c11 -O2 -Iinclude include/planner.c target/staticlib/libplanner.a -o target/planner
  */
 #include <inttypes.h>
 #include <stdio.h>

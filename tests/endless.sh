@@ -34,7 +34,7 @@ try() {
     echo "  $* | $(grep -v ': passed$' "$out/endless.log" | tail -n 1)"
 }
 
-echo "endless: building"
+echo "endless: building, which takes some minutes"
 build sh tests/simulator.sh
 [ -n "${REHEARSE:-}" ] || build rt check rehearse
 for test in platform files lines host; do

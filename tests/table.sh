@@ -1,11 +1,11 @@
 #!/bin/sh
 # Compares the forwarding tables of the proved program with the simulator's, byte for byte.
-# Usage: tests/table.sh TABLES SIMULATE [SEED], the paths of the two built programs; the simulator is called as `SIMULATE table`.
+# Usage: tests/table.sh [TABLES [SIMULATE [SEED]]], the paths of the two built programs; the simulator is called as `SIMULATE table`.
 # For each N from 0 to 66, 100 and 999: no node listed, every node, all but one, every bit, each single bit, random lists
 # below N, and random lists with a bit from N on.
 set -eu
-tables=$1
-simulate=$2
+tables=${1:-target/bin/tables}
+simulate=${2:-target/tests/simulate}
 seed=${3:-1}
 work=$(mktemp -d)
 trap 'rm -r "$work"' EXIT

@@ -13,6 +13,7 @@ count=${2:-40}
 out=target/tests
 work=$out/timeline-$seed
 
+[ -x "$out/simulate" ] || { echo "timeline: there is no $out/simulate; tests/simulator.sh builds it" >&2; exit 1; }
 mkdir -p "$work"
 trap 'rm -rf "$work"' EXIT
 "$out/simulate" < docs/rehearsal.run | python3 docs/timeline.py - "$work/rehearsal.svg"
