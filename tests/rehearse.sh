@@ -108,7 +108,8 @@ named 'a byte that is no text' 'P,2,2,3,1,6\n\000\377\n'
 for length in 65536 65537 131072 200000; do padded "$length"; done
 pieces
 large
-python3 tests/streams.py "$rehearse" "$work/large.run" "$work/large.log"
+gcc -std=c11 -Wall -Wextra -Werror -O2 -shared -fPIC tests/streams.c -o "$work/streams.so" -ldl
+python3 tests/streams.py "$rehearse" "$work/large.run" "$work/large.log" "$work/streams.so"
 generated '' $((count / 50))
 generated small "$count"
 echo "rehearse: $files files, $lines lines agree"

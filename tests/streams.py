@@ -1,12 +1,14 @@
 #!/usr/bin/env python3
 """The rehearsal program on streams that are slow, full, closed or no file.
 
-Usage: tests/streams.py PROGRAM RUNFILE LOG, where LOG is what the program is to write for RUNFILE, more than a pipe holds.
+Usage: tests/streams.py PROGRAM RUNFILE LOG LIBRARY, where LOG is what the program is to write for RUNFILE, more than a pipe
+holds, and LIBRARY is tests/streams.c, built to be loaded before the C library.
 Stops at the first case that fails.
 """
 
 import os
 import resource
+import select
 import socket
 import subprocess
 import sys
@@ -107,20 +109,53 @@ def broken_input(program):
     expect_one_line(case, errors, b"rehearse: standard input: ")
 
 
-def full_output(program):
+def broken_long_input(program):
+    """The same where the read fails after as many bytes as a run file may have: nothing is answered, not even that it is refused."""
+    case = "an input that fails after 65,536 bytes"
+    for more in (0, 5000):
+        ours, theirs = socket.socketpair()
+        ours.setsockopt(socket.SOL_SOCKET, socket.SO_SNDBUF, 400000)
+        theirs.send(b"x")
+        ours.sendall(GOOD + b"\n" * (65536 - len(GOOD) + more))
+        ours.close()
+        out, errors = ended(case, start(program, stdin=theirs.fileno()))
+        theirs.close()
+        expect(case, out, b"")
+        expect_one_line(case, errors, b"rehearse: standard input: ")
+
+
+def whole_input(program):
+    """An input far too long is read to its end: its writer is not cut off, and nothing is written before."""
+    case = "a long input whose end comes late"
+    run = start(program)
+    try:
+        for _ in range(80):
+            run.stdin.write(b"\n" * 65536)
+        run.stdin.flush()
+    except BrokenPipeError:
+        fail(case, "its writer is cut off")
+    if select.select([run.stdout], [], [], PAUSE)[0]:
+        fail(case, "something is written before its end")
+    out, errors = ended(case, run, b"")
+    expect(case, out, b"1,0\n")
+    expect(case, errors, b"")
+
+
+def full_output(program, given):
+    """The log has more parts than one: after the first that cannot be written the program stops."""
     case = "a full device as output"
     with open("/dev/full", "wb") as full:
-        _, errors = ended(case, start(program, stdout=full), GOOD)
+        _, errors = ended(case, start(program, stdout=full), given)
     expect_one_line(case, errors, b"rehearse: standard output: ")
 
 
-def closed_output(program):
+def closed_output(program, given):
     case = "a closed pipe as output, SIGPIPE ignored"
     reading, writing = os.pipe()
     os.close(reading)
     run = start(program, stdout=writing)
     os.close(writing)
-    _, errors = ended(case, run, GOOD)
+    _, errors = ended(case, run, given)
     expect_one_line(case, errors, b"rehearse: standard output: ")
 
 
@@ -147,25 +182,44 @@ def slow_output(program, run_file, log):
     expect(case, errors, b"")
 
 
+def short_calls(program, given, wanted, library):
+    """Reads and writes that are interrupted, find nothing to move yet or move few bytes: each byte is still moved once."""
+    for seed in range(8):
+        case = f"interrupted and short calls, seed {seed}"
+        places = dict(os.environ, LD_PRELOAD=os.path.abspath(library), STREAMS_SEED=str(seed))
+        run = subprocess.Popen([program], stdin=subprocess.PIPE, stdout=subprocess.PIPE, stderr=subprocess.PIPE, env=places)
+        out, errors = ended(case, run, given)
+        expect(case, errors, b"")
+        if out != wanted:
+            fail(case, f"{len(out)} bytes, not the {len(wanted)} of the log")
+
+
 def arguments(program):
     case = "an argument"
-    out, errors = ended(case, start(program, "--help"), GOOD)
-    expect(case, out, b"")
-    expect_one_line(case, errors, b"usage: rehearse ")
+    for given in (("--help",), ("a", "b")):
+        out, errors = ended(case, start(program, *given), GOOD)
+        expect(case, out, b"")
+        expect_one_line(case, errors, b"usage: rehearse ")
 
 
 def main():
-    program, run_file, log_file = sys.argv[1:]
+    program, run_file, log_file, library = sys.argv[1:]
     with open(log_file, "rb") as log:
         wanted = log.read()
     slow_input(program)
     directory(program)
     broken_input(program)
-    full_output(program)
-    closed_output(program)
+    broken_long_input(program)
+    whole_input(program)
+    with open(run_file, "rb") as file:
+        given = file.read()
+    for text in (GOOD, given):
+        full_output(program, text)
+        closed_output(program, text)
     slow_output(program, run_file, wanted)
+    short_calls(program, given, wanted, library)
     arguments(program)
-    print("streams: 7 cases")
+    print("streams: 10 cases")
 
 
 main()

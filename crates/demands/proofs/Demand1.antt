@@ -12,7 +12,7 @@ use lib.ListN.{length}
 use Rattle.ring.specs.Limits.{mostNodes, mostInFlight}
 use Rattle.ring.specs.Ring.{tableAnswer}
 use Rattle.text.specs.Put.{put}
-use Rattle.runfile.specs.Plan.{Plan, planText}
+use Rattle.runfile.specs.Plan.{Plan, planText, within as between}
 use Rattle.runfile.specs.File.{Answer as FileAnswer, accepted as acceptedFile, refused as turnedDown, fileOf}
 use Rattle.runfile.proofs.Refusals.{refusal-small}
 use Rattle.logline.specs.declared.Line.{Line}
@@ -142,6 +142,10 @@ ran-done finished n = refl
 ran-done overfullRun n = refl
 
 -- ---- the platform's calls
+
+pub file-length : (file : List ℕ) → (leb 1 (length file) && leb (length file) 65536) ≡ false → fileOf file ≡ turnedDown 1 0
+unfolding fileOf between
+file-length file e = rw e refl
 
 pub open-down : (file store : List ℕ) → TurnsDown (openRefusal (openFile file store .answer)) (openPlaces file store) (openFile file store .store ≡ store)
 unfolding openFile fileAnswer openPlan openPlaces openRefusal fileNumber firstBroken

@@ -31,12 +31,15 @@ use Rattle.model.specs.Range.{noCrash, Plain, Sound}
 use Rattle.model.proofs.RangesKept.{try-ok, left-range, after-range}
 use Rattle.store.specs.Store.{storeSize, encode, planIn, stateIn, storeInRange}
 use Rattle.platform.specs.declared.Wrote.the-variants.{Bytes}
+use Rattle.platform.specs.declared.Stepped.the-variants.{Did, Done}
+use Rattle.platform.specs.declared.Ran.the-variants.{Done as Finished, Spent}
+use Rattle.planner.specs.Answers.{stepLetter, stepTick, stepNode, stepOther, stepSize, runEvents, runSpent, writeSize}
 use Rattle.platform.specs.Calls.{AfterStep, AfterRun, fileRoom, linesText, stepOutcome, step, ran, runState, run, writeFile}
 use Rattle.platform.specs.CallLists.{Call, eventsOf}
-use Rattle.platform.proofs.Stores.{Holds, plain-of, plan-of, state-of, in-range, step-in, run-in, write-in, outcome-store}
+use Rattle.platform.proofs.Stores.{lends, Holds, plain-of, plan-of, state-of, in-range, step-in, run-in, write-in, outcome-store}
 use Rattle.platform.proofs.CallLists.{after-small, after-holds}
 use Rattle.platform.proofs.Lines.{TakesOf, last-takes, outcome-takes}
-use Rattle.demands.specs.Demands.{storeOf, NextEvents}
+use Rattle.demands.specs.Demands.{storeOf, stepAnswer, NextEvents, StepPuts}
 use Rattle.demands.proofs.Demand3.{good, order, called}
 
 -- an outcome's log is what one try writes
@@ -46,6 +49,34 @@ unfolding stepOutcome linesText put
 outcome-log p s (did e s') store log = ap (λ (ls : List Line). put log 0 (linesText ls)) (sym (append-nil (eventLines p s s' e)))
 outcome-log p s ended store log = ap (put log 0) (sym (append-nil (lineText (lastLine p s))))
 outcome-log p s refused store log = refl
+
+outcome-answer : (p : Plan) (s : State) (o : Outcome) (store log : List ℕ) → stepOutcome p s o store log .answer ≡ stepAnswer p s o
+unfolding stepOutcome stepAnswer linesText eventLines
+outcome-answer p s (did e s') store log =
+    let l : Line = lineOf p s s' (e .tick) (e .event) in
+    ap (λ (t : List ℕ). Did l (length t)) (append-nil (lineText l))
+outcome-answer p s ended store log = refl
+outcome-answer p s refused store log = refl
+
+module _ (b : List ℕ) (p : Plan) (s : State) (held : b ≡ encode p s) (inside : storeInRange b ≡ true) (plan : planIn b ≡ p) (state : stateIn b ≡ s) where
+  stepped : (log : List ℕ) → lineRoom ≤ length log → step b log ≡ stepOutcome p s (try p s) b log
+  stepped log room = step-in b p s inside plan state log ∙ rw (le-ltb (length log) lineRoom room) refl
+
+  next-of : NextEvents p s b
+  unfolding steps linesFrom runState
+  next-of = record {
+    stepStore = λ log room.
+        ap (λ (a : AfterStep). a .store) (stepped log room)
+        ∙ ap (λ (c : List ℕ). stepOutcome p s (try p s) c log .store) held
+        ∙ outcome-store p s (try p s) log;
+    stepLines = λ log room. ap (λ (a : AfterStep). a .log) (stepped log room) ∙ outcome-log p s (try p s) b log;
+    stepAnswers = λ log room. ap (λ (a : AfterStep). a .answer) (stepped log room) ∙ outcome-answer p s (try p s) b log;
+    runStore = λ budget. ap (λ (a : AfterRun). a .store) (run-in b p s inside plan state budget);
+    runAnswers = λ budget. ap (λ (a : AfterRun). a .answer) (run-in b p s inside plan state budget);
+  }
+
+pub lent-events : (store : List ℕ) → ((i : ℕ) → getD store i 0 < 256) → storeInRange store ≡ true → NextEvents (planIn store) (stateIn store) store
+lent-events store byte ok = next-of store (planIn store) (stateIn store) ((lends store byte ok) .held .canonical) ok refl refl
 
 module _ (file store : List ℕ) (p : Plan) (ok : fileOf file ≡ accepted p) (size : length store ≡ storeSize) (cs : List Call) where
   abbrev b : List ℕ
@@ -69,20 +100,8 @@ module _ (file store : List ℕ) (p : Plan) (ok : fileOf file ≡ accepted p) (s
   state : stateIn b ≡ s
   state = ap stateIn held ∙ state-of p s holds
 
-  stepped : (log : List ℕ) → lineRoom ≤ length log → step b log ≡ stepOutcome p s (try p s) b log
-  stepped log room = step-in b p s inside plan state log ∙ rw (le-ltb (length log) lineRoom room) refl
-
-  pub next-events : NextEvents p cs b
-  unfolding steps linesFrom runState
-  next-events = record {
-    stepStore = λ log room.
-        ap (λ (a : AfterStep). a .store) (stepped log room)
-        ∙ ap (λ (c : List ℕ). stepOutcome p s (try p s) c log .store) held
-        ∙ outcome-store p s (try p s) log;
-    stepLines = λ log room. ap (λ (a : AfterStep). a .log) (stepped log room) ∙ outcome-log p s (try p s) b log;
-    runStore = λ budget. ap (λ (a : AfterRun). a .store) (run-in b p s inside plan state budget);
-    runAnswers = λ budget. ap (λ (a : AfterRun). a .answer) (run-in b p s inside plan state budget);
-  }
+  pub next-events : NextEvents p s b
+  next-events = next-of b p s held inside plan state
 
   pub file-again : (out : List ℕ) → fileRoom ≤ length out → writeFile b out ≡ record { answer = Bytes (length file); out = put out 0 file }
   file-again out room =
@@ -147,3 +166,18 @@ last-read file p ok k =
     let takes = last-takes p pl s (after-range p pl k) in
     text-accepted l ((written-line l 40 (length (lineText l)) (takes .written 40 (lit≤ tt))) .0)
     (omega (arith, crashed-small p pl (s .done), pow-le-pow-right {n = 2} (lit< tt) (pl .n≤)))
+
+-- ---- what stands behind the pointers of accepted calls from C
+
+pub step-puts : (l : Line) (size was : ℕ) → StepPuts (Did l size) l size was × StepPuts (Done l size) l size was
+unfolding stepLetter stepTick stepNode stepOther stepSize
+step-puts l size was = ((refl, refl, refl, refl, refl), (refl, refl, refl, refl, refl))
+
+pub run-puts : (n was : ℕ) → ((runEvents (Finished n) was ≡ n) × (runSpent (Finished n) was ≡ 0))
+    × ((runEvents (Spent n) was ≡ n) × (runSpent (Spent n) was ≡ 1))
+unfolding runEvents runSpent
+run-puts n was = ((refl, refl), (refl, refl))
+
+pub write-puts : (n was : ℕ) → writeSize (Bytes n) was ≡ n
+unfolding writeSize
+write-puts n was = refl

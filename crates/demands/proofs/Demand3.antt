@@ -13,7 +13,7 @@ use Rattle.model.specs.Platform.{State, start, firstEvents, after}
 use Rattle.model.specs.Range.{Accepted}
 use Rattle.model.specs.Claims.{CrashedAre, Safe, Settles}
 use Rattle.model.proofs.Plans as plans
-use Rattle.model.proofs.Theorems.{crashed, safety, settling}
+use Rattle.model.proofs.Theorems.{crashed, logarithm, safety, settling}
 use Rattle.store.specs.Store.{storeSize, encode, planIn, stateIn, storeInRange}
 use Rattle.platform.specs.declared.Opened.the-variants.{Ready}
 use Rattle.platform.specs.Calls.{AfterOpen, openPlan, openAnswer, openFile}
@@ -60,6 +60,7 @@ module _ (file store : List ℕ) (p : Plan) (ok : fileOf file ≡ accepted p) (s
 
 pub any-calls : Demand3
 any-calls = record {
+  logarithm = logarithm;
   longEnough = λ file p ok. plans.accepted p (accepted-order file p ok) (accepted-plan file p ok) .four;
   opens = λ file store p ok size. ap (λ (a : AfterOpen). a .answer) (opened file store p ok size);
   left = left-after;

@@ -1,14 +1,15 @@
 -- THE THEOREMS: the customer's three demands. The statements stand in specs/Demands.antt. Assumes nothing.
 use Rattle.runfile.proofs.RoundTrip.{written-back, accepted-plan, accepted-order, read-back}
-use Rattle.logline.proofs.LineTrip.{written-of-read, read-of-written}
+use Rattle.runfile.proofs.Refusals.{refusal-small}
+use Rattle.logline.proofs.LineTrip.{refused-number, written-of-read, read-of-written}
 use Rattle.logline.proofs.ColumnTrip.{five-columns}
 use Rattle.rehearsal.proofs.Parts.{whole-output}
 use Rattle.planner.proofs.Answered.{taken-apart}
 use Rattle.demands.specs.Demands.{Demand1, Demand2, Demand3}
-use Rattle.demands.proofs.Demand1.{open-down, step-down, run-down, run-bad-store, write-down}
+use Rattle.demands.proofs.Demand1.{file-length, open-down, step-down, run-down, run-bad-store, write-down}
 use Rattle.demands.proofs.Demand1.{open-line, step-numbers, run-numbers, write-numbers, open-record-down, deliver-down, fire-down, records-stay}
 use Rattle.demands.proofs.Demand1.{line-taken, line-only, line-down, table-down}
-use Rattle.demands.proofs.Demand2.{next-events, line-read, last-read, file-again}
+use Rattle.demands.proofs.Demand2.{next-events, lent-events, step-puts, run-puts, write-puts, line-read, last-read, file-again}
 use Rattle.demands.proofs.Nodes.{rehearsed}
 use Rattle.demands.proofs.Demand3.{any-calls}
 
@@ -16,6 +17,8 @@ use Rattle.demands.proofs.Demand3.{any-calls}
 pub demand1 : Demand1
 demand1 = record {
   fileTaken = read-back;
+  fileLength = file-length;
+  fileNumber = refusal-small;
   fileOnly = λ file p ok. (written-back file p ok, accepted-plan file p ok, accepted-order file p ok);
   opening = open-down;
   stepping = step-down;
@@ -32,6 +35,7 @@ demand1 = record {
   nodeTimers = fire-down;
   recordsStay = records-stay;
   lineTaken = line-taken;
+  lineNumber = refused-number;
   lineOnly = line-only;
   lineWriting = line-down;
   table = table-down;
@@ -42,6 +46,10 @@ pub demand2 : Demand2
 demand2 = record {
   nodes = rehearsed;
   events = next-events;
+  lentEvents = lent-events;
+  stepPuts = step-puts;
+  runPuts = run-puts;
+  writePuts = write-puts;
   lines = line-read;
   lastLines = last-read;
   columns = five-columns;

@@ -1,13 +1,13 @@
 -- THE THREE DEMANDS of the customer's terms, each as a record of what holds of the calls' definitions, which the calls' contracts promise
 -- for every input. proofs/Theorems.antt proves them. Assumes nothing.
 use mathlib.Core.Path.{_≡_}
-use mathlib.Core.Logic.{_≢_}
+use mathlib.Core.Logic.{_≢_, _⊎_}
 use mathlib.Core.Bool.{Bool, true, false, cond, not, _&&_}
 use mathlib.Core.List.{List, [], _∷_}
 use mathlib.Core.Option.{Option, none, some}
 use Prim.Native.Nat.{ℕ, _+_, _/_, _%_, _^_, _≤_, _<_}
 use lib.Dec.{eqb, leb, ltb}
-use lib.ListN.{length, take}
+use lib.ListN.{length, getD, take}
 use Rattle.ring.specs.Limits.{mostNodes, mostInFlight, lineRoom}
 use Rattle.ring.specs.Ring.{numbers, tableAnswer}
 use Rattle.text.specs.Put.{put}
@@ -16,19 +16,20 @@ use Rattle.text.specs.Hex.{hexOf}
 use Rattle.runfile.specs.Plan.{Plan, planTest, planText}
 use Rattle.runfile.specs.File.{Answer, accepted, refused as turnedDown, fileOf}
 use Rattle.logline.specs.declared.Line.{Line}
-use Rattle.logline.specs.declared.Read.the-variants.{Accepted as LineRead}
+use Rattle.logline.specs.declared.Read.the-variants.{Accepted as LineRead, Refused as LineUnread}
 use Rattle.logline.specs.declared.Written.{Written}
 use Rattle.logline.specs.declared.Written.the-variants.{Bytes as LineBytes, Refused as LineRefused}
 use Rattle.logline.specs.Line.{Ranges, upTo, unknown, ranges, within, readOf, fields as columnsOf, lineText, writtenOf, outOf}
-use Rattle.model.specs.Platform.{State, Entry, nextEvent, apply, did, try, steps, eventCount, runAnswer, firstEvents, after}
+use Rattle.model.specs.Platform.{State, Entry, nextEvent, apply, Outcome, did, ended, refused, try, steps, eventCount, runAnswer, firstEvents, after}
 use Rattle.model.specs.Lines.{lineOf, lastLine, linesFrom}
-use Rattle.model.specs.Claims.{CrashedAre, Safe, Settles}
+use Rattle.model.specs.Claims.{CrashedAre, Safe, LogRoundedUp, K, Settles}
 use Rattle.host.specs.Record.{recordSize, decode, openable, sound}
 use Rattle.host.specs.Call.{tickTaken, messageTaken, partSize, openAnswer, openLeaves, deliverAnswer, deliverLeaves, deliverSends}
 use Rattle.host.specs.Call.{timersAnswer, timersLeaves, timersSends}
 use Rattle.store.specs.Store.{storeSize, encode, planIn, stateIn, storeInRange}
 use Rattle.platform.specs.declared.Opened.the-variants.{Ready, Refused as Unopened}
 use Rattle.platform.specs.declared.Stepped.{Stepped}
+use Rattle.platform.specs.declared.Stepped.the-variants.{Did, Done, Refused as Unstepped}
 use Rattle.platform.specs.declared.Ran.{Ran}
 use Rattle.platform.specs.declared.Ran.the-variants.{Done as Finished, Spent, Refused as Unrun}
 use Rattle.platform.specs.declared.Wrote.{Wrote}
@@ -149,6 +150,9 @@ tablePlaces n d = place (not (leb 1 n && leb n mostNodes)) 3 ∷ place (not (ltb
 pub record Demand1 : Type 0 where
   -- a run file is accepted exactly where it is the text of a plan that the rules allow
   pub fileTaken : (p : Plan) → planTest p ≡ true → p .order ≡ numbers 0 (p .n) → fileOf (planText p) ≡ accepted p
+  -- 'run file, length: 0 or above 65,536 bytes' is refused by 1, and any other bad file by 2 to 6 and a line of its own
+  pub fileLength : (file : List ℕ) → (leb 1 (length file) && leb (length file) 65536) ≡ false → fileOf file ≡ turnedDown 1 0
+  pub fileNumber : (file : List ℕ) (number line : ℕ) → fileOf file ≡ turnedDown number line → (1 ≤ number) × (number ≤ 6) × (line ≤ 65536)
   pub fileOnly : (file : List ℕ) (p : Plan) → fileOf file ≡ accepted p → (planText p ≡ file) × (planTest p ≡ true) × (p .order ≡ numbers 0 (p .n))
   -- the platform's calls
   pub opening : (file store : List ℕ) → TurnsDown (openRefusal (openFile file store .answer)) (openPlaces file store) (openFile file store .store ≡ store)
@@ -180,6 +184,7 @@ pub record Demand1 : Type 0 where
   -- log lines and forwarding tables
   pub lineTaken : (l : Line) → letterUnknown (ranges (l .letter)) ≡ false → outside (ranges (l .letter)) l ≡ false → l .list < 2 ^ 64
       → readOf (lineText l) ≡ LineRead l
+  pub lineNumber : (text : List ℕ) (number : ℕ) → readOf text ≡ LineUnread number → (number ≡ 2) ⊎ (number ≡ 3)
   pub lineOnly : (text : List ℕ) (l : Line) → readOf text ≡ LineRead l
       → (lineText l ≡ text) × (letterUnknown (ranges (l .letter)) ≡ false) × (outside (ranges (l .letter)) l ≡ false)
   pub lineWriting : (l : Line) (out : List ℕ) → TurnsDown (lineRefusal (writtenOf l (length out))) (linePlaces l out) (outOf l out ≡ out)
@@ -192,22 +197,40 @@ pub record Demand1 : Type 0 where
 abbrev pub storeOf : List ℕ → List ℕ → List Call → List ℕ
 storeOf file store cs = storeAfterAll cs (openFile file store .store)
 
--- of a file, whose plan is p, opened in a lent store: the next call on what any list of calls leaves does the next events that 01 fixes
-pub record NextEvents (p : Plan) (cs : List Call) (store : List ℕ) : Type 0 where
-  -- a step does one, and writes its lines, or the last line where none is left
-  pub stepStore : (log : List ℕ) → lineRoom ≤ length log → step store log .store ≡ encode p (steps p 1 (after p (eventsOf p cs)))
-  pub stepLines : (log : List ℕ) → lineRoom ≤ length log → step store log .log ≡ put log 0 (linesText (linesFrom p 1 (after p (eventsOf p cs))))
+-- 'A step does one event, answers it and writes its line, or answers done': its line, and how many bytes that has
+unfoldable pub stepAnswer : Plan → State → Outcome → Stepped
+stepAnswer p s (did e s') = let l : Line = lineOf p s s' (e .tick) (e .event) in Did l (length (lineText l))
+stepAnswer p s ended = Done (lastLine p s) (length (lineText (lastLine p s)))
+stepAnswer p s refused = Unstepped 8
+
+-- the next call on a store, whose plan is p and whose state is s, does the next events that 01 fixes
+pub record NextEvents (p : Plan) (s : State) (store : List ℕ) : Type 0 where
+  -- a step does one, answers it and writes its line, or answers done with the last line where none is left
+  pub stepStore : (log : List ℕ) → lineRoom ≤ length log → step store log .store ≡ encode p (steps p 1 s)
+  pub stepLines : (log : List ℕ) → lineRoom ≤ length log → step store log .log ≡ put log 0 (linesText (linesFrom p 1 s))
+  pub stepAnswers : (log : List ℕ) → lineRoom ≤ length log → step store log .answer ≡ stepAnswer p s (try p s)
   -- a run does its budget's, and answers how many it did
-  pub runStore : (budget : ℕ) → run store budget .store ≡ encode p (steps p budget (after p (eventsOf p cs)))
-  pub runAnswers : (budget : ℕ)
-      → run store budget .answer ≡ ran (runAnswer p budget (after p (eventsOf p cs))) (eventCount p budget (after p (eventsOf p cs)))
+  pub runStore : (budget : ℕ) → run store budget .store ≡ encode p (steps p budget s)
+  pub runAnswers : (budget : ℕ) → run store budget .answer ≡ ran (runAnswer p budget s) (eventCount p budget s)
+
+-- behind the pointers of an accepted step from C stand its line's letter, tick, node and other and the line's length
+abbrev pub StepPuts : Stepped → Line → ℕ → ℕ → Type 0
+StepPuts a l size was =
+    (stepLetter a was ≡ l .letter) × (stepTick a was ≡ l .tick) × (stepNode a was ≡ l .node) × (stepOther a was ≡ l .other) × (stepSize a was ≡ size)
 
 pub record Demand2 : Type 0 where
   -- 'We choose time-outs by rehearsal, and one that differs from the nodes chooses wrongly': what is rehearsed is what the nodes do
   pub nodes : (file : List ℕ) (p : Plan) → fileOf file ≡ accepted p → SameAsNodes p
   -- events and lines
   pub events : (file store : List ℕ) (p : Plan) → fileOf file ≡ accepted p → length store ≡ storeSize
-      → (cs : List Call) → NextEvents p cs (storeOf file store cs)
+      → (cs : List Call) → NextEvents p (after p (eventsOf p cs)) (storeOf file store cs)
+  -- of every lent store in range, also one that no file leads to
+  pub lentEvents : (store : List ℕ) → ((i : ℕ) → getD store i 0 < 256) → storeInRange store ≡ true → NextEvents (planIn store) (stateIn store) store
+  -- what an accepted call from C puts behind its pointers
+  pub stepPuts : (l : Line) (size was : ℕ) → StepPuts (Did l size) l size was × StepPuts (Done l size) l size was
+  pub runPuts : (n was : ℕ) → ((runEvents (Finished n) was ≡ n) × (runSpent (Finished n) was ≡ 0))
+      × ((runEvents (Spent n) was ≡ n) × (runSpent (Spent n) was ≡ 1))
+  pub writePuts : (n was : ℕ) → writeSize (Bytes n) was ≡ n
   -- every event's line, and the last line, is one that the log reader takes, and such a line has five columns
   pub lines : (file : List ℕ) (p : Plan) → fileOf file ≡ accepted p → (k : ℕ) (e : Entry) (s' : State) → try p (after p k) ≡ did e s'
       → let l : Line = lineOf p (after p k) s' (e .tick) (e .event) in readOf (lineText l) ≡ LineRead l
@@ -246,6 +269,8 @@ pub record AfterCalls (p : Plan) (cs : List Call) (store : List ℕ) : Type 0 wh
 
 -- of every file that is accepted, for which W is at least H + D, and every lent store of its length
 pub record Demand3 : Type 0 where
+  -- K in S is the base-two logarithm, rounded up, 0 for none
+  pub logarithm : (m : ℕ) → LogRoundedUp m (K m)
   pub longEnough : (file : List ℕ) (p : Plan) → fileOf file ≡ accepted p → p .h + p .d ≤ p .w
   pub opens : (file store : List ℕ) (p : Plan) → fileOf file ≡ accepted p → length store ≡ storeSize → openFile file store .answer ≡ Ready
   pub left : (file store : List ℕ) (p : Plan) → fileOf file ≡ accepted p → length store ≡ storeSize
