@@ -42,7 +42,8 @@ use Rattle.planner.specs.Answers.{stepLetter, stepTick, stepNode, stepOther, st
 use Rattle.demands.specs.Demands.{place, firstBroken, TurnsDown, fileNumber, openPlaces, overfullBy, overfull, stepPlaces, stopped}
 use Rattle.demands.specs.Demands.{runPlaces, eventsDone, KeepsEarlier, writePlaces}
 use Rattle.demands.specs.Nodes.{Call as NodeCall, deliver, timers, leaves}
-use Rattle.demands.specs.Demands.{RecordCall, recordAfterAll, recordPlaces, deliverPlaces, timersPlaces, letterUnknown, outside, linePlaces, lineRefusal, tablePlaces}
+use Rattle.demands.specs.Demands.{RecordCall, recordAfterAll, recordPlaces, deliverPlaces, timersPlaces}
+use Rattle.demands.specs.Demands.{letterUnknown, outside, linePlaces, lineRefusal, tablePlaces}
 
 -- ---- tests
 
