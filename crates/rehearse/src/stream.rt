@@ -1,6 +1,5 @@
 // Standard input and output. A call that a signal interrupts, or that finds nothing to move yet, is tried again.
 use libc::types::timespec;
-ghost use Prim.Native.Nat.{_≤_};
 ghost use lib.ListN.{length};
 ghost use Rattle.libc.specs.Io.{Moved};
 
@@ -46,7 +45,7 @@ pub fn read_some(buf: &mut [u8]) -> isize
 }
 
 // Writes some of these bytes. Answers how many, or -1 where they cannot be written.
-fn write_some(buf: &[u8]) -> isize
+pub fn write_some(buf: &[u8]) -> isize
     ensures { λ r. ⌜ Moved (length (now (buf .entry))) r ⌝ }
 {
     let mut turns: u64 = crate::TURNS;
@@ -61,20 +60,4 @@ fn write_some(buf: &[u8]) -> isize
         turns -= 1;
     }
     -1
-}
-
-// Writes the first bytes of out, each once. Answers whether all were taken.
-pub fn write_first(out: &[u8], size: usize) -> bool
-    requires { ⌜ size ≤ length (now out) ⌝ }
-{
-    let mut at: usize = 0;
-    while at < size {
-        let rest = &out[at..size];
-        let put = io::count(write_some(rest), rest);
-        if put == 0 {
-            return false;
-        }
-        at += put;
-    }
-    true
 }
