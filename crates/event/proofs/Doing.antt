@@ -10,9 +10,8 @@ use native.Mathlib.Nat.{pow-le-pow-right}
 use native.Mathlib.Omega.{arith}
 use borrow.Author.Tests.{ne-eqb}
 use lib.Dec.{lit<}
-use lib.ListN.{length, getD, take, length-append, length-replicate}
-use Rattle.ring.specs.Ring.{numbers, listed}
-use Rattle.ring.proofs.Rows.{take-numbers, length-numbers}
+use lib.ListN.{length, getD, length-append, length-replicate}
+use Rattle.ring.specs.Ring.{listed}
 use Rattle.node.specs.declared.Node.{Node}
 use Rattle.node.specs.declared.Message.{Message}
 use Rattle.node.specs.declared.Turned.{Turned}
@@ -20,9 +19,10 @@ use Rattle.ring.specs.Limits.{mostNodes, mostTick, mostInFlight}
 use Rattle.node.specs.Node.{Turn, R, mostSent, silent, places, turned, onMessage, onWatchDue, onHeartbeatDue}
 use Rattle.logline.specs.declared.Line.{Line}
 use Rattle.runfile.specs.Plan.{Plan, planTest}
-use Rattle.model.specs.Platform.{InFlight, State, Event, Entry, crash, message, watch, heartbeat, alive, crashedList, nextEvent, nodeOf, messageAt, taken, without, received, apply, tried, try, left}
+use Rattle.model.specs.Platform.{InFlight, State, Event, Entry, crash, message, watch, heartbeat, alive, survivors, crashedList, nextEvent}
+use Rattle.model.specs.Platform.{nodeOf, messageAt, taken, without, received, apply, tried, try, left}
 use Rattle.model.specs.Range.{Known, NodeRange, FlightRange, Plain, Sound}
-use Rattle.logline.specs.Line.{letterC as C, letterX as X, letterW as W, letterS as S}
+use Rattle.logline.specs.Line.{letterC as C, letterX as X, letterW as W, letterS as S, letterE as E}
 use Rattle.model.specs.Lines.{line, otherOf, messageLine, lineOf, lastLine}
 use Rattle.model.proofs.NextEvent.{Chosen}
 use Rattle.model.proofs.SettledNode.{crashed-listed}
@@ -32,7 +32,7 @@ use Rattle.store.specs.declared.Flight.{Flight}
 use Rattle.store.specs.Store.{encode, planIn, stateIn}
 use Rattle.store.specs.Inside.{SmallNode, Fits, Held, flying, withTick, crashed, withoutMessage, messageOf}
 use Rattle.store.proofs.Store.{plan-encode, state-encode, held-encode}
-use Rattle.store.proofs.States.{tick-fits, take-fits}
+use Rattle.store.proofs.States.{take-fits}
 use Rattle.event.specs.declared.Happened.{Happened}
 use Rattle.event.specs.declared.Happened.the-variants.{Did, Ended, Refused}
 use Rattle.event.specs.declared.Next.{Next}
@@ -41,17 +41,7 @@ use Rattle.event.specs.Event.{SmallMessage, Turns, entry, nextAt, nextOf
 use Rattle.event.specs.Ready.{Ready}
 use Rattle.event.proofs.Fitting.{ranges}
 use Rattle.event.proofs.Readiness.{mostReached, ready-accepted, ready-sound, ready-next}
-use Rattle.event.proofs.Searching.{dead-of, live-of}
 use Rattle.event.proofs.Turning.{node-taken, chosen-of, try-did, turn-refused, turn-did, refused-answer, did-answer, watch-few, received-few, beat-few}
-
--- ---- the ring in number order
-
-module _ (all : List ℕ) (n : ℕ) (e : all ≡ numbers 0 mostNodes) (h : n ≤ mostNodes) where
-  pub ring-order : take n all ≡ numbers 0 n
-  ring-order = ap (take n) e ∙ take-numbers n mostNodes 0 h
-
-  pub ring-size : n ≡ length (take n all)
-  ring-size = sym (ap length ring-order ∙ length-numbers n 0)
 
 -- ---- a turn whose numbers fit
 
@@ -124,7 +114,7 @@ module _ (b : List ℕ) (r : Ready b) (t : ℕ) (ev : Event) (next : NextIs b t 
   not-past : stateIn b .last ≤ t
   not-past = not-early (planIn b) pl (stateIn b) so t ev chosen
 
-  pub ring-few : length (planIn b .order) ≤ mostNodes
+  ring-few : length (planIn b .order) ≤ mostNodes
   ring-few = rw (pl .order .size) (pl .n≤)
 
   took-node : (x : ℕ) (v : Turn) → Took (planIn b .n) (planIn b .order) (pl .order) (planIn b .h) (planIn b .w) t x v → SmallNode (v .node)
@@ -168,11 +158,14 @@ module _ (b : List ℕ) (r : Ready b) (t x : ℕ) (next : NextIs b t (watch x)) 
     pub watch-refused : mostInFlight < length (stateIn b .flight) + u .count → (_≡_ {A = Happened} Refused (nextAnswer b)) × (b ≡ storeLeft b)
     watch-refused h = refused-answer (planIn b) (stateIn b) b (r .held .canonical) (turn-refused (planIn b) (stateIn b) t (watch x) next x (stateIn b .flight) u _ is watch-by h)
 
-    pub watch-done : (b' : List ℕ) (a : Node) → a ≡ nodeOf (stateIn b) x → length (stateIn b .flight) + u .count ≤ mostInFlight → b' ≡ turnLeft b t x u
-        → (Did (line W t x (a .emitter) (u .node .list)) ≡ nextAnswer b) × (b' ≡ storeLeft b)
+    pub watch-done : (l : Line) → l ≡ line W t x (nodeOf (stateIn b) x .emitter) (u .node .list) → length (stateIn b .flight) + u .count ≤ mostInFlight
+        → (Did l ≡ nextAnswer b) × (turnLeft b t x u ≡ storeLeft b)
     unfolding lineOf turnOf
-    watch-done b' a ae h e = did-answer (planIn b) (stateIn b) b' _ _ _ (turn-did (planIn b) (stateIn b) t (watch x) next x (stateIn b .flight) u _ is watch-by h) e
-        (ap₂ (λ (n m : Node). line W t x (n .emitter) (m .list)) ae (sym (node-taken (planIn b) t x (stateIn b) (stateIn b .flight) (turnOf u) (rw (ready-sound b r .nodes) watch-place))))
+    watch-done l le h =
+        let after = node-taken (planIn b) t x (stateIn b) (stateIn b .flight) (turnOf u) (rw (ready-sound b r .nodes) watch-place) in
+        did-answer (planIn b) (stateIn b) (turnLeft b t x u) l _ _
+        (turn-did (planIn b) (stateIn b) t (watch x) next x (stateIn b .flight) u _ is watch-by h) refl
+        (le ∙ ap (λ (n : Node). line W t x (nodeOf (stateIn b) x .emitter) (n .list)) (sym after))
 
 -- ---- a heartbeat
 
@@ -207,11 +200,14 @@ module _ (b : List ℕ) (r : Ready b) (t x : ℕ) (next : NextIs b t (heartbeat 
     pub beat-refused : mostInFlight < length (stateIn b .flight) + u .count → (_≡_ {A = Happened} Refused (nextAnswer b)) × (b ≡ storeLeft b)
     beat-refused h = refused-answer (planIn b) (stateIn b) b (r .held .canonical) (turn-refused (planIn b) (stateIn b) t (heartbeat x) next x (stateIn b .flight) u _ is beat-by h)
 
-    pub beat-done : (b' : List ℕ) (a : Node) → a ≡ nodeOf (stateIn b) x → length (stateIn b .flight) + u .count ≤ mostInFlight → b' ≡ turnLeft b t x u
-        → (Did (line S t x (a .observer) (u .node .list)) ≡ nextAnswer b) × (b' ≡ storeLeft b)
+    pub beat-done : (l : Line) → l ≡ line S t x (nodeOf (stateIn b) x .observer) (u .node .list) → length (stateIn b .flight) + u .count ≤ mostInFlight
+        → (Did l ≡ nextAnswer b) × (turnLeft b t x u ≡ storeLeft b)
     unfolding lineOf turnOf
-    beat-done b' a ae h e = did-answer (planIn b) (stateIn b) b' _ _ _ (turn-did (planIn b) (stateIn b) t (heartbeat x) next x (stateIn b .flight) u _ is beat-by h) e
-        (ap₂ (λ (n m : Node). line S t x (n .observer) (m .list)) ae (sym (node-taken (planIn b) t x (stateIn b) (stateIn b .flight) (turnOf u) (rw (ready-sound b r .nodes) beat-place))))
+    beat-done l le h =
+        let after = node-taken (planIn b) t x (stateIn b) (stateIn b .flight) (turnOf u) (rw (ready-sound b r .nodes) beat-place) in
+        did-answer (planIn b) (stateIn b) (turnLeft b t x u) l _ _
+        (turn-did (planIn b) (stateIn b) t (heartbeat x) next x (stateIn b .flight) u _ is beat-by h) refl
+        (le ∙ ap (λ (n : Node). line S t x (nodeOf (stateIn b) x .observer) (n .list)) (sym after))
 
 -- ---- a crash
 
@@ -220,24 +216,15 @@ module _ (b : List ℕ) (r : Ready b) (t k : ℕ) (next : NextIs b t (crash k)) 
   unfolding Chosen
   crash-place = let ch = chosen b r t (crash k) next in rw (← ch .2) (ready-accepted b r .plain .node (stateIn b .done) (ch .0))
 
-  ticked : Fits (planIn b) (withTick (stateIn b) t)
-  ticked = tick-fits (planIn b) (stateIn b) (r .held .fits) t (omega (arith, event-tick b r t (crash k) next))
-
-  module _ (c : List ℕ) (e : c ≡ encode (planIn b) (withTick (stateIn b) t)) where
-    pub crash-held : Held c
-    crash-held = rw e (held-encode (planIn b) (withTick (stateIn b) t) ticked)
-
-    pub crash-done : (b' : List ℕ) (a : Node) → a ≡ nodeOf (stateIn b) k → b' ≡ encode (planIn c) (crashed (stateIn c))
-        → (Did (line C t k k (a .list)) ≡ nextAnswer b) × (b' ≡ storeLeft b)
-    unfolding lineOf apply withTick crashed
-    crash-done b' a ae q = did-answer (planIn b) (stateIn b) b' _ _ _ (try-did (planIn b) (stateIn b) t (crash k) next (ready-sound b r .few))
-        (q ∙ ap₂ (λ (p : Plan) (s : State). encode p (crashed s)) (ap planIn e ∙ plan-encode (planIn b) (withTick (stateIn b) t) ticked) (ap stateIn e ∙ state-encode (planIn b) (withTick (stateIn b) t) ticked))
-        (ap (λ (n : Node). line C t k k (n .list)) ae)
+  pub crash-done : (b' : List ℕ) (l : Line) → l ≡ line C t k k (nodeOf (stateIn b) k .list) → b' ≡ encode (planIn b) (crashed (withTick (stateIn b) t))
+      → (Did l ≡ nextAnswer b) × (b' ≡ storeLeft b)
+  unfolding lineOf apply withTick crashed
+  crash-done b' l le q = did-answer (planIn b) (stateIn b) b' l _ _ (try-did (planIn b) (stateIn b) t (crash k) next (ready-sound b r .few)) q le
 
 -- ---- a message
 
 -- one message less is in flight
-length-less : (i : ℕ) (ms : List InFlight) → i < length ms → suc (length (without i ms)) ≡ length ms
+pub length-less : (i : ℕ) (ms : List InFlight) → i < length ms → suc (length (without i ms)) ≡ length ms
 unfolding without
 length-less i [] h = absurd (omega arith)
 length-less zero (m ∷ ms) h = refl
@@ -258,6 +245,10 @@ module _ (b : List ℕ) (r : Ready b) (t i : ℕ) (next : NextIs b t (message i)
     same-to : f .to ≡ M .to
     same-to = ap (λ (g : Flight). g .to) fe
 
+    -- the code's turn of it is that of the message
+    pub turn-of : turned (received (planIn b) (stateIn b) t (messageOf f)) ≡ turned (received (planIn b) (stateIn b) t M)
+    turn-of = ap (λ (g : Flight). turned (received (planIn b) (stateIn b) t (messageOf g))) fe
+
     pub message-place : f .to < planIn b .n
     message-place = rw same-to (flight-range .to)
 
@@ -268,19 +259,6 @@ module _ (b : List ℕ) (r : Ready b) (t i : ℕ) (next : NextIs b t (message i)
     module _ (dead : ℕ) (l : Bool) (de : dead ≡ crashedList (planIn b) (stateIn b .done)) (le : l ≡ listed dead (f .to)) where
       listed-is : listed (crashedList (planIn b) (stateIn b .done)) (M .to) ≡ l
       listed-is = sym (le ∙ ap₂ listed de same-to)
-
-      pub message-dropped : l ≡ true → (a : Node) → a ≡ nodeOf (stateIn b) (f .to) → turned (silent a) ≡ turned (received (planIn b) (stateIn b) t M)
-      unfolding received
-      message-dropped h a ae = ap turned (ap silent (ae ∙ ap (nodeOf (stateIn b)) same-to) ∙ sym (ap (λ (c : Bool). cond c (onMessage (planIn b .order) (planIn b .w) t (M .to) (M .kind) (M .from) (M .subject) (nodeOf (stateIn b) (M .to))) (silent (nodeOf (stateIn b) (M .to)))) (dead-of (planIn b) (ready-accepted b r) (stateIn b .done) (M .to) (listed-is ∙ h))))
-
-      pub message-delivered : l ≡ false → (a : Node) → a ≡ nodeOf (stateIn b) (f .to) → (order : List ℕ) → order ≡ planIn b .order → (w : ℕ) → w ≡ planIn b .w
-          → turned (onMessage order w t (f .to) (f .kind) (f .from) (f .subject) a) ≡ turned (received (planIn b) (stateIn b) t M)
-      unfolding received
-      message-delivered h a ae order oe w we =
-          ap turned (ap₂ (λ (o : List ℕ) (v : ℕ). onMessage o v t (f .to) (f .kind) (f .from) (f .subject) a) oe we
-          ∙ ap (onMessage (planIn b .order) (planIn b .w) t (f .to) (f .kind) (f .from) (f .subject)) ae
-          ∙ ap (λ (g : Flight). onMessage (planIn b .order) (planIn b .w) t (g .to) (g .kind) (g .from) (g .subject) (nodeOf (stateIn b) (g .to))) fe
-          ∙ sym (ap (λ (c : Bool). cond c (onMessage (planIn b .order) (planIn b .w) t (M .to) (M .kind) (M .from) (M .subject) (nodeOf (stateIn b) (M .to))) (silent (nodeOf (stateIn b) (M .to)))) (live-of (planIn b) (ready-accepted b r) (stateIn b .done) (M .to) (listed-is ∙ h))))
 
       not-dropped : not l ≡ alive (planIn b) (stateIn b .done) (M .to)
       not-dropped = go l (alive (planIn b) (stateIn b .done) (M .to)) (sym listed-is ∙ crashed-listed (planIn b) (ready-accepted b r) (stateIn b .done) (M .to))
@@ -334,22 +312,34 @@ module _ (b : List ℕ) (r : Ready b) (t i : ℕ) (next : NextIs b t (message i)
         rest-state : stateIn c ≡ withoutMessage (stateIn b) i
         rest-state = ap stateIn e ∙ state-encode (planIn b) (withoutMessage (stateIn b) i) rest-fits
 
-        rest-room : length (without i (stateIn b .flight)) + u .count ≤ mostInFlight
+        pub rest-room : length (without i (stateIn b .flight)) + u .count ≤ mostInFlight
         rest-room = omega (arith, room, length-less i (stateIn b .flight) message-here)
 
         pub message-turns : Turns c t (f .to) u
         unfolding withoutMessage
         message-turns = turns-of c t (f .to) u _ is (rw e (held-encode (planIn b) (withoutMessage (stateIn b) i) rest-fits)) (ap planTest rest-plan ∙ r .plan) (event-tick b r t (message i) next) (rw rest-plan message-place) few (rw rest-state rest-room) (rw rest-state (ready-next b r)) (received-small .0) (received-small .1)
 
-        pub message-done : (b' : List ℕ) → b' ≡ encode (planIn c) (taken (planIn c) (stateIn c) t (f .to) (stateIn c .flight) (turnOf u)) → (dead : ℕ) (l : Bool) → dead ≡ crashedList (planIn b) (stateIn b .done) → l ≡ listed dead (f .to)
-            → (x : Line) → x ≡ messageLine t (messageOf f) (not l) (u .node .list)
-            → (Did x ≡ nextAnswer b) × (b' ≡ storeLeft b)
-        unfolding lineOf turnOf taken withoutMessage
-        message-done b' q dead l de le x xe = did-answer (planIn b) (stateIn b) b' _ _ _ (turn-did (planIn b) (stateIn b) t (message i) next (M .to) (without i (stateIn b .flight)) u _ is message-by rest-room)
-            (q ∙ ap₂ (λ (p : Plan) (s : State). encode p (taken p s t (f .to) (s .flight) (turnOf u))) rest-plan rest-state ∙ ap (λ (k : ℕ). encode (planIn b) (taken (planIn b) (stateIn b) t k (without i (stateIn b .flight)) (turnOf u))) same-to)
-            (xe
-            ∙ ap₂ (λ (g : InFlight) (y : Bool). messageLine t g y (u .node .list)) (ap messageOf fe) (not-dropped dead l de le)
-            ∙ ap (λ (n : Node). messageLine t M (alive (planIn b) (stateIn b .done) (M .to)) (n .list)) (sym (node-taken (planIn b) t (M .to) (stateIn b) (without i (stateIn b .flight)) (turnOf u) (rw (ready-sound b r .nodes) (flight-range .to)))))
+      -- the line, whose receiver is dead where the list of crashed nodes has it
+      pub message-done : (dead : ℕ) (l : Bool) → dead ≡ crashedList (planIn b) (stateIn b .done) → l ≡ listed dead (f .to)
+          → (x : Line) → x ≡ messageLine t (messageOf f) (not l) (u .node .list) → length (without i (stateIn b .flight)) + u .count ≤ mostInFlight
+          → (Did x ≡ nextAnswer b) × (encode (planIn b) (taken (planIn b) (stateIn b) t (M .to) (without i (stateIn b .flight)) (turnOf u)) ≡ storeLeft b)
+      unfolding lineOf turnOf
+      message-done dead l de le x xe room =
+          let after = node-taken (planIn b) t (M .to) (stateIn b) (without i (stateIn b .flight)) (turnOf u) (rw (ready-sound b r .nodes) (flight-range .to)) in
+          did-answer (planIn b) (stateIn b) _ x _ _
+          (turn-did (planIn b) (stateIn b) t (message i) next (M .to) (without i (stateIn b .flight)) u _ is message-by room) refl
+          (xe
+          ∙ (ap₂ (λ (g : InFlight) (y : Bool). messageLine t g y (u .node .list)) (ap messageOf fe) (not-dropped dead l de le)
+          ∙ ap (λ (n : Node). messageLine t M (alive (planIn b) (stateIn b .done) (M .to)) (n .list)) (sym after)))
+
+      -- the store after it, where the message was taken out before
+      module _ (room : length (stateIn b .flight) - 1 + u .count ≤ mostInFlight) (c : List ℕ) (e : c ≡ encode (planIn b) (withoutMessage (stateIn b) i)) where
+        pub taken-left : (b' : List ℕ) → b' ≡ turnLeft c t (f .to) u
+            → b' ≡ encode (planIn b) (taken (planIn b) (stateIn b) t (M .to) (without i (stateIn b .flight)) (turnOf u))
+        unfolding taken withoutMessage
+        taken-left b' q =
+            q ∙ (ap₂ (λ (p : Plan) (s : State). encode p (taken p s t (f .to) (s .flight) (turnOf u))) (rest-plan room c e) (rest-state room c e)
+            ∙ ap (λ (k : ℕ). encode (planIn b) (taken (planIn b) (stateIn b) t k (without i (stateIn b .flight)) (turnOf u))) same-to)
 
 -- ---- a message's line
 
@@ -409,6 +399,14 @@ module _ (o : Option Entry) (n : Next) (e : n ≡ nextOf o) where
   pub next-nothing : n ≡ Nothing → o ≡ none
   unfolding Is
   next-nothing q = told Nothing q
+
+-- the last line, from how many messages are in flight
+pub last-of : (b : List ℕ) (flying : ℕ) → flying ≡ length (stateIn b .flight) → (l : Line)
+    → l ≡ line E (planIn b .end) (survivors (planIn b) (stateIn b .done)) flying (crashedList (planIn b) (stateIn b .done))
+    → l ≡ lastLine (planIn b) (stateIn b)
+unfolding lastLine
+last-of b flying fe l le =
+    le ∙ ap (λ (k : ℕ). line E (planIn b .end) (survivors (planIn b) (stateIn b .done)) k (crashedList (planIn b) (stateIn b .done))) fe
 
 -- none is left
 pub ended-answer : (p : Plan) (s : State) (b : List ℕ) → b ≡ encode p s → nextEvent p s ≡ none → (l : Line) → l ≡ lastLine p s → (Ended l ≡ happened p s (try p s)) × (b ≡ encode p (left s (try p s)))

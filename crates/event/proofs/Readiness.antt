@@ -24,6 +24,7 @@ use Rattle.store.specs.Inside.{Sized, Fits, Held}
 use Rattle.store.proofs.Store.{plan-encode, state-encode, held-encode, held-read}
 use Rattle.event.specs.Event.{nextOutcome, storeLeft}
 use Rattle.event.specs.Ready.{Ready}
+use Rattle.event.specs.Acting.{Acting}
 use Rattle.event.proofs.Fitting.{sound-fits}
 
 -- what a store's readers ask for
@@ -52,6 +53,18 @@ module _ (b : List ℕ) (r : Ready b) where
   -- what the list of its crashed nodes asks for
   pub ready-crashes : Sized b × ((planTest (planIn b) ≡ true) × (stateIn b .done ≤ length (planIn b .crashes)))
   ready-crashes = (held-sized b (r .held), (r .plan, ready-sound .done))
+
+  -- what the parts of an event ask for
+  pub ready-acting : Acting b
+  ready-acting = record { held = r .held; plan = r .plan; done = ready-sound .done; emitter = λ j h. ready-sound .fields j h .emitter }
+
+-- what follows for an acting store
+module _ (b : List ℕ) (a : Acting b) where
+  pub acting-accepted : Accepted (planIn b)
+  acting-accepted = accepted (planIn b) (a .held .fits .order) (a .plan)
+
+  pub acting-crashes : Sized b × ((planTest (planIn b) ≡ true) × (stateIn b .done ≤ length (planIn b .crashes)))
+  acting-crashes = (held-sized b (a .held), (a .plan, a .done))
 
 -- ---- which stores are ready
 

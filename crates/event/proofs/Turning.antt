@@ -1,6 +1,6 @@
 -- What a turn of a node writes, and what each event leaves. Assumes nothing.
-use Prim.Native.Nat.{ℕ, zero, suc, _+_, _-_, _*_, _^_, _≤_, _<_}
-use mathlib.Core.Path.{_≡_, refl, sym, ap, ap₂, _∙_}
+use Prim.Native.Nat.{ℕ, zero, suc, _+_, _*_, _^_, _≤_, _<_}
+use mathlib.Core.Path.{_≡_, refl, sym, ap, ap₂, subst, _∙_}
 use mathlib.Core.Bool.{Bool, true, false, cond, _||_}
 use mathlib.Core.List.{List, [], _∷_, _++_, append-nil, append-assoc}
 use mathlib.Core.Option.{some}
@@ -25,40 +25,40 @@ use Rattle.model.specs.Range.{Plain}
 use Rattle.model.proofs.NextEvent.{Chosen, Best, best}
 use Rattle.model.specs.Lines.{lineOf}
 use Rattle.model.proofs.Plans.{accepted}
-use Rattle.model.proofs.RangesKept.{delay-ok}
 use Rattle.store.specs.Store.{encode, planIn, stateIn}
-use Rattle.store.specs.Inside.{Fits, Held, sent, withTick, withNode}
+use Rattle.store.specs.Inside.{Fits, Held, withFlight, withMessage, numberTaken, withTick, withNode}
 use Rattle.store.proofs.Store.{plan-encode, state-encode, held-encode}
-use Rattle.store.proofs.States.{tick-fits, node-fits, send-fits}
+use Rattle.store.proofs.States.{tick-fits, node-fits, number-fits, message-fits}
 use Rattle.event.specs.declared.Happened.{Happened}
 use Rattle.event.specs.declared.Happened.the-variants.{Did, Refused}
+use Rattle.event.specs.Acting.{stamped, joined}
 use Rattle.event.specs.Event.{SmallMessage, Turns, entry, happened, sending, sendsLeft, turnOf, turnLeft}
-use Rattle.event.proofs.Fitting.{ranges}
+use Rattle.event.proofs.Parts.{delay-few}
 
 -- ---- messages sent one after another
 
 module _ (p : Plan) (t x : ℕ) where
-  abbrev sentAs : ℕ → Message → InFlight
-  sentAs k m = record { number = k; kind = m .kind; from = x; to = m .to; subject = m .subject; due = t + delayOf p k }
-
-  numbered-more : (ms : List Message) (k i : ℕ) (z : Message) → i < length ms → numbered p t x k (take (suc i) ms) ≡ numbered p t x k (take i ms) ++ (sentAs (k + i) (getD ms i z) ∷ [])
-  unfolding numbered
+  numbered-more : (ms : List Message) (k i : ℕ) (z : Message) → i < length ms
+      → numbered p t x k (take (suc i) ms) ≡ numbered p t x k (take i ms) ++ (stamped p (k + i) t x (getD ms i z) ∷ [])
+  unfolding numbered stamped
   numbered-more [] k i z h = absurd (omega arith)
   numbered-more (m ∷ ms) k zero z h = rw add-zero
-  numbered-more (m ∷ ms) k (suc i) z h = let e : suc k + i ≡ k + suc i = omega arith in ap (λ (l : List InFlight). sentAs k m ∷ l) (rw e at (numbered-more ms (suc k) i z (omega arith)))
+  numbered-more (m ∷ ms) k (suc i) z h =
+      let e : suc k + i ≡ k + suc i = omega arith in
+      ap (λ (l : List InFlight). stamped p k t x m ∷ l) (rw e at (numbered-more ms (suc k) i z (omega arith)))
 
-  pub length-numbered : (ms : List Message) (k : ℕ) → length (numbered p t x k ms) ≡ length ms
+  length-numbered : (ms : List Message) (k : ℕ) → length (numbered p t x k ms) ≡ length ms
   unfolding numbered
   length-numbered [] k = refl
   length-numbered (m ∷ ms) k = ap suc (length-numbered ms (suc k))
 
-  pub sending-none : (s : State) (ms : List Message) → sending p s t x (take 0 ms) ≡ s
+  sending-none : (s : State) (ms : List Message) → sending p s t x (take 0 ms) ≡ s
   unfolding sending numbered
   sending-none s ms = rw (append-nil, add-zero)
 
   pub sending-more : (s : State) (ms : List Message) (i : ℕ) (z : Message) → i < length ms
-      → sending p s t x (take (i + 1) ms) ≡ sent (sending p s t x (take i ms)) ((getD ms i z) .kind) x ((getD ms i z) .to) ((getD ms i z) .subject) (t + delayOf p (sending p s t x (take i ms) .next))
-  unfolding sending sent
+      → sending p s t x (take (i + 1) ms) ≡ joined p (sending p s t x (take i ms)) t x (getD ms i z)
+  unfolding sending joined numberTaken withFlight
   sending-more s ms i z h =
       let a : length (take i ms) ≡ i = omega (arith, length-take i ms) in
       let b : length (take (suc i) ms) ≡ suc i = omega (arith, length-take (suc i) ms) in
@@ -66,7 +66,7 @@ module _ (p : Plan) (t x : ℕ) where
       rw (add-one i, a, b, e, numbered-more ms (s .next) i z h, append-assoc)
 
   -- a turn in three parts: the tick, the node, the messages
-  pub turn-parts : (s : State) (u : Turned) → sending p (withNode (withTick s t) x (u .node)) t x (take (u .count) (u .sent)) ≡ taken p s t x (s .flight) (turnOf u)
+  turn-parts : (s : State) (u : Turned) → sending p (withNode (withTick s t) x (u .node)) t x (take (u .count) (u .sent)) ≡ taken p s t x (s .flight) (turnOf u)
   unfolding sending withNode withTick taken turnOf
   turn-parts s u = refl
 
@@ -83,7 +83,7 @@ take-all : {A : Type 0} (xs ys : List A) → take (length xs) (xs ++ ys) ≡ xs
 take-all [] ys = refl
 take-all (x ∷ xs) ys = ap (λ (l : List _). x ∷ l) (take-all xs ys)
 
-pub turn-back : (v : Turn) → turnOf (turned v) ≡ v
+turn-back : (v : Turn) → turnOf (turned v) ≡ v
 unfolding turnOf turned places
 turn-back v = ap (λ (ms : List Message). record { node = v .node; sends = ms }) (take-all (v .sends) _)
 
@@ -98,7 +98,7 @@ module _ (p : Plan) (s : State) (t : ℕ) (ev : Event) (next : nextEvent p s ≡
   unfolding try tried fits
   try-did h = rw next (ap (λ (b : Bool). cond b (did (entry t ev) (apply p s t ev)) refused) (le-leb _ mostInFlight h))
 
-  pub try-refused : mostInFlight < length ((apply p s t ev) .flight) → try p s ≡ refused
+  try-refused : mostInFlight < length ((apply p s t ev) .flight) → try p s ≡ refused
   unfolding try tried fits
   try-refused h = rw next (ap (λ (b : Bool). cond b (did (entry t ev) (apply p s t ev)) refused) (lt-leb _ mostInFlight h))
 
@@ -177,6 +177,14 @@ pub beat-few : (h t : ℕ) (n : Node) → length ((onHeartbeatDue h t n) .sends)
 unfolding onHeartbeatDue
 beat-few h t n = omega arith
 
+-- ---- a message stamped and joined
+
+joined-fit : (p : Plan) (s : State) → Fits p s → (t x : ℕ) (m : Message) → length (s .flight) < mostInFlight → s .next + 1 < 256 ^ 8 → x < 256
+    → SmallMessage m → t + delayOf p (s .next) < 256 ^ 4 → Fits p (joined p s t x m)
+unfolding joined stamped numberTaken
+joined-fit p s f t x m room next place small late =
+    message-fits p (numberTaken s) (number-fits p s f next) (stamped p (s .next) t x m) room (omega arith) (small .kind) place (small .to) (small .subject) late
+
 -- ---- sending, step by step
 
 -- the bytes after the first i messages of ms are sent, from the store b₀
@@ -207,14 +215,14 @@ module _ (b₀ : List ℕ) (t x : ℕ) (u : Turned) where
     plain : Plain (planIn b₀)
     plain = accepted (planIn b₀) (r .held .fits .order) (r .plan) .plain
 
-    pub sending-delay : (number : ℕ) → delayOf (planIn b) number ≤ 255
-    sending-delay number = omega (arith, (delay-ok (planIn b) (rw sending-plan plain) number) .1, ranges (planIn b) sending-test .d-high)
+    sending-delay : (number : ℕ) → delayOf (planIn b) number ≤ 255
+    sending-delay number = delay-few b sending-held sending-test number
 
     module _ (less : i < u .count) where
       counted : length (take i (u .sent)) ≡ i
       counted = omega (arith, length-take i (u .sent), r .few, r .full)
 
-      pub sending-room : length (stateIn b .flight) < mostInFlight
+      sending-room : length (stateIn b .flight) < mostInFlight
       unfolding sending
       sending-room = rw (sending-state, length-append, length-numbered, counted) (omega (arith, r .room))
 
@@ -222,24 +230,44 @@ module _ (b₀ : List ℕ) (t x : ℕ) (u : Turned) where
       unfolding sending
       sending-number = rw (sending-state, counted) (omega (arith, r .number))
 
-      pub sending-next : (z m : Message) → m ≡ getD (u .sent) i z → (d : ℕ) → d ≡ delayOf (planIn b) (stateIn b .next) → (b' : List ℕ)
-          → b' ≡ encode (planIn b) (sent (stateIn b) (m .kind) x (m .to) (m .subject) (t + d)) → Sending b₀ t x (u .sent) (i + 1) b'
-      sending-next z m is d de b' e = record { is = e ∙ ap₂ encode sending-plan same; fits = rw (← same) fits' }
-        where
-          same : sent (stateIn b) (m .kind) x (m .to) (m .subject) (t + d) ≡ At (i + 1)
-          same = ap (λ (u : ℕ). sent (stateIn b) (m .kind) x (m .to) (m .subject) (t + u)) de
-              ∙ ap₂ (λ (q : Plan) (s : State). sent s (m .kind) x (m .to) (m .subject) (t + delayOf q (s .next))) sending-plan sending-state
-              ∙ ap (λ (u : Message). sent (At i) (u .kind) x (u .to) (u .subject) (t + delayOf (planIn b₀) (At i .next))) is
-              ∙ sym (sending-more (planIn b₀) t x (stateIn b₀) (u .sent) i z (omega (arith, r .few, r .full)))
+      -- the next of them is stamped
+      module _ (c : List ℕ) (ce : c ≡ encode (planIn b) (numberTaken (stateIn b))) where
+        taken-fits : Fits (planIn b) (numberTaken (stateIn b))
+        taken-fits = number-fits (planIn b) (stateIn b) (sending-held .fits) sending-number
 
+        pub stamp-held : Held c
+        stamp-held = rw ce (held-encode (planIn b) (numberTaken (stateIn b)) taken-fits)
+
+        stamp-state : stateIn c ≡ numberTaken (stateIn b)
+        stamp-state = ap stateIn ce ∙ state-encode (planIn b) (numberTaken (stateIn b)) taken-fits
+
+        pub stamp-room : length (stateIn c .flight) < mostInFlight
+        unfolding numberTaken
+        stamp-room = rw stamp-state sending-room
+
+        -- and joins those in flight
+        module _ (z m : Message) (is : m ≡ getD (u .sent) i z) where
           small : SmallMessage m
           small = rw is (r .sends z i less)
 
-          tick : t + d < 256 ^ 4
-          tick = rw de (omega (arith, r .tick, sending-delay (stateIn b .next)))
+          same : joined (planIn b) (stateIn b) t x m ≡ At (i + 1)
+          same =
+              ap₂ (λ (q : Plan) (s : State). joined q s t x m) sending-plan sending-state
+              ∙ (ap (joined (planIn b₀) (At i) t x) is ∙ sym (sending-more (planIn b₀) t x (stateIn b₀) (u .sent) i z (omega (arith, r .few, r .full))))
 
-          fits' : Fits (planIn b₀) (sent (stateIn b) (m .kind) x (m .to) (m .subject) (t + d))
-          fits' = send-fits (planIn b₀) (stateIn b) (rw sending-state (h .fits)) (m .kind) x (m .to) (m .subject) (t + d) sending-room sending-number (small .kind) (omega (arith, r .place, plain .n≤)) (small .to) (small .subject) tick
+          joined-fits : Fits (planIn b) (joined (planIn b) (stateIn b) t x m)
+          joined-fits =
+              joined-fit (planIn b) (stateIn b) (sending-held .fits) t x m sending-room sending-number (omega (arith, r .place, plain .n≤)) small
+              (omega (arith, r .tick, sending-delay (stateIn b .next)))
+
+          pub sending-next : (f : InFlight) → f ≡ stamped (planIn b) (stateIn b .next) t x m → (b' : List ℕ)
+              → b' ≡ encode (planIn c) (withMessage (stateIn c) f) → Sending b₀ t x (u .sent) (i + 1) b'
+          unfolding joined
+          sending-next f fe b' e = record {
+            is = e ∙ (ap₂ (λ (q : Plan) (s : State). encode q (withMessage s f)) (ap planIn ce ∙ plan-encode (planIn b) _ taken-fits) stamp-state
+                ∙ (ap (λ (g : InFlight). encode (planIn b) (withMessage (numberTaken (stateIn b)) g)) fe ∙ ap₂ encode sending-plan same));
+            fits = subst (λ (q : Plan). Fits q (At (i + 1))) sending-plan (subst (Fits (planIn b)) same joined-fits);
+          }
 
 -- the whole of it
 pub sending-all : (b₀ : List ℕ) (t x : ℕ) (ms : List Message) (i k : ℕ) (b : List ℕ) → i ≤ k → k ≤ i → Sending b₀ t x ms i b → b ≡ encode (planIn b₀) (sending (planIn b₀) (stateIn b₀) t x (take k ms))
@@ -248,52 +276,39 @@ sending-all b₀ t x ms i k b a c h = let e : i ≡ k = omega arith in h .is ∙
 -- ---- a turn's parts on a store
 
 module _ (b : List ℕ) (t x : ℕ) (u : Turned) (r : Turns b t x u) where
-  -- after the tick is set
-  abbrev Ticked : State
-  Ticked = withTick (stateIn b) t
-
-  tick-fit : Fits (planIn b) Ticked
-  tick-fit = tick-fits (planIn b) (stateIn b) (r .held .fits) t (omega (arith, r .tick))
-
-  -- and after the node is
+  -- after the node is written
   abbrev Moved : State
   Moved = withNode (withTick (stateIn b) t) x (u .node)
 
-  module _ (c : List ℕ) (e : c ≡ encode (planIn b) Ticked) where
-    pub tick-held : Held c
-    tick-held = rw e (held-encode (planIn b) Ticked tick-fit)
+  moved-fit : Fits (planIn b) Moved
+  unfolding withTick
+  moved-fit =
+      node-fits (planIn b) (withTick (stateIn b) t) (tick-fits (planIn b) (stateIn b) (r .held .fits) t (omega (arith, r .tick))) x (u .node)
+      (rw (r .held .fits .nodes) (r .place)) (r .node)
 
-    pub tick-place : x < planIn c .n
-    tick-place = rw (e, plan-encode (planIn b) Ticked tick-fit) (r .place)
+  module _ (d : List ℕ) (k : d ≡ encode (planIn b) Moved) where
+    moved-plan : planIn d ≡ planIn b
+    moved-plan = ap planIn k ∙ plan-encode (planIn b) Moved moved-fit
 
-    module _ (d : List ℕ) (k : d ≡ encode (planIn c) (withNode (stateIn c) x (u .node))) where
-      moved-is : d ≡ encode (planIn b) Moved
-      moved-is = k ∙ ap₂ (λ (p : Plan) (s : State). encode p (withNode s x (u .node))) (ap planIn e ∙ plan-encode (planIn b) Ticked tick-fit) (ap stateIn e ∙ state-encode (planIn b) Ticked tick-fit)
+    moved-state : stateIn d ≡ Moved
+    moved-state = ap stateIn k ∙ state-encode (planIn b) Moved moved-fit
 
-      moved-fit : Fits (planIn b) Moved
-      unfolding withTick
-      moved-fit = node-fits (planIn b) Ticked tick-fit x (u .node) (rw (r .held .fits .nodes) (r .place)) (r .node)
+    pub moved-turns : Turns d t x u
+    unfolding withNode withTick
+    moved-turns = record {
+      held = rw k (held-encode (planIn b) Moved moved-fit);
+      plan = ap planTest moved-plan ∙ r .plan;
+      tick = r .tick;
+      place = rw moved-plan (r .place);
+      full = r .full;
+      few = r .few;
+      room = rw moved-state (r .room);
+      number = rw moved-state (r .number);
+      node = r .node;
+      sends = r .sends;
+    }
 
-      moved-plan : planIn d ≡ planIn b
-      moved-plan = ap planIn moved-is ∙ plan-encode (planIn b) Moved moved-fit
-
-      moved-state : stateIn d ≡ Moved
-      moved-state = ap stateIn moved-is ∙ state-encode (planIn b) Moved moved-fit
-
-      pub moved-turns : Turns d t x u
-      unfolding withNode withTick
-      moved-turns = record {
-        held = rw moved-is (held-encode (planIn b) Moved moved-fit);
-        plan = ap planTest moved-plan ∙ r .plan;
-        tick = r .tick;
-        place = rw moved-plan (r .place);
-        full = r .full;
-        few = r .few;
-        room = rw moved-state (r .room);
-        number = rw moved-state (r .number);
-        node = r .node;
-        sends = r .sends;
-      }
-
-      pub turn-taken : (f : List ℕ) → f ≡ sendsLeft d t x u → f ≡ turnLeft b t x u
-      turn-taken f q = q ∙ ap₂ (λ (p : Plan) (s : State). encode p (sending p s t x (take (u .count) (u .sent)))) moved-plan moved-state ∙ ap (encode (planIn b)) (turn-parts (planIn b) t x (stateIn b) u)
+    pub turn-taken : (f : List ℕ) → f ≡ sendsLeft d t x u → f ≡ turnLeft b t x u
+    turn-taken f q =
+        q ∙ (ap₂ (λ (p : Plan) (s : State). encode p (sending p s t x (take (u .count) (u .sent)))) moved-plan moved-state
+        ∙ ap (encode (planIn b)) (turn-parts (planIn b) t x (stateIn b) u))

@@ -2,3 +2,4 @@
 pub mod Event
 pub mod Search
 pub mod Ready
+pub mod Acting

@@ -1,9 +1,11 @@
 // One event of the platform, done in place on the bytes of a store. It asks for a store that opening, steps and runs lead to, and makes
 // no test of the whole store.
 pub mod search; // search.rt: the next event
-mod turn; // turn.rt: what an event writes
+pub mod turn; // turn.rt: what an event does to its node, what it sends and its line
+mod act; // act.rt: the events of a store that holds its messages in flight
 
 use logline::Line;
+use store::messages;
 ghost use mathlib.Core.Path.{_≡_};
 ghost use Rattle.event.specs.Event.{nextAnswer, storeLeft};
 ghost use Rattle.event.specs.Ready.{Ready};
@@ -31,10 +33,10 @@ pub fn do_event(s: &mut [u8]) -> Happened
     ensures { λ r. ⌜ (r ≡ nextAnswer (now (s .entry))) × (now (s .exit) ≡ storeLeft (now (s .entry))) ⌝ }
 {
     match search::next_event(s) {
-        Next::Crash(t, k) => turn::do_crash(s, t, k),
-        Next::Message(t, i) => turn::do_message(s, t, i),
-        Next::Watch(t, x) => turn::do_watch(s, t, x),
-        Next::Heartbeat(t, x) => turn::do_heartbeat(s, t, x),
-        Next::Nothing => Happened::Ended(search::last_line(s)),
+        Next::Crash(t, k) => act::do_crash(s, t, k),
+        Next::Message(t, i) => act::do_message(s, t, i),
+        Next::Watch(t, x) => act::do_watch(s, t, x),
+        Next::Heartbeat(t, x) => act::do_heartbeat(s, t, x),
+        Next::Nothing => Happened::Ended(search::last_line(s, messages::message_count(s) as u64)),
     }
 }

@@ -6,26 +6,30 @@ use native.Mathlib.Omega.{arith}
 use lib.ListN.{length, getD, take, drop, set, length-set, length-append}
 use lib.Seq.{getD-drop}
 use Rattle.store.specs.Gap.{without}
-use Rattle.store.specs.Columns.{Field, Column, cellPut, cellOut, withValues, bytesOf, Fit, AllFit}
+use Rattle.store.specs.Columns.{Field, Column, cellPut, cellOut, fieldCleared, withValues, bytesOf, Fit, AllFit}
 use Rattle.store.proofs.Reading.{fit-at}
-use Rattle.store.proofs.Columns.{columnAt, columnOf, putIn, addIn, takeIn, length-without, Laid, put-cell, laid-put, add-cell, laid-add, take-cell, laid-take}
+use Rattle.store.proofs.Columns.{columnAt, columnOf, putIn, addIn, takeIn, clearIn, length-without, Laid}
+use Rattle.store.proofs.Columns.{put-cell, laid-put, add-cell, laid-add, take-cell, laid-take, clear-cells, laid-clear}
 
--- a number put at a place of a field; one put after the last of n; the one at a place of n taken out
+-- a number put at a place of a field; one put after the last of n; the one at a place of n taken out; all n cleared away
 pub data Change : Type 0 where
   put : Field → ℕ → ℕ → Change
   add : Field → ℕ → ℕ → Change
   out : Field → ℕ → ℕ → Change
+  clear : Field → ℕ → Change
 
 -- what a change does to bytes, and to columns
 unfoldable pub onBytes : Change → List ℕ → List ℕ
 onBytes (put f i x) b = cellPut b f i x
 onBytes (add f n x) b = cellPut b f n x
 onBytes (out f i n) b = cellOut b f i n
+onBytes (clear f n) b = fieldCleared b f n
 
 unfoldable pub onColumns : Change → List Column → List Column
 onColumns (put f i x) cs = putIn cs (columnOf cs f) i x
 onColumns (add f n x) cs = addIn cs (columnOf cs f) x
 onColumns (out f i n) cs = takeIn cs (columnOf cs f) i
+onColumns (clear f n) cs = clearIn cs (columnOf cs f)
 
 -- f is the field of one of the columns
 abbrev pub Has : List Column → Field → Type 0
@@ -39,6 +43,7 @@ unfoldable pub Admit : Change → List Column → Type 0
 Admit (put f i x) cs = Has cs f × (i < length (valuesOf cs f))
 Admit (add f n x) cs = Has cs f × (n ≡ length (valuesOf cs f)) × (n < f .places)
 Admit (out f i n) cs = Has cs f × (n ≡ length (valuesOf cs f)) × (i < n)
+Admit (clear f n) cs = Has cs f × (n ≡ length (valuesOf cs f))
 
 pub change-bytes : (ch : Change) (cs : List Column) → Laid 0 cs → Admit ch cs → onBytes ch (bytesOf cs) ≡ bytesOf (onColumns ch cs)
 unfolding onBytes onColumns Admit
@@ -50,12 +55,15 @@ change-bytes (add f n x) cs l a =
 change-bytes (out f i n) cs l a =
     ap (λ (g : Field). cellOut (bytesOf cs) g i n) (sym (a .0 .1))
     ∙ rw (a .1) (take-cell cs l (columnOf cs f) (a .0 .0) i (rw (← a .1) (a .2)))
+change-bytes (clear f n) cs l a =
+    ap (λ (g : Field). fieldCleared (bytesOf cs) g n) (sym (a .0 .1)) ∙ rw (a .1) (clear-cells cs l (columnOf cs f) (a .0 .0))
 
 pub change-laid : (ch : Change) (cs : List Column) → Laid 0 cs → Admit ch cs → Laid 0 (onColumns ch cs)
 unfolding onColumns Admit
 change-laid (put f i x) cs l a = laid-put cs l (columnOf cs f) (a .0 .0) i x
 change-laid (add f n x) cs l a = laid-add cs l (columnOf cs f) (a .0 .0) x (rw (a .0 .1, ← a .1) (a .2))
 change-laid (out f i n) cs l a = laid-take cs l (columnOf cs f) (a .0 .0) i (rw (← a .1) (a .2))
+change-laid (clear f n) cs l a = laid-clear cs l (columnOf cs f) (a .0 .0)
 
 -- ---- changes one after another, the first one first
 
@@ -121,9 +129,10 @@ unfoldable pub Small : Change → Type 0
 Small (put f i x) = x < 256 ^ f .width
 Small (add f n x) = x < 256 ^ f .width
 Small (out f i n) = Unit
+Small (clear f n) = Unit
 
 pub change-fit : (ch : Change) (cs : List Column) → AllFit cs → Admit ch cs → Small ch → AllFit (onColumns ch cs)
-unfolding onColumns Admit Small putIn addIn takeIn
+unfolding onColumns Admit Small putIn addIn takeIn clearIn
 change-fit (put f i x) cs a h k =
     let c : Column = columnAt cs (columnOf cs f) in
     let t : Fit c = fit-at cs (columnOf cs f) a (h .0 .0) in
@@ -148,6 +157,10 @@ change-fit (out f i n) cs a h k =
       room = omega (arith, length-without i (c .values) less, t .room);
       below = below-without (256 ^ c .field .width) i (c .values) (t .below);
     })
+change-fit (clear f n) cs a h k =
+    let c : Column = columnAt cs (columnOf cs f) in
+    let t : Fit c = fit-at cs (columnOf cs f) a (h .0 .0) in
+    all-set cs (columnOf cs f) (withValues c []) a (record { room = omega arith; below = λ i. omega (arith, t .below i) })
 
 unfoldable pub AllSmall : List Change → Type 0
 AllSmall [] = Unit

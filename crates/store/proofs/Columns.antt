@@ -1,18 +1,18 @@
--- Laws of columns, for any list of them: a number of any column is got, put, added after the last or taken out, and the bytes are
--- those of the columns so changed. Assumes nothing.
+-- Laws of columns, for any list of them: a number of any column is got, put, added after the last or taken out, or all of them are
+-- cleared away, and the bytes are those of the columns so changed. Assumes nothing.
 use Prim.Native.Nat.{ℕ, zero, suc, _+_, _-_, _*_, _≤_, _<_, _^_}
 use mathlib.Core.Path.{_≡_, refl, sym, ap, _∙_}
 use mathlib.Core.Bool.{cond}
 use mathlib.Core.List.{List, [], _∷_, _++_, append-assoc}
-use native.Mathlib.Nat.{mul-suc, mul-le-mul-left}
+use native.Mathlib.Nat.{mul-zero, mul-suc, mul-le-mul-left}
 use native.Mathlib.Omega.{arith}
 use lib.Dec.{eqb}
 use lib.ListN.{length, take, drop, getD, set, replicate, length-append, length-replicate, length-set, length-drop, replicate-append-replicate}
 use lib.Seq.{split-at, set-split, length-take-le}
-use Rattle.fields.specs.Fields.{fieldAt, putAt}
+use Rattle.fields.specs.Fields.{fieldAt, putAt, cleared}
 use Rattle.store.specs.Gap.{without, closed}
 use Rattle.store.specs.Columns.{Field, Column, field, unused, withValues, cell, size, used, packs, columnBytes, bytesOf}
-use Rattle.store.proofs.Parts.{length-packs, get-packs, put-packs, closed-packs, add-packs}
+use Rattle.store.proofs.Parts.{cleared-part, length-packs, get-packs, put-packs, closed-packs, add-packs}
 
 pub length-without : {A : Type 0} (i : ℕ) (l : List A) → i < length l → suc (length (without i l)) ≡ length l
 unfolding without
@@ -78,6 +78,17 @@ module _ (a z : List ℕ) (c : Column) (o : ℕ) (starts : length a ≡ o) where
       ∙ closed-packs w a (rest n ++ z) xs o i starts h
       ∙ rw zs (simp append-assoc)
 
+  clear-column : length xs ≤ c .field .places → cleared (a ++ (columnBytes c ++ z)) o (o + used c) ≡ a ++ (columnBytes (withValues c []) ++ z)
+  unfolding columnBytes packs
+  clear-column room =
+      let n : ℕ = length xs in
+      let le : w * n ≤ size (c .field) = mul-le-mul-left w room in
+      let e : size (c .field) - w * 0 ≡ w * n + (size (c .field) - w * n) = rw (mul-zero w) (omega arith) in
+      let zs : rest 0 ≡ replicate (w * n) 0 ++ rest n = rw e (sym (replicate-append-replicate (w * n) (size (c .field) - w * n) 0)) in
+      ap (λ (l : List ℕ). cleared (a ++ l) o (o + w * n)) (append-assoc (packs w xs) (rest n) z)
+      ∙ cleared-part a (packs w xs) (rest n ++ z) o (w * n) starts (length-packs w xs)
+      ∙ rw zs (simp append-assoc)
+
 -- ---- columns one after another
 
 abbrev pub columnAt : List Column → ℕ → Column
@@ -88,7 +99,7 @@ unfoldable pub columnOf : List Column → Field → ℕ
 columnOf [] f = 0
 columnOf (c ∷ cs) f = cond (eqb (c .field .at) (f .at)) 0 (suc (columnOf cs f))
 
--- columns with another number at place i of column k, with one more, with one fewer
+-- columns with another number at place i of column k, with one more, with one fewer, with none
 unfoldable pub putIn : List Column → ℕ → ℕ → ℕ → List Column
 putIn cs k i x = set cs k (withValues (columnAt cs k) (set ((columnAt cs k) .values) i x))
 
@@ -97,6 +108,9 @@ addIn cs k x = set cs k (withValues (columnAt cs k) ((columnAt cs k) .values ++ 
 
 unfoldable pub takeIn : List Column → ℕ → ℕ → List Column
 takeIn cs k i = set cs k (withValues (columnAt cs k) (without i ((columnAt cs k) .values)))
+
+unfoldable pub clearIn : List Column → ℕ → List Column
+clearIn cs k = set cs k (withValues (columnAt cs k) [])
 
 -- each column starts where the one before it ends, the first at o, and has no more numbers than places
 unfoldable pub Laid : ℕ → List Column → Type 0
@@ -194,3 +208,15 @@ module _ (cs : List Column) (laid : Laid 0 cs) (k : ℕ) (has : k < length cs) w
   unfolding takeIn
   laid-take i h =
       laid-set 0 cs k (without i (c .values)) laid (omega (arith, length-without i (c .values) h, laid-room 0 cs k laid has))
+
+  -- all numbers are cleared away
+  pub clear-cells : cleared (bytesOf cs) at (at + used c) ≡ bytesOf (clearIn cs k)
+  unfolding clearIn
+  clear-cells =
+      ap (λ (l : List ℕ). cleared l at (at + used c)) around
+      ∙ clear-column front back c at starts (laid-room 0 cs k laid has)
+      ∙ sym (around-set (withValues c []))
+
+  pub laid-clear : Laid 0 (clearIn cs k)
+  unfolding clearIn
+  laid-clear = laid-set 0 cs k [] laid (omega arith)

@@ -1,4 +1,4 @@
--- Laws of bytes that stand between other bytes: a number put there, a gap closed there. Assumes nothing.
+-- Laws of bytes that stand between other bytes: a number put there, a gap closed there, zeros in their place. Assumes nothing.
 use Prim.Native.Nat.{ℕ, suc, _+_, _-_, _*_, _≤_, _<_, _^_}
 use mathlib.Core.Path.{_≡_, refl, sym, ap, _∙_}
 use mathlib.Core.List.{List, [], _∷_, _++_, append-assoc, append-nil}
@@ -46,6 +46,16 @@ closed-parts p q r t a by e hp hq he =
     let k : e - (e - by) ≡ by = omega arith in
     ap (λ (m : List ℕ). take (e - by) m ++ replicate (e - (e - by)) 0 ++ drop e m) mv
     ∙ rw (dm, take-at (p ++ r) (drop (a + length r) l) (e - by) lpr, k) (simp append-assoc)
+
+-- zeros in place of b
+pub cleared-part : (a b c : List ℕ) (o n : ℕ) → length a ≡ o → length b ≡ n → cleared (a ++ (b ++ c)) o (o + n) ≡ a ++ (replicate n 0 ++ c)
+unfolding cleared
+cleared-part a b c o n ha hb =
+    let m : o + n - o ≡ n = omega arith in
+    let t : take o (a ++ (b ++ c)) ≡ a = take-at a (b ++ c) o ha in
+    let d : drop (o + n) (a ++ (b ++ c)) ≡ c =
+    ap (drop (o + n)) (sym (append-assoc a b c)) ∙ drop-at (a ++ b) c (o + n) (length-append a b ∙ rw (ha, hb)) in
+    rw (m, t, d) (append-assoc a (replicate n 0) c)
 
 -- ---- numbers of w bytes, one after another
 

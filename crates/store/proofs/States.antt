@@ -15,10 +15,12 @@ use Rattle.model.specs.Platform as model
 use Rattle.store.specs.Gap.{without}
 use Rattle.store.specs.Columns.{cellPut, cellOut, bytesOf}
 use Rattle.store.specs.Store.{crashesDone, lastTick, nextNumber, messageCount, emitters, observers, watches, heartbeats, deadLists, messageNumbers, messageDues, messageKinds, messageSenders, messageReceivers, messageSubjects, columns, encode, planIn, stateIn}
-use Rattle.store.specs.Inside.{SmallNode, Fits, Held, withNode, withTick, crashed, withoutMessage, sent}
+use Rattle.store.specs.Inside.{SmallNode, Fits, Held, withNode, withTick, crashed, withoutMessage, withFlight, withMessage, numberTaken}
+use Rattle.store.specs.Inside.{timesCleared, routesCleared}
 use Rattle.store.specs.Filling.{putNode}
-use Rattle.store.proofs.Columns.{columnOf, putIn, addIn, takeIn, length-without}
-use Rattle.store.proofs.Changes.{Change, put, add, out, onBytes, onColumns, Admit, AdmitAll, Small, AllSmall, bytesAfter, columnsAfter, changes-bytes, changes-fit}
+use Rattle.store.proofs.Columns.{columnOf, putIn, addIn, takeIn, clearIn, length-without}
+use Rattle.store.proofs.Changes.{Change, put, add, out, clear, onBytes, onColumns, Admit, AdmitAll, Small, AllSmall}
+use Rattle.store.proofs.Changes.{bytesAfter, columnsAfter, changes-bytes, changes-fit}
 use Rattle.store.proofs.Store.{laid, fits-of}
 
 -- ---- a field of rows of which one is changed
@@ -83,25 +85,47 @@ module _ (p : Plan) (s : State) where
   node-columns i a =
       rw (map-set (λ (x : Node). x .emitter), map-set (λ (x : Node). x .observer), map-set (λ (x : Node). x .watch), map-set (λ (x : Node). x .heartbeat), map-set (λ (x : Node). x .list))
 
-  -- a message after the last of those in flight, with the next number
-  abbrev pub sendPuts : ℕ → ℕ → ℕ → ℕ → ℕ → List Change
-  sendPuts kind from to subject due =
+  -- a message after the last of those in flight
+  abbrev pub messagePuts : InFlight → List Change
+  messagePuts m =
       let n : ℕ = length (s .flight) in
-      add messageNumbers n (s .next) ∷ add messageDues n due ∷ add messageKinds n kind ∷ add messageSenders n from ∷ add messageReceivers n to ∷ add messageSubjects n subject ∷ put nextNumber 0 (s .next + 1) ∷ put messageCount 0 (n + 1) ∷ []
+      add messageNumbers n (m .number) ∷ add messageDues n (m .due) ∷ add messageKinds n (m .kind)
+      ∷ add messageSenders n (m .from) ∷ add messageReceivers n (m .to) ∷ add messageSubjects n (m .subject) ∷ put messageCount 0 (n + 1) ∷ []
 
-  send-admit : (kind from to subject due : ℕ) → length (s .flight) < mostInFlight → AdmitAll (sendPuts kind from to subject due) (columns p s)
+  message-admit : (m : InFlight) → length (s .flight) < mostInFlight → AdmitAll (messagePuts m) (columns p s)
   unfolding columns columnOf AdmitAll Admit onColumns putIn addIn
-  send-admit kind from to subject due h =
-      let n : (g : InFlight → ℕ) → length (s .flight) ≡ length (map g (s .flight)) = λ g. sym (length-map (s .flight) g) in
-      (((lit< tt, refl), n (λ x. x .number), h), (((lit< tt, refl), n (λ x. x .due), h), (((lit< tt, refl), n (λ x. x .kind), h), (((lit< tt, refl), n (λ x. x .from), h), (((lit< tt, refl), n (λ x. x .to), h), (((lit< tt, refl), n (λ x. x .subject), h), (((lit< tt, refl), lit< tt), (((lit< tt, refl), lit< tt), tt))))))))
+  message-admit m h =
+      let n : (g : InFlight → ℕ) → length (s .flight) ≡ length (map g (s .flight)) = λ g. sym (length-map (s .flight) g) in (
+        ((lit< tt, refl), n (λ x. x .number), h),
+        (
+          ((lit< tt, refl), n (λ x. x .due), h),
+          (
+            ((lit< tt, refl), n (λ x. x .kind), h),
+            (
+              ((lit< tt, refl), n (λ x. x .from), h),
+              (((lit< tt, refl), n (λ x. x .to), h), (((lit< tt, refl), n (λ x. x .subject), h), (((lit< tt, refl), lit< tt), tt))),
+            ),
+          ),
+        ),
+      )
 
-  send-columns : (kind from to subject due : ℕ)
-      → columnsAfter (sendPuts kind from to subject due) (columns p s) ≡ columns p (sent s kind from to subject due)
-  unfolding columns columnOf columnsAfter onColumns putIn addIn sent
-  send-columns kind from to subject due =
-      let m : InFlight = record { number = s .next; kind = kind; from = from; to = to; subject = subject; due = due } in
+  message-columns : (m : InFlight) → columnsAfter (messagePuts m) (columns p s) ≡ columns p (withMessage s m)
+  unfolding columns columnOf columnsAfter onColumns putIn addIn withFlight
+  message-columns m =
       let e : (g : InFlight → ℕ) → map g (s .flight ++ (m ∷ [])) ≡ map g (s .flight) ++ (g m ∷ []) = λ g. map-append g (s .flight) (m ∷ []) in
-      rw (e (λ x. x .number), e (λ x. x .due), e (λ x. x .kind), e (λ x. x .from), e (λ x. x .to), e (λ x. x .subject), length-append (s .flight) (m ∷ []), add-one (s .next))
+      rw (e (λ x. x .number), e (λ x. x .due), e (λ x. x .kind), e (λ x. x .from), e (λ x. x .to), e (λ x. x .subject), length-append (s .flight) (m ∷ []))
+
+  -- the next number
+  abbrev pub numberPuts : List Change
+  numberPuts = put nextNumber 0 (s .next + 1) ∷ []
+
+  number-admit : AdmitAll numberPuts (columns p s)
+  unfolding columns columnOf AdmitAll Admit
+  number-admit = (((lit< tt, refl), lit< tt), tt)
+
+  number-columns : columnsAfter numberPuts (columns p s) ≡ columns p (numberTaken s)
+  unfolding columns columnOf columnsAfter onColumns putIn numberTaken
+  number-columns = rw (add-one (s .next))
 
   -- the message at place i out, and those after it down
   abbrev pub takePuts : ℕ → List Change
@@ -121,6 +145,40 @@ module _ (p : Plan) (s : State) where
       let e : (g : InFlight → ℕ) → map g (without i (s .flight)) ≡ without i (map g (s .flight)) = λ g. map-without g i (s .flight) in
       let l : length (without i (s .flight)) ≡ length (s .flight) - 1 = omega (arith, length-without i (s .flight) h) in
       rw (e (λ x. x .number), e (λ x. x .due), e (λ x. x .kind), e (λ x. x .from), e (λ x. x .to), e (λ x. x .subject), l)
+
+  -- no message left in flight
+  abbrev clearPuts : List Change
+  clearPuts =
+      let n : ℕ = length (s .flight) in
+      clear messageNumbers n ∷ clear messageDues n ∷ clear messageKinds n ∷ clear messageSenders n ∷ clear messageReceivers n
+      ∷ clear messageSubjects n ∷ put messageCount 0 0 ∷ []
+
+  clear-admit : AdmitAll clearPuts (columns p s)
+  unfolding columns columnOf AdmitAll Admit onColumns putIn clearIn
+  clear-admit =
+      let n : (g : InFlight → ℕ) → length (s .flight) ≡ length (map g (s .flight)) = λ g. sym (length-map (s .flight) g) in (
+        ((lit< tt, refl), n (λ x. x .number)),
+        (
+          ((lit< tt, refl), n (λ x. x .due)),
+          (
+            ((lit< tt, refl), n (λ x. x .kind)),
+            (
+              ((lit< tt, refl), n (λ x. x .from)),
+              (
+                ((lit< tt, refl), n (λ x. x .to)),
+                (
+                  ((lit< tt, refl), n (λ x. x .subject)),
+                  (((lit< tt, refl), lit< tt), tt),
+                ),
+              ),
+            ),
+          ),
+        ),
+      )
+
+  clear-columns : columnsAfter clearPuts (columns p s) ≡ columns p (withFlight s [])
+  unfolding columns columnOf columnsAfter onColumns putIn clearIn withFlight
+  clear-columns = refl
 
   -- ---- of a plan and a state that a store can hold
 
@@ -158,17 +216,22 @@ module _ (p : Plan) (s : State) where
         fits-after (nodePuts i a) (withNode s i a) (node-admit i a h) (k .emitter, (k .observer, (k .watch, (k .heartbeat, (k .list, tt)))))
         (node-columns i a) (length-set (s .nodes) i a)
 
-    pub send-bytes : (kind from to subject due : ℕ) → length (s .flight) < mostInFlight
-        → bytesAfter (sendPuts kind from to subject due) (encode p s) ≡ encode p (sent s kind from to subject due)
-    send-bytes kind from to subject due h =
-        after (sendPuts kind from to subject due) (sent s kind from to subject due) (send-admit kind from to subject due h) (send-columns kind from to subject due)
+    pub message-bytes : (m : InFlight) → length (s .flight) < mostInFlight → bytesAfter (messagePuts m) (encode p s) ≡ encode p (withMessage s m)
+    message-bytes m h = after (messagePuts m) (withMessage s m) (message-admit m h) (message-columns m)
 
-    pub send-fits : (kind from to subject due : ℕ) → length (s .flight) < mostInFlight → s .next + 1 < 256 ^ 8 → kind < 256 → from < 256 → to < 256 → subject < 256 → due < 256 ^ 4
-        → Fits p (sent s kind from to subject due)
-    unfolding sent AllSmall Small
-    send-fits kind from to subject due h n k1 k2 k3 k4 k5 =
-        fits-after (sendPuts kind from to subject due) (sent s kind from to subject due) (send-admit kind from to subject due h)
-        (omega arith, (k5, (k1, (k2, (k3, (k4, (n, (omega arith, tt)))))))) (send-columns kind from to subject due) refl
+    pub message-fits : (m : InFlight) → length (s .flight) < mostInFlight → m .number < 256 ^ 8
+        → m .kind < 256 → m .from < 256 → m .to < 256 → m .subject < 256 → m .due < 256 ^ 4
+        → Fits p (withMessage s m)
+    unfolding withFlight AllSmall Small
+    message-fits m h n k1 k2 k3 k4 k5 =
+        fits-after (messagePuts m) (withMessage s m) (message-admit m h) (n, (k5, (k1, (k2, (k3, (k4, (omega arith, tt))))))) (message-columns m) refl
+
+    pub number-bytes : bytesAfter numberPuts (encode p s) ≡ encode p (numberTaken s)
+    number-bytes = after numberPuts (numberTaken s) number-admit number-columns
+
+    pub number-fits : s .next + 1 < 256 ^ 8 → Fits p (numberTaken s)
+    unfolding numberTaken AllSmall Small
+    number-fits h = fits-after numberPuts (numberTaken s) number-admit (h, tt) number-columns refl
 
     pub take-bytes : (i : ℕ) → i < length (s .flight) → bytesAfter (takePuts i) (encode p s) ≡ encode p (withoutMessage s i)
     take-bytes i h = after (takePuts i) (withoutMessage s i) (take-admit i h) (take-columns i h)
@@ -177,6 +240,9 @@ module _ (p : Plan) (s : State) where
     unfolding withoutMessage AllSmall Small
     take-fits i h =
         fits-after (takePuts i) (withoutMessage s i) (take-admit i h) (tt, (tt, (tt, (tt, (tt, (tt, (omega arith, tt))))))) (take-columns i h) refl
+
+    clear-bytes : bytesAfter clearPuts (encode p s) ≡ encode p (withFlight s [])
+    clear-bytes = after clearPuts (withFlight s []) clear-admit clear-columns
 
 -- ---- the same of a store's bytes, as the code puts its numbers
 
@@ -203,15 +269,25 @@ module _ (b : List ℕ) (v : Held b) where
   unfolding putNode bytesAfter onBytes
   put-node i a h = of-held (nodePuts p s i a) (withNode s i a) (node-bytes p s (v .fits) i a (rw (v .fits .nodes) h))
 
-  pub put-send : (kind from to subject due n number : ℕ) → n ≡ length (s .flight) → number ≡ s .next → n < mostInFlight
-      → cellPut (cellPut (cellPut (cellPut (cellPut (cellPut (cellPut (cellPut b messageNumbers n number) messageDues n due) messageKinds n kind) messageSenders n from) messageReceivers n to) messageSubjects n subject) nextNumber 0 (number + 1)) messageCount 0 (n + 1)
-      ≡ encode p (sent s kind from to subject due)
-  unfolding bytesAfter onBytes
-  put-send kind from to subject due n number e k h =
-      rw (e, k) (of-held (sendPuts p s kind from to subject due) (sent s kind from to subject due) (send-bytes p s (v .fits) kind from to subject due (rw (← e) h)))
-
   pub put-take : (i n : ℕ) → n ≡ length (s .flight) → i < n
       → cellPut (cellOut (cellOut (cellOut (cellOut (cellOut (cellOut b messageNumbers i n) messageDues i n) messageKinds i n) messageSenders i n) messageReceivers i n) messageSubjects i n) messageCount 0 (n - 1)
       ≡ encode p (withoutMessage s i)
   unfolding bytesAfter onBytes
   put-take i n e h = rw e (of-held (takePuts p s i) (withoutMessage s i) (take-bytes p s (v .fits) i (rw (← e) h)))
+
+  pub put-message : (m : InFlight) (n : ℕ) → n ≡ length (s .flight) → n < mostInFlight
+      → cellPut (cellPut (cellPut (cellPut (cellPut (cellPut (cellPut b messageNumbers n (m .number))
+      messageDues n (m .due)) messageKinds n (m .kind)) messageSenders n (m .from))
+      messageReceivers n (m .to)) messageSubjects n (m .subject)) messageCount 0 (n + 1)
+      ≡ encode p (withMessage s m)
+  unfolding bytesAfter onBytes
+  put-message m n e h = rw e (of-held (messagePuts p s m) (withMessage s m) (message-bytes p s (v .fits) m (rw (← e) h)))
+
+  pub put-clear : (n : ℕ) → n ≡ length (s .flight)
+      → cellPut (routesCleared (timesCleared b n) n) messageCount 0 0 ≡ encode p (withFlight s [])
+  unfolding bytesAfter onBytes
+  put-clear n e = rw e (of-held (clearPuts p s) (withFlight s []) (clear-bytes p s (v .fits)))
+
+  pub put-number : putAt b (nextNumber .at) 8 (s .next + 1) ≡ encode p (numberTaken s)
+  unfolding bytesAfter onBytes
+  put-number = of-held (numberPuts p s) (numberTaken s) (number-bytes p s (v .fits))

@@ -6,7 +6,7 @@ use Prim.Native.Nat.{ℕ, _+_, _-_, _*_, _^_, _<_, _≤_}
 use lib.Dec.{eqb, leb}
 use lib.ListN.{length, getD, replicate}
 use lib.Seq.{slice}
-use Rattle.fields.specs.Fields.{bytes, fieldAt, putAt, zeros}
+use Rattle.fields.specs.Fields.{bytes, fieldAt, putAt, cleared, zeros}
 use Rattle.store.specs.Gap.{closed}
 
 -- a field: where its column starts, how many bytes a number has, and for how many numbers there is room
@@ -49,6 +49,10 @@ cellPut s f i x = putAt s (f .at + f .width * i) (f .width) x
 
 abbrev pub cellOut : List ℕ → Field → ℕ → ℕ → List ℕ
 cellOut s f i n = closed s (f .at + f .width * i) (f .width) (f .at + f .width * n)
+
+-- zeros in place of the first n numbers of a field
+abbrev pub fieldCleared : List ℕ → Field → ℕ → List ℕ
+fieldCleared s f n = cleared s (f .at) (f .at + f .width * n)
 
 -- numbers of w bytes, one after another
 unfoldable pub packs : ℕ → List ℕ → List ℕ

@@ -10,7 +10,7 @@ use Rattle.ring.specs.Ring.{numbers}
 use Rattle.node.specs.declared.Node.{Node}
 use Rattle.runfile.specs.Plan.{Plan, Crash, Delay, planTest}
 use Rattle.model.specs.Platform.{State, InFlight, without}
-use Rattle.store.specs.Columns.{AllFit, restZero}
+use Rattle.store.specs.Columns.{AllFit, fieldCleared, restZero}
 use Rattle.store.specs.Store.{storeSize, columns, encode, planIn, stateIn, emitters, observers, watches, heartbeats, deadLists, crashTicks, crashNodes, delayNumbers, delayTicks, messageNumbers, messageDues, messageKinds, messageSenders, messageReceivers, messageSubjects}
 use Rattle.store.specs.declared.CrashRow.{CrashRow}
 use Rattle.store.specs.declared.DelayRow.{DelayRow}
@@ -67,15 +67,27 @@ crashed s = record { done = suc (s .done); last = s .last; next = s .next; nodes
 unfoldable pub withoutMessage : State → ℕ → State
 withoutMessage s i = record { done = s .done; last = s .last; next = s .next; nodes = s .nodes; flight = without i (s .flight) }
 
--- one message more is in flight, with the next number
-unfoldable pub sent : State → ℕ → ℕ → ℕ → ℕ → ℕ → State
-sent s kind from to subject due = record {
-  done = s .done;
-  last = s .last;
-  next = suc (s .next);
-  nodes = s .nodes;
-  flight = s .flight ++ (record { number = s .next; kind = kind; from = from; to = to; subject = subject; due = due } ∷ []);
-}
+-- other messages are in flight
+unfoldable pub withFlight : State → List InFlight → State
+withFlight s ms = record { done = s .done; last = s .last; next = s .next; nodes = s .nodes; flight = ms }
+
+-- one message more is in flight, after the last
+abbrev pub withMessage : State → InFlight → State
+withMessage s m = withFlight s (s .flight ++ (m ∷ []))
+
+-- the next number is given away
+unfoldable pub numberTaken : State → State
+numberTaken s = record { done = s .done; last = s .last; next = suc (s .next); nodes = s .nodes; flight = s .flight }
+
+-- ---- the messages in flight cleared away
+
+-- of n messages, the numbers and dues; the kinds, senders, receivers and subjects
+abbrev pub timesCleared : List ℕ → ℕ → List ℕ
+timesCleared b n = fieldCleared (fieldCleared b messageNumbers n) messageDues n
+
+abbrev pub routesCleared : List ℕ → ℕ → List ℕ
+routesCleared b n =
+    fieldCleared (fieldCleared (fieldCleared (fieldCleared b messageKinds n) messageSenders n) messageReceivers n) messageSubjects n
 
 -- ---- rows as the code answers them
 

@@ -2,16 +2,17 @@
 use crate::Flight;
 use crate::cells;
 use crate::layout;
-use crate::plan;
+ghost use mathlib.Core.List.{[]};
 ghost use mathlib.Core.Path.{_≡_};
-ghost use Prim.Native.Nat.{_+_, _*_, _^_, _<_, _≤_};
+ghost use Prim.Native.Nat.{_+_, _*_, _<_, _≤_};
 ghost use lib.ListN.{length};
 ghost use Rattle.ring.specs.Limits.{mostInFlight};
+ghost use Rattle.fields.specs.Fields.{cleared};
 ghost use Rattle.model.specs.Platform.{messageAt};
 ghost use Rattle.store.specs.Columns.{cellPut, cellOut};
 ghost use Rattle.store.specs.Gap.{moved, closed};
 ghost use Rattle.store.specs.Store.{storeSize, encode, planIn, stateIn, messageNumbers, messageDues, messageKinds, messageSenders, messageReceivers, messageSubjects};
-ghost use Rattle.store.specs.Inside.{Sized, Held, flying, withoutMessage, sent};
+ghost use Rattle.store.specs.Inside.{Sized, Held, flying, withoutMessage, withFlight, withMessage, messageOf, timesCleared, routesCleared};
 
 // How many messages are in flight.
 pub fn message_count(s: &[u8]) -> usize
@@ -129,16 +130,53 @@ fn put_route(s: &mut [u8], n: usize, kind: u8, from: u8, to: u8, subject: u8)
     fields::put(s, layout::MESSAGE_SUBJECTS + 1 * n, 1, subject as u64);
 }
 
-// A message is put after the last, with the next number.
-pub fn send(s: &mut [u8], kind: u8, from: u8, to: u8, subject: u8, due: u32)
+// A message is put after the last, with its own number.
+pub fn put_message(s: &mut [u8], m: Flight)
     requires { ⌜ Held (now s) ⌝ }
-    requires { ⌜ (length (stateIn (now s) .flight) < mostInFlight) × (stateIn (now s) .next + 1 < 256 ^ 8) ⌝ }
-    ensures { λ _. ⌜ now (s .exit) ≡ encode (planIn (now (s .entry))) (sent (stateIn (now (s .entry))) kind from to subject due) ⌝ }
+    requires { ⌜ length (stateIn (now s) .flight) < mostInFlight ⌝ }
+    ensures { λ _. ⌜ now (s .exit) ≡ encode (planIn (now (s .entry))) (withMessage (stateIn (now (s .entry))) (messageOf m)) ⌝ }
 {
     let n = message_count(s);
-    let number = plan::next_number(s);
-    put_times(s, n, number, due);
-    put_route(s, n, kind, from, to, subject);
-    fields::put(s, layout::NEXT_NUMBER, 8, number + 1);
+    put_times(s, n, m.number, m.due);
+    put_route(s, n, m.kind, m.from, m.to, m.subject);
     fields::put(s, layout::MESSAGE_COUNT, 2, (n + 1) as u64);
+}
+
+// Zeros in place of n numbers of w bytes from `at` on.
+fn clear_field(s: &mut [u8], at: usize, w: usize, n: usize)
+    requires { ⌜ (n ≤ mostInFlight) × (w ≤ 8) × (at + w * n ≤ length (now s)) × (length (now s) ≡ storeSize) ⌝ }
+    ensures { λ _. ⌜ now (s .exit) ≡ cleared (now (s .entry)) at (at + w * n) ⌝ }
+{
+    fields::clear(s, at, at + w * n);
+}
+
+// The numbers and dues of n messages are cleared away.
+fn clear_times(s: &mut [u8], n: usize)
+    requires { ⌜ (n ≤ mostInFlight) × (length (now s) ≡ storeSize) ⌝ }
+    ensures { λ _. ⌜ now (s .exit) ≡ timesCleared (now (s .entry)) n ⌝ }
+{
+    clear_field(s, layout::MESSAGE_NUMBERS, 8, n);
+    clear_field(s, layout::MESSAGE_DUES, 4, n);
+}
+
+// The kinds, senders, receivers and subjects of n messages are cleared away.
+fn clear_routes(s: &mut [u8], n: usize)
+    requires { ⌜ (n ≤ mostInFlight) × (length (now s) ≡ storeSize) ⌝ }
+    ensures { λ _. ⌜ now (s .exit) ≡ routesCleared (now (s .entry)) n ⌝ }
+{
+    clear_field(s, layout::MESSAGE_KINDS, 1, n);
+    clear_field(s, layout::MESSAGE_SENDERS, 1, n);
+    clear_field(s, layout::MESSAGE_RECEIVERS, 1, n);
+    clear_field(s, layout::MESSAGE_SUBJECTS, 1, n);
+}
+
+// All messages are cleared away: none is in flight.
+pub fn clear_messages(s: &mut [u8])
+    requires { ⌜ Held (now s) ⌝ }
+    ensures { λ _. ⌜ now (s .exit) ≡ encode (planIn (now (s .entry))) (withFlight (stateIn (now (s .entry))) []) ⌝ }
+{
+    let n = message_count(s);
+    clear_times(s, n);
+    clear_routes(s, n);
+    fields::put(s, layout::MESSAGE_COUNT, 2, 0);
 }

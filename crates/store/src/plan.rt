@@ -4,14 +4,14 @@ use crate::DelayRow;
 use crate::cells;
 use crate::layout;
 ghost use mathlib.Core.Path.{_≡_};
-ghost use Prim.Native.Nat.{_<_, _≤_};
+ghost use Prim.Native.Nat.{_+_, _^_, _<_, _≤_};
 ghost use lib.ListN.{length};
 ghost use mathlib.Core.Bool.{true};
 ghost use Rattle.runfile.specs.Plan.{planTest, delayOrder};
 ghost use Rattle.model.specs.Platform.{crashedList, delayOf};
 ghost use Rattle.model.specs.Range.{rowAt};
 ghost use Rattle.store.specs.Store.{storeSize, encode, planIn, stateIn};
-ghost use Rattle.store.specs.Inside.{Sized, Held, FirstRow, crashRow, delayAt, delayRow, withTick, crashed};
+ghost use Rattle.store.specs.Inside.{Sized, Held, FirstRow, crashRow, delayAt, delayRow, withTick, crashed, numberTaken};
 
 // N: how many nodes.
 pub fn node_count(s: &[u8]) -> usize
@@ -191,4 +191,14 @@ pub fn crash_done(s: &mut [u8])
 {
     let done = crashes_done(s) as u64;
     fields::put(s, layout::CRASHES_DONE, 1, done + 1);
+}
+
+// The next message number is given away.
+pub fn number_taken(s: &mut [u8])
+    requires { ⌜ Held (now s) ⌝ }
+    requires { ⌜ stateIn (now s) .next + 1 < 256 ^ 8 ⌝ }
+    ensures { λ _. ⌜ now (s .exit) ≡ encode (planIn (now (s .entry))) (numberTaken (stateIn (now (s .entry)))) ⌝ }
+{
+    let number = next_number(s);
+    fields::put(s, layout::NEXT_NUMBER, 8, number + 1);
 }

@@ -1,5 +1,6 @@
 -- `event::do_event` meets its contract. Assumes nothing.
-use Rattle.event.proofs.Doing.{next-crash, next-message, next-watch, next-heartbeat, next-nothing, ended-answer}
+use Rattle.event.proofs.Readiness.{ready-acting}
+use Rattle.event.proofs.Doing.{next-crash, next-message, next-watch, next-heartbeat, next-nothing, ended-answer, last-of}
 use borrow.Author.Needs.{needs}
 use Rattle.event.proofs.do_event.Statement.{statement}
 use Rattle.event.proofs.do_event.Tie as tie
@@ -11,31 +12,42 @@ enum-known-t : tie.Need-enum-known-t
 enum-known-t c = search needs
 
 do-crash-requires : tie.Need-do-crash-requires
-do-crash-requires c κs = (c .before .before .before .before .before .before .before .pre, next-crash _ _ (c .before .before .before .before .next-event .ensures) _ _ (c .before .before .t .given .1))
+do-crash-requires c κs =
+    let n = c .before .before .before .before .next-event in
+    (c .before .before .before .before .before .before .before .pre, next-crash _ _ (n .ensures) _ _ (c .before .before .t .given .1))
 
 enum-known-t-2 : tie.Need-enum-known-t-2
 enum-known-t-2 c = search needs
 
 do-message-requires : tie.Need-do-message-requires
-do-message-requires c κs = (c .before .before .before .before .before .before .before .pre, next-message _ _ (c .before .before .before .before .next-event .ensures) _ _ (c .before .before .t2 .given .1))
+do-message-requires c κs =
+    let n = c .before .before .before .before .next-event in
+    (c .before .before .before .before .before .before .before .pre, next-message _ _ (n .ensures) _ _ (c .before .before .t2 .given .1))
 
 enum-known-t-3 : tie.Need-enum-known-t-3
 enum-known-t-3 c = search needs
 
 do-watch-requires : tie.Need-do-watch-requires
-do-watch-requires c κs = (c .before .before .before .before .before .before .before .pre, next-watch _ _ (c .before .before .before .before .next-event .ensures) _ _ (c .before .before .t3 .given .1))
+do-watch-requires c κs =
+    let n = c .before .before .before .before .next-event in
+    (c .before .before .before .before .before .before .before .pre, next-watch _ _ (n .ensures) _ _ (c .before .before .t3 .given .1))
 
 enum-known-t-4 : tie.Need-enum-known-t-4
 enum-known-t-4 c = search needs
 
 do-heartbeat-requires : tie.Need-do-heartbeat-requires
-do-heartbeat-requires c κs = (c .before .before .before .before .before .before .before .pre, next-heartbeat _ _ (c .before .before .before .before .next-event .ensures) _ _ (c .before .before .t4 .given .1))
+do-heartbeat-requires c κs =
+    let n = c .before .before .before .before .next-event in
+    (c .before .before .before .before .before .before .before .pre, next-heartbeat _ _ (n .ensures) _ _ (c .before .before .t4 .given .1))
 
 enum-told : tie.Need-enum-told
 enum-told c = search needs
 
+message-count-requires : tie.Need-message-count-requires
+message-count-requires c κs = search needs
+
 last-line-requires : tie.Need-last-line-requires
-last-line-requires c κs = search needs
+last-line-requires c κs = ready-acting _ (c .before .before .before .before .before .before .before .pre)
 
 same-length : tie.Need-same-length
 same-length c = search needs
@@ -65,7 +77,10 @@ same-length-5 : tie.Need-same-length-5
 same-length-5 c = search needs
 
 returns-5 : tie.Need-returns-5
-returns-5 c = ended-answer _ _ _ (c .before .before .before .before .before .before .before .pre .held .canonical) (next-nothing _ _ (c .before .before .before .before .next-event .ensures) (c .before .before .enum-told .given .1)) _ (c .last-line .ensures)
+returns-5 c =
+    let z = c .before .before .before .before .before .before .before .before in
+    let none = next-nothing _ _ (c .before .before .before .before .before .next-event .ensures) (c .before .before .before .enum-told .given .1) in
+    ended-answer _ _ _ (z .pre .held .canonical) none _ (last-of _ _ (c .before .message-count .ensures) _ (c .last-line .ensures))
 
 pub do-event-spec : {M : Type 1} → statement M
 do-event-spec =
@@ -81,6 +96,7 @@ do-event-spec =
     enum-known-t-4
     do-heartbeat-requires
     enum-told
+    message-count-requires
     last-line-requires
     same-length
     returns

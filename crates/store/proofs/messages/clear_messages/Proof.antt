@@ -1,0 +1,39 @@
+-- `store::messages::clear_messages` meets its contract. Assumes nothing.
+use Rattle.store.proofs.States.{put-clear}
+use borrow.Author.Needs.{needs}
+use Rattle.store.proofs.messages.clear_messages.Statement.{statement}
+use Rattle.store.proofs.messages.clear_messages.Tie as tie
+
+message-count-requires : tie.Need-message-count-requires
+message-count-requires c κs = search needs
+
+clear-times-requires : tie.Need-clear-times-requires
+clear-times-requires c κs = search needs
+
+clear-routes-requires : tie.Need-clear-routes-requires
+clear-routes-requires c κs = search needs
+
+put-requires : tie.Need-put-requires
+put-requires c κs = search needs
+
+same-length : tie.Need-same-length
+same-length c = search needs
+
+returns : tie.Need-returns
+returns c =
+    let r = c .before .before .before .before .before .before in
+    let t = r .before .before .before .before in
+    let n = t .before .before .message-count in
+    rw (c .before .before .put .ensures, r .clear-routes .ensures, t .clear-times .ensures)
+    (put-clear _ (t .before .before .before .before .before .pre) _ (n .ensures))
+
+pub clear-messages-spec : {M : Type 1} → statement M
+clear-messages-spec =
+    tie.close
+    (tie.spec
+    message-count-requires
+    clear-times-requires
+    clear-routes-requires
+    put-requires
+    same-length
+    returns)
