@@ -316,6 +316,7 @@ uint64_t kelbraut_step(uint8_t *store, size_t store_size, uint8_t *log, size_t l
  * many it did. `spent` becomes 1 where that is the budget and another event remains, and 0 where none is left. On 7 both
  * stay. On 8 `events` becomes how many it did before the refused event, `spent` stays, and the store is as just before that
  * event. A call tests the whole store first, so that one run is far quicker than as many steps.
+ * While it runs it keeps the messages in flight in a queue on the stack: a thread that calls it needs 256 KiB of stack.
  * Answers 0, 7 or 8.
  */
 uint64_t kelbraut_run(uint8_t *store, size_t store_size, uint64_t budget, uint64_t *events, uint64_t *spent);

@@ -2,7 +2,7 @@
 //!
 //! As a module: `file(seed, index)` gives the bytes of one file, `small_file(seed, index)` one of few
 //! events, `plan(seed, index)` an undamaged one, `spaced_plan(seed, index)` one whose crashes are all
-//! spaced by S.
+//! spaced by S; `crowd(order)` is a plan that brings 2,048 messages into flight, due in that order.
 //! As a program: `generate SEED COUNT DIR` writes DIR/SEED-INDEX.run for each index below COUNT,
 //! `generate one SEED INDEX` writes that file to standard output; `generate small ..` does the same with
 //! files of few events. A file depends on its seed and index alone.
@@ -128,6 +128,41 @@ pub fn spaced_plan(seed: u64, index: u64) -> Vec<u8> {
     draft.bytes()
 }
 
+/// How the due ticks of messages go with their numbers.
+#[derive(Clone, Copy, PartialEq, Eq, Debug)]
+pub enum Order {
+    Rising,
+    Falling,
+    Mixed,
+}
+
+pub const ORDERS: [Order; 3] = [Order::Rising, Order::Falling, Order::Mixed];
+
+/// Messages of a crowd: 64 a tick.
+pub const CROWD: u64 = 2_048;
+
+/// 64 nodes that send a heartbeat each tick, 2,048 of them up to tick 32. These are due from tick 40 to 240, in this order.
+/// All nodes crash at tick 33.
+pub fn crowd(order: Order) -> Draft {
+    let delay_of = |number: u64| {
+        let place = match order {
+            Order::Rising => number,
+            Order::Falling => CROWD - 1 - number,
+            Order::Mixed => number * 1_031 % CROWD,
+        };
+        40 + place * 200 / (CROWD - 1) - (1 + number / 64)
+    };
+    Draft {
+        nodes: 64,
+        period: 1,
+        timeout: 256,
+        delay: 255,
+        end: 600,
+        crashes: (0..64).map(|node| (33, node)).collect(),
+        delays: (0..CROWD).map(|number| (number, delay_of(number))).collect(),
+    }
+}
+
 fn draft(random: &mut Random, size: Size) -> Draft {
     if random.chance(8) && size.crowded {
         return crowded_draft(random);
@@ -184,7 +219,7 @@ fn crowded_draft(random: &mut Random) -> Draft {
 }
 
 /// Keeps the rows that a file may hold: up to the end tick, rising, no node twice.
-fn put_crashes(draft: &mut Draft, mut rows: Vec<(u64, u64)>) {
+pub fn put_crashes(draft: &mut Draft, mut rows: Vec<(u64, u64)>) {
     let mut seen = vec![false; draft.nodes as usize];
     let end = draft.end;
     rows.retain(|(tick, node)| *tick <= end && !std::mem::replace(&mut seen[*node as usize], true));

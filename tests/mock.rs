@@ -37,11 +37,13 @@ pub enum Mistake {
     WriterClearsTheRest,
     WriterTakesShortPart,
     SizeOfRefusedFile,
+    ElevenForTwelve,
+    LeftByDueTick,
 }
 
 use Mistake::*;
 
-pub const MISTAKES: [Mistake; 26] = [
+pub const MISTAKES: [Mistake; 28] = [
     EveryFileRefused,
     LineNotCounted,
     LineBeforeNumber,
@@ -68,6 +70,8 @@ pub const MISTAKES: [Mistake; 26] = [
     WriterClearsTheRest,
     WriterTakesShortPart,
     SizeOfRefusedFile,
+    ElevenForTwelve,
+    LeftByDueTick,
 ];
 
 static MADE: AtomicUsize = AtomicUsize::new(0);
@@ -124,6 +128,7 @@ fn call(call: Call, store: &mut [u8], part: &mut [u8]) -> Answer {
     let before = store.to_vec();
     let (call, rest) = match call {
         Call::Run { budget } if is_made(RunDoesOneEvent) && budget > 1 => (Call::Run { budget: 1 }, budget - 1),
+        Call::Run { budget: 12 } if is_made(ElevenForTwelve) => (Call::Run { budget: 11 }, 1),
         _ => (call, 0),
     };
     let mut answer = if part.len() == LINE_BYTES - 1 && call == Call::Step && is_made(StepTakesShortLog)
@@ -142,6 +147,15 @@ fn call(call: Call, store: &mut [u8], part: &mut [u8]) -> Answer {
     answer[1] += if answer[0] == 0 && answer[2] == 1 { rest } else { 0 };
     spoil(call, &mut answer, &before, store, part);
     answer
+}
+
+/// Puts the first two messages in the order of their due ticks, as far as numbers and ticks go.
+fn swap_by_due(store: &mut [u8]) {
+    let [first, second] = [28_736, 28_740].map(|place| number(&store[place..]));
+    if first > second && second > 0 {
+        store[12_352..12_368].rotate_left(8);
+        store[28_736..28_744].rotate_left(4);
+    }
 }
 
 /// What is wrong after the call.
@@ -169,6 +183,7 @@ fn spoil(call: Call, answer: &mut Answer, before: &[u8], store: &mut [u8], part:
         (Call::Run { .. }, 7) if is_made(EventsOfRefusedStore) => answer[1] = 0,
         (Call::Run { .. }, 8) if is_made(EventsBeforeNotTold) => *answer = refused(REFUSED_EVENT),
         (Call::Run { .. }, 8) if is_made(SpentOfRefusedEvent) => answer[2] = 0,
+        (Call::Run { budget }, 0) if is_made(LeftByDueTick) && budget >= 12 => swap_by_due(store),
         (Call::Write, 0) if is_made(WriterClearsTheRest) => part[answer[1] as usize..].fill(0),
         (Call::Write, 7 | 9) if is_made(SizeOfRefusedFile) => answer[1] = 0,
         _ => {}

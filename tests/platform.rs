@@ -1,7 +1,7 @@
 //! The platform's four calls through the static library, beside the simulator: opening, step, run and the run-file writer.
 //! Every call must give the same answer and leave the same lent bytes and the same numbers behind its pointers: on files good and
-//! damaged, on steps and runs mixed at random, on stores of which every single byte is changed in turn, on lent stores that no
-//! file leads to, and on 01's edges.
+//! damaged, on steps and runs mixed at random, on runs of any budget from any place of a file, on stores of which every single byte is
+//! changed in turn, on lent stores that no file leads to, and on 01's edges.
 //!
 //! Usage: platform [SEED [COUNT]]. A difference prints its seed and index, the call and the file, and the program fails.
 //!
@@ -14,6 +14,7 @@ mod calls;
 mod generate;
 #[cfg(mock)]
 mod mock;
+mod runs;
 mod stores;
 
 use calls::{answer, opening, proved, refused, simulated, Answer, Call};
@@ -86,6 +87,7 @@ struct Seen {
     numbers: [u64; 10],
     spent: u64,
     done: u64,
+    met: runs::Met,
 }
 
 fn same<T: PartialEq + std::fmt::Debug>(what: &str, answer: T, wanted: T) -> Result<(), String> {
@@ -151,10 +153,10 @@ fn shown(file: &[u8]) -> String {
 
 fn some_call(random: &mut Random) -> (Call, usize) {
     let (few, any, more) = (random.range(0, 12), random.range(0, 100), random.range(0, 400));
-    let huge = random.pick(&[more, more, 1 << 32, u64::MAX]);
+    let (huge, edge) = (random.pick(&[more, more, 1 << 32, u64::MAX]), random.pick(&runs::BUDGETS));
     match random.range(0, 9) {
         0..=4 => (Call::Step, random.pick(&[39, 40, 40, 40, 41, 34 + few, any]) as usize),
-        5..=8 => (Call::Run { budget: random.pick(&[0, 1, 2, few, few, more, huge]) }, 0),
+        5..=8 => (Call::Run { budget: random.pick(&[edge, edge, few, few, more, huge]) }, 0),
         _ => (Call::Write, random.pick(&[FILE_BYTES, FILE_BYTES, FILE_BYTES + 1, 70_000, FILE_BYTES - 1, 0])),
     }
 }
@@ -186,9 +188,14 @@ fn sequence(seen: &mut Seen, file: &[u8], random: &mut Random) -> Result<(), Str
 
 // ---- lent stores
 
+/// The simulator's platform, opened from a file that is accepted.
+fn platform_of(file: &[u8]) -> Platform {
+    Platform::open(plan::read(file).expect("the file is accepted"))
+}
+
 /// The store of a plan after some of its events.
 fn reached(file: &[u8], events: u64) -> Vec<u8> {
-    let mut platform = Platform::open(plan::read(file).expect("the file is accepted"));
+    let mut platform = platform_of(file);
     platform.run(events);
     store::encode(&platform)
 }
@@ -288,15 +295,15 @@ fn changed_bytes(seen: &mut Seen) -> Result<(), String> {
 // ---- 01's edges
 
 /// A store opened from the file, and what it holds.
-fn opened(seen: &mut Seen, file: &str) -> Result<(Lent, Option<Held>), String> {
+fn opened(seen: &mut Seen, file: &[u8]) -> Result<(Lent, Option<Held>), String> {
     let mut store = Lent::filled(STORE_BYTES);
-    let held = seen.open(file.as_bytes(), &mut store)?;
+    let held = seen.open(file, &mut store)?;
     Ok((store, held))
 }
 
 /// Opens the file and makes the calls one after another, each with this answer. The steps' lines, one after another.
 fn answers(seen: &mut Seen, file: &str, calls: &[(Call, Answer)]) -> Result<String, String> {
-    let (mut store, mut held) = opened(seen, file)?;
+    let (mut store, mut held) = opened(seen, file.as_bytes())?;
     let mut lines = Vec::new();
     for (call, wanted) in calls {
         let room = if *call == Call::Write { FILE_BYTES } else { LINE_BYTES };
@@ -348,8 +355,7 @@ fn refused_files(seen: &mut Seen) -> Result<(), String> {
 fn full_flight(seen: &mut Seen) -> Result<(), String> {
     let all = Call::Run { budget: u64::MAX };
     let (full, over) = ("P,64,1,33,32,200\n", "P,64,1,34,33,200\n");
-    let mut platform = Platform::open(plan::read(full.as_bytes()).expect("the file is accepted"));
-    let events = platform.run(u64::MAX).events;
+    let events = platform_of(full.as_bytes()).run(u64::MAX).events;
     let last = "E,200,64,2048,0000000000000000\n";
     let done = answer(0, &[u64::from(b'E'), 200, 64, 2_048, last.len() as u64]);
     let lines = answers(seen, full, &[(all, ran(events, 0)), (Call::Step, done), (Call::Step, done)])?;
@@ -402,7 +408,7 @@ fn settling(seen: &mut Seen) -> Result<(), String> {
     if settle::settling_time(100, 5, 63) != 140 {
         return Err("S is not 140".to_string());
     }
-    let (mut store, mut held) = opened(seen, "P,64,20,100,5,400\nC,33,9\n")?;
+    let (mut store, mut held) = opened(seen, b"P,64,20,100,5,400\nC,33,9\n")?;
     let mut settled = 0;
     while held.as_mut().is_some_and(|held| held.platform.earliest_due().is_some_and(|due| due <= 33 + 200)) {
         let budget = Call::Run { budget: 25 };
@@ -446,18 +452,19 @@ fn edges(seen: &mut Seen) -> Result<(), String> {
 
 fn all(seen: &mut Seen, seed: u64, count: u64) -> Result<(), String> {
     edges(seen)?;
+    runs::all(seen, seed)?;
     generated(seen, seed, count)?;
     changed_bytes(seen)
 }
 
 /// Every kind of answer has to come up.
 fn summary(seen: &Seen, count: u64) -> Result<(), String> {
-    let Seen { opened, calls, numbers, spent, done } = seen;
+    let Seen { opened, calls, numbers, spent, done, met } = seen;
     println!("platform: {calls} calls agree, {opened} stores opened; answers by number: {numbers:?}; {spent} runs spent, {done} done");
     if count > 0 && (numbers.contains(&0) || *spent == 0 || *done == 0) {
         return Err("an answer never came up".to_string());
     }
-    Ok(())
+    met.summary()
 }
 
 /// Each of the mock's mistakes is found.

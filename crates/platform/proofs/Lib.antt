@@ -7,5 +7,6 @@ pub mod Writing
 pub mod Lines
 pub mod Stepping
 pub mod Running
+pub mod Queued
 pub mod Answers
 pub mod CallLists

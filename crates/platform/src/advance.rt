@@ -1,6 +1,7 @@
 // Events of a store that is ready for them: one with its line, for a step, or a budget of them, for a run.
 use crate::Ran;
 use crate::Stepped;
+use course::Went;
 use event::Happened;
 use event::Next;
 use event::search;
@@ -14,6 +15,7 @@ ghost use Rattle.logline.specs.declared.Written.the-variants.{Bytes};
 ghost use Rattle.ring.specs.Limits.{lineRoom};
 ghost use Rattle.logline.specs.Line.{lineText, writtenOf, outOf};
 ghost use Rattle.event.specs.Ready.{Ready};
+ghost use Rattle.queue.specs.Rows.{size};
 ghost use Rattle.platform.specs.Calls.{stepNext, runNext};
 
 // Puts a line that the log writer takes at the start of a log part. Answers its length.
@@ -43,8 +45,8 @@ pub fn step_ready(store: &mut [u8], log: &mut [u8]) -> Stepped
     }
 }
 
-// Events up to a budget, to the last one or to one that is refused.
-pub fn run_ready(store: &mut [u8], budget: u64) -> Ran
+// Events up to a budget, to the last one or to one that is refused, each found as for a step.
+fn run_searching(store: &mut [u8], budget: u64) -> Ran
     requires { ⌜ Ready (now store) ⌝ }
     ensures { λ r. ⌜ r ≡ runNext (now (store .entry)) budget .answer ⌝ }
     ensures { λ _. ⌜ now (store .exit) ≡ runNext (now (store .entry)) budget .store ⌝ }
@@ -61,4 +63,52 @@ pub fn run_ready(store: &mut [u8], budget: u64) -> Ran
         Next::Nothing => Ran::Done(budget),
         _ => Ran::Spent(budget),
     }
+}
+
+// The same, with the messages in flight in a queue in q.
+fn run_queued(store: &mut [u8], q: &mut [u64], budget: u64) -> Ran
+    requires { ⌜ Ready (now store) ⌝ }
+    requires { ⌜ length (now q) ≡ size ⌝ }
+    ensures { λ r. ⌜ r ≡ runNext (now (store .entry)) budget .answer ⌝ }
+    ensures { λ _. ⌜ now (store .exit) ≡ runNext (now (store .entry)) budget .store ⌝ }
+{
+    let mut c = course::begin(store, q);
+    let mut left = budget;
+    while 0 < left {
+        match course::next(store, q, c) {
+            Went::Did(d, _) => {
+                c = d;
+                left -= 1;
+            }
+            Went::Ended(d, _) => {
+                course::finish(store, q, d);
+                return Ran::Done(budget - left);
+            }
+            Went::Refused(d) => {
+                course::finish(store, q, d);
+                return Ran::Refused(8, budget - left);
+            }
+        }
+    }
+    course::finish(store, q, c);
+    match search::next_event(store) {
+        Next::Nothing => Ran::Done(budget),
+        _ => Ran::Spent(budget),
+    }
+}
+
+// From how many events on a queue is worth filling and giving back.
+const QUEUED: u64 = 12;
+
+// Events up to a budget, to the last one or to one that is refused, in the quicker of the two ways.
+pub fn run_ready(store: &mut [u8], budget: u64) -> Ran
+    requires { ⌜ Ready (now store) ⌝ }
+    ensures { λ r. ⌜ r ≡ runNext (now (store .entry)) budget .answer ⌝ }
+    ensures { λ _. ⌜ now (store .exit) ≡ runNext (now (store .entry)) budget .store ⌝ }
+{
+    if budget < QUEUED {
+        return run_searching(store, budget);
+    }
+    let mut q = [0u64; queue::SIZE];
+    run_queued(store, &mut q, budget)
 }

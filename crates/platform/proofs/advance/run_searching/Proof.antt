@@ -1,12 +1,12 @@
--- `platform::advance::run_ready` meets its contract. Assumes nothing.
+-- `platform::advance::run_searching` meets its contract. Assumes nothing.
 use mathlib.Core.Path.{sym, _∙_}
 use mathlib.Core.List.{[], _∷_}
 use native.Mathlib.Omega.{arith}
 use types.Run.{miss}
 use Rattle.platform.proofs.Running.{Runs, run-starts, run-goes-on, run-ended, run-refused, run-used-done, run-used-spent}
 use borrow.Author.Needs.{needs}
-use Rattle.platform.proofs.advance.run_ready.Statement.{statement}
-use Rattle.platform.proofs.advance.run_ready.Tie as tie
+use Rattle.platform.proofs.advance.run_searching.Statement.{statement}
+use Rattle.platform.proofs.advance.run_searching.Tie as tie
 
 abbrev Inv-loop : tie.InvT-loop
 Inv-loop store₀ budget rest₀ store rest = Runs store₀ budget rest store
@@ -87,8 +87,8 @@ returns-4 c =
     let l = c .before .before .before .before .loop in
     run-used-spent _ _ (l .rest) (l .store) (l .inv) (omega (arith, c .before .before .before .loop-test .left)) (c .before .next-event .ensures) (λ e. miss (0 ∷ 1 ∷ 2 ∷ 3 ∷ []) 4 tt (rw e at (c .match2 .keys2)))
 
-pub run-ready-spec : {M : Type 1} → statement M
-run-ready-spec =
+pub run-searching-spec : {M : Type 1} → statement M
+run-searching-spec =
     tie.close
     (tie.spec
     Inv-loop

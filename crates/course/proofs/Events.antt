@@ -1,0 +1,189 @@
+-- A turn that an event gives a node: what is left stands for the whole store after the event, and the answer is a step's. Assumes nothing.
+use Prim.Native.Nat.{ℕ, _+_, _≤_, _<_}
+use mathlib.Core.Path.{_≡_, refl, sym, ap, ap₂, subst, _∙_}
+use mathlib.Core.List.{List}
+use native.Mathlib.Omega.{arith}
+use lib.ListN.{length, set}
+use Rattle.ring.specs.Limits.{mostInFlight}
+use Rattle.node.specs.declared.Node.{Node}
+use Rattle.node.specs.declared.Turned.{Turned}
+use Rattle.node.specs.Node.{turned, mostSent, onHeartbeatDue, onWatchDue}
+use Rattle.logline.specs.declared.Line.{Line}
+use Rattle.logline.specs.Line.{letterS, letterW}
+use Rattle.runfile.specs.Plan.{Plan}
+use Rattle.model.specs.Platform.{InFlight, State, Entry, Outcome, watch, heartbeat, did, crashedList, nodeOf, taken, apply, left}
+use Rattle.model.specs.Lines.{line}
+use Rattle.store.specs.Store.{encode, planIn, stateIn}
+use Rattle.store.specs.Inside.{withFlight}
+use Rattle.event.specs.declared.Happened.{Happened}
+use Rattle.event.specs.declared.Happened.the-variants.{Did as done, Refused as overfull}
+use Rattle.event.specs.Event.{NextIs, entry, nextOutcome, nextAnswer, storeLeft, turnLeft, turnOf}
+use Rattle.event.proofs.Readiness.{left-ready, left-holds, ready-sound}
+use Rattle.event.proofs.Turning.{turn-did}
+use Rattle.event.proofs.Doing.{beat-place, beat-turns, beat-count, beat-refused, beat-done, watch-place, watch-turns, watch-count, watch-refused, watch-done}
+use Rattle.queue.specs.Rows.{places}
+use Rattle.course.specs.declared.Progress.{Progress}
+use Rattle.course.specs.declared.Step.{Step}
+use Rattle.course.specs.declared.Step.the-variants.{Did, Waits, Ended, Refused}
+use Rattle.course.specs.Apart.{Apart}
+use Rattle.course.specs.Look.{Timers}
+use Rattle.course.specs.Progress.{Underway, Settling, Settled, SettledAs, Taken, TurnedDown, SteppedAs}
+use Rattle.course.proofs.Parting.{apart-plan, apart-node}
+use Rattle.course.proofs.Progressing.{timers-turn}
+
+-- ---- any turn
+
+-- Node x takes the turn u at tick t: `mid` is the whole store as the turn finds it, with the messages `rest` in flight. What a step would
+-- have answered and left is given for both outcomes.
+pub record Given (whole mid : List ℕ) (rest : List InFlight) (t x : ℕ) (u : Turned) (l : Line) : Type 0 where
+  pub plan : planIn mid ≡ planIn whole
+  pub state : stateIn mid ≡ withFlight (stateIn whole) rest
+  pub inside : x < planIn whole .n
+  pub entry : Entry
+  pub outcome : length rest + u .count ≤ mostInFlight → nextOutcome whole ≡ did entry (taken (planIn whole) (stateIn whole) t x rest (turnOf u))
+  pub answer : length rest + u .count ≤ mostInFlight → done l ≡ nextAnswer whole
+  pub full : mostInFlight < length rest + u .count → _≡_ {A = Happened} overfull (nextAnswer whole) × (whole ≡ storeLeft whole)
+
+module _ (b q : List ℕ) (c c₁ : Progress) (whole mid : List ℕ) (k : Underway b q c whole) (rest : List InFlight) (t x : ℕ) (u : Turned) (l : Line)
+    (g : Given whole mid rest t x u l) (ts : Timers (planIn whole) (stateIn whole) (c₁ .bound) (c₁ .x)) (de : c₁ .dead ≡ c .dead) (h : c₁ .x ≤ x) where
+  rest-flight : length (stateIn mid .flight) ≡ length rest
+  unfolding withFlight
+  rest-flight = ap (λ (s : State). length (s .flight)) (g .state)
+
+  abbrev After : State
+  After = taken (planIn whole) (stateIn whole) t x rest (turnOf u)
+
+  mid-left : turnLeft mid t x u ≡ encode (planIn whole) After
+  unfolding taken withFlight
+  mid-left = ap₂ (λ (p : Plan) (s : State). encode p (taken p s t x (s .flight) (turnOf u))) (g .plan) (g .state)
+
+  -- it is taken
+  module _ (d : Progress) (m : Line) (b' q' : List ℕ) (f : Taken c₁ t x u l mid d m b' q') where
+    did-it : nextOutcome whole ≡ did (g .entry) After
+    did-it = g .outcome (omega (arith, f .room, rest-flight))
+
+    left-is : storeLeft whole ≡ encode (planIn whole) After
+    unfolding left
+    left-is = ap (λ (o : Outcome). encode (planIn whole) (left (stateIn whole) o)) did-it
+
+    held : (planIn (storeLeft whole) ≡ planIn whole) × (stateIn (storeLeft whole) ≡ left (stateIn whole) (nextOutcome whole))
+    held = left-holds whole (storeLeft whole) (k .ready) refl
+
+    state : stateIn (storeLeft whole) ≡ After
+    unfolding left
+    state = held .1 ∙ ap (left (stateIn whole)) did-it
+
+    same-done : stateIn (storeLeft whole) .done ≡ stateIn whole .done
+    unfolding taken
+    same-done = ap (λ (s : State). s .done) state
+
+    nodes : stateIn (storeLeft whole) .nodes ≡ set (stateIn whole .nodes) x (u .node)
+    unfolding taken turnOf
+    nodes = ap (λ (s : State). s .nodes) state
+
+    after-timers : Timers (planIn whole) (stateIn (storeLeft whole)) (d .bound) (d .x)
+    after-timers =
+        timers-turn (planIn whole) (stateIn whole) (stateIn (storeLeft whole)) x (u .node) same-done nodes
+        (rw (ready-sound whole (k .ready) .nodes) (g .inside)) c₁ d (u .count) h ts (f .later)
+
+    turn-underway : Underway b' q' d (storeLeft whole)
+    turn-underway = record {
+      ready = left-ready whole (storeLeft whole) (k .ready) refl;
+      apart = subst (Apart b' q' (d .start) (d .end)) (mid-left ∙ sym left-is) (f .apart);
+      dead = f .later .dead ∙ (de ∙ (k .dead ∙ ap₂ crashedList (sym (held .0)) (sym same-done)));
+      timers = subst (λ (p : Plan). Timers p (stateIn (storeLeft whole)) (d .bound) (d .x)) (sym (held .0)) after-timers;
+    }
+
+  -- or refused
+  still-underway : (b' q' : List ℕ) → TurnedDown b q u mid b' q' → Underway b' q' c whole
+  still-underway b' q' f =
+      subst (λ (z : List ℕ). Underway z q' c whole) (sym (f .store)) (subst (λ (z : List ℕ). Underway b z c whole) (sym (f .queue)) k)
+
+  pub turn-stepped : (r : Step) (b' q' : List ℕ) → SettledAs b q c₁ t x u l mid r b' q' → SteppedAs whole c r b' q'
+  unfolding SettledAs SteppedAs
+  turn-stepped (Did d m) b' q' f =
+      (ap done (f .line) ∙ g .answer (omega (arith, f .room, rest-flight)), turn-underway d m b' q' f)
+  turn-stepped (Waits d) b' q' f = absurd f
+  turn-stepped Ended b' q' f = absurd f
+  turn-stepped Refused b' q' f = let z = g .full (omega (arith, f .full, rest-flight)) in (z .0, z .1, still-underway b' q' f)
+
+-- ---- a timer's turn
+
+same-flight : (s : State) → s ≡ withFlight s (s .flight)
+unfolding withFlight
+same-flight s = refl
+
+module _ (b q : List ℕ) (c : Progress) (whole : List ℕ) (k : Underway b q c whole) where
+  -- of a heartbeat that is due
+  module _ (next : NextIs whole (c .bound) (heartbeat (c .x))) (u : Turned)
+      (ue : u ≡ turned (onHeartbeatDue (planIn b .h) (c .bound) (nodeOf (stateIn b) (c .x)))) where
+    beat-is : u ≡ turned (onHeartbeatDue (planIn whole .h) (c .bound) (nodeOf (stateIn whole) (c .x)))
+    beat-is =
+        ue ∙ ap₂ (λ (p : Plan) (n : Node). turned (onHeartbeatDue (p .h) (c .bound) n)) (apart-plan (k .apart)) (apart-node (k .apart) (c .x))
+
+    pub beat-settling : c .end + mostSent ≤ places → Settling b q c (c .bound) (c .x) u
+    beat-settling room = record {
+      whole = whole;
+      apart = k .apart;
+      few = beat-count whole (k .ready) (c .bound) (c .x) next u beat-is;
+      turns = beat-turns whole (k .ready) (c .bound) (c .x) next u beat-is;
+      room = room;
+    }
+
+    module _ (l : Line) (le : l ≡ line letterS (c .bound) (c .x) (nodeOf (stateIn b) (c .x) .observer) (u .node .list)) where
+      line-is : l ≡ line letterS (c .bound) (c .x) (nodeOf (stateIn whole) (c .x) .observer) (u .node .list)
+      line-is = le ∙ ap (λ (n : Node). line letterS (c .bound) (c .x) (n .observer) (u .node .list)) (apart-node (k .apart) (c .x))
+
+      beat-given : Given whole whole (stateIn whole .flight) (c .bound) (c .x) u l
+      unfolding apply
+      beat-given = record {
+        plan = refl;
+        state = same-flight (stateIn whole);
+        inside = beat-place whole (k .ready) (c .bound) (c .x) next;
+        entry = entry (c .bound) (heartbeat (c .x));
+        outcome = turn-did (planIn whole) (stateIn whole) (c .bound) (heartbeat (c .x)) next (c .x) (stateIn whole .flight) u _ beat-is refl;
+        answer = λ room. beat-done whole (k .ready) (c .bound) (c .x) next u beat-is l line-is room .0;
+        full = beat-refused whole (k .ready) (c .bound) (c .x) next u beat-is;
+      }
+
+      pub beat-stepped : (r : Step) (b' q' : List ℕ) → Settled b q c (c .bound) (c .x) u l r b' q' → SteppedAs whole c r b' q'
+      beat-stepped r b' q' s =
+          turn-stepped b q c c whole whole k (stateIn whole .flight) (c .bound) (c .x) u l beat-given (k .timers) refl (omega arith) r b' q'
+          (s whole (k .apart) (beat-turns whole (k .ready) (c .bound) (c .x) next u beat-is))
+
+  -- of a watch that is due
+  module _ (next : NextIs whole (c .bound) (watch (c .x))) (u : Turned)
+      (ue : u ≡ turned (onWatchDue (planIn b .order) (planIn b .w) (c .bound) (c .x) (nodeOf (stateIn b) (c .x)))) where
+    watch-is : u ≡ turned (onWatchDue (planIn whole .order) (planIn whole .w) (c .bound) (c .x) (nodeOf (stateIn whole) (c .x)))
+    watch-is =
+        ue ∙ ap₂ (λ (p : Plan) (n : Node). turned (onWatchDue (p .order) (p .w) (c .bound) (c .x) n)) (apart-plan (k .apart)) (apart-node (k .apart) (c .x))
+
+    pub watch-settling : c .end + mostSent ≤ places → Settling b q c (c .bound) (c .x) u
+    watch-settling room = record {
+      whole = whole;
+      apart = k .apart;
+      few = watch-count whole (k .ready) (c .bound) (c .x) next u watch-is;
+      turns = watch-turns whole (k .ready) (c .bound) (c .x) next u watch-is;
+      room = room;
+    }
+
+    module _ (l : Line) (le : l ≡ line letterW (c .bound) (c .x) (nodeOf (stateIn b) (c .x) .emitter) (u .node .list)) where
+      watch-line-is : l ≡ line letterW (c .bound) (c .x) (nodeOf (stateIn whole) (c .x) .emitter) (u .node .list)
+      watch-line-is = le ∙ ap (λ (n : Node). line letterW (c .bound) (c .x) (n .emitter) (u .node .list)) (apart-node (k .apart) (c .x))
+
+      watch-given : Given whole whole (stateIn whole .flight) (c .bound) (c .x) u l
+      unfolding apply
+      watch-given = record {
+        plan = refl;
+        state = same-flight (stateIn whole);
+        inside = watch-place whole (k .ready) (c .bound) (c .x) next;
+        entry = entry (c .bound) (watch (c .x));
+        outcome = turn-did (planIn whole) (stateIn whole) (c .bound) (watch (c .x)) next (c .x) (stateIn whole .flight) u _ watch-is refl;
+        answer = λ room. watch-done whole (k .ready) (c .bound) (c .x) next u watch-is l watch-line-is room .0;
+        full = watch-refused whole (k .ready) (c .bound) (c .x) next u watch-is;
+      }
+
+      pub watch-stepped : (r : Step) (b' q' : List ℕ) → Settled b q c (c .bound) (c .x) u l r b' q' → SteppedAs whole c r b' q'
+      watch-stepped r b' q' s =
+          turn-stepped b q c c whole whole k (stateIn whole .flight) (c .bound) (c .x) u l watch-given (k .timers) refl (omega arith) r b' q'
+          (s whole (k .apart) (watch-turns whole (k .ready) (c .bound) (c .x) next u watch-is))

@@ -1,0 +1,61 @@
+-- `course::act::do_heartbeat` meets its contract. Assumes nothing.
+use Rattle.event.proofs.Readiness.{ready-accepted}
+use Rattle.event.proofs.Doing.{event-tick, beat-place}
+use Rattle.course.proofs.Parting.{apart-plan, apart-acting}
+use Rattle.course.proofs.Events.{beat-settling, beat-stepped}
+use borrow.Author.Needs.{needs}
+use native.Mathlib.Omega.{arith}
+use Rattle.course.proofs.act.do_heartbeat.Statement.{statement}
+use Rattle.course.proofs.act.do_heartbeat.Tie as tie
+
+heartbeat-turn-requires : tie.Need-heartbeat-turn-requires
+heartbeat-turn-requires c κs =
+    let p = c .before .before .before .pre in
+    let k = p .underway in
+    let x = beat-place (p .whole) (k .ready) _ _ (p .next) in
+    (apart-acting (k .apart) (k .ready), (event-tick (p .whole) (k .ready) _ _ (p .next), rw (apart-plan (k .apart)) x))
+
+heartbeat-line-requires : tie.Need-heartbeat-line-requires
+heartbeat-line-requires c κs =
+    let p = c .before .before .before .before .before .pre in
+    let k = p .underway in
+    (apart-acting (k .apart) (k .ready), rw (apart-plan (k .apart)) (beat-place (p .whole) (k .ready) _ _ (p .next)))
+
+cast-settle : tie.Need-cast-settle
+cast-settle c =
+    let p = c .before .before .before .before .before .before .before .before .pre in
+    let r = p .underway .ready in
+    omega (arith, beat-place (p .whole) r _ _ (p .next), ready-accepted (p .whole) r .plain .n≤)
+
+settle-requires : tie.Need-settle-requires
+settle-requires c κs =
+    let z = c .before .before .before .before .before .before .before .before in
+    let p = z .pre in
+    let u = c .before .before .before .before .heartbeat-turn in
+    beat-settling _ _ (z .args .c) (p .whole) (p .underway) (p .next) (u .result) (u .ensures) (p .room)
+
+same-length : tie.Need-same-length
+same-length c = search needs
+
+same-length-2 : tie.Need-same-length-2
+same-length-2 c = search needs
+
+returns : tie.Need-returns
+returns c =
+    λ whole k next.
+    let z = c .before .before .before .before .before .before .before .before .before .before .before .before .before in
+    let u = c .before .before .before .before .before .before .before .before .before .heartbeat-turn in
+    let l = c .before .before .before .before .before .before .before .heartbeat-line in
+    beat-stepped _ _ (z .args .c) whole k next (u .result) (u .ensures) _ (l .ensures) _ _ _ (c .before .before .before .before .settle .ensures)
+
+pub do-heartbeat-spec : {M : Type 1} → statement M
+do-heartbeat-spec =
+    tie.close
+    (tie.spec
+    heartbeat-turn-requires
+    heartbeat-line-requires
+    cast-settle
+    settle-requires
+    same-length
+    same-length-2
+    returns)

@@ -1,0 +1,61 @@
+-- `course::look::is_due` meets its contract. Assumes nothing.
+use Rattle.event.proofs.Readiness.{acting-accepted, held-sized}
+use Rattle.course.proofs.Looking.{due-dead, due-watch, due-beat, due-not}
+use native.Mathlib.Omega.{arith}
+use Rattle.course.proofs.look.is_due.Statement.{statement}
+use Rattle.course.proofs.look.is_due.Tie as tie
+
+cast-is-listed : tie.Need-cast-is-listed
+cast-is-listed c = let p = c .before .pre in omega (arith, p .1 .1 .1, acting-accepted _ (p .0) .plain .n≤)
+
+is-listed-requires : tie.Need-is-listed-requires
+is-listed-requires c κs = let p = c .before .pre in omega (arith, p .1 .1 .1, acting-accepted _ (p .0) .plain .n≤)
+
+returns : tie.Need-returns
+returns c =
+    let p = c .before .before .before .pre in
+    due-dead _ (acting-accepted _ (p .0)) _ _ (p .1 .0) _ _ (c .before .is-listed .ensures) _ (c .if1 .taken)
+
+node-at-requires : tie.Need-node-at-requires
+node-at-requires c κs = let p = c .before .before .before .pre in (held-sized _ (p .0 .held), p .1 .1 .1)
+
+add-if2 : tie.Need-add-if2
+add-if2 c = let p = c .before .before .before .before .pre in omega (arith, p .1 .1 .0, acting-accepted _ (p .0) .plain .end≤)
+
+returns-2 : tie.Need-returns-2
+returns-2 c =
+    let p = c .before .before .before .before .before .before .pre in
+    let listed = c .before .before .before .before .is-listed .ensures in
+    due-watch _ (acting-accepted _ (p .0)) _ _ (p .1 .0) _ _ listed _ (c .before .before .before .if1 .left) _ (c .before .before .node-at .ensures)
+    (c .if2 .taken)
+
+add-if3 : tie.Need-add-if3
+add-if3 c = let p = c .before .before .before .before .before .before .pre in omega (arith, p .1 .1 .0, acting-accepted _ (p .0) .plain .end≤)
+
+returns-3 : tie.Need-returns-3
+returns-3 c =
+    let z = c .before .before .before .before in
+    let p = z .before .before .before .before .pre in
+    due-beat _ (acting-accepted _ (p .0)) _ _ (p .1 .0) _ _ (z .before .before .is-listed .ensures) _ (z .before .if1 .left) _ (z .node-at .ensures)
+    (c .if3 .taken)
+
+returns-4 : tie.Need-returns-4
+returns-4 c =
+    let z = c .before .before .before .before in
+    let p = z .before .before .before .before .pre in
+    due-not _ (acting-accepted _ (p .0)) _ _ (p .1 .0) _ _ (z .before .before .is-listed .ensures) _ (z .before .if1 .left) _ (z .node-at .ensures)
+    (c .before .before .if2 .left) (c .if3 .left)
+
+pub is-due-spec : {M : Type 1} → statement M
+is-due-spec =
+    tie.close
+    (tie.spec
+    cast-is-listed
+    is-listed-requires
+    returns
+    node-at-requires
+    add-if2
+    returns-2
+    add-if3
+    returns-3
+    returns-4)

@@ -1,0 +1,117 @@
+-- `course::turn::send_all` meets its contract. Assumes nothing.
+use Prim.Native.Nat.{ℕ, _≤_, _-_}
+use mathlib.Core.Path.{_≡_, refl}
+use mathlib.Core.List.{List}
+use lib.ListN.{length}
+use Rattle.node.specs.declared.Node.{Node}
+use Rattle.node.specs.declared.Message.{Message}
+use Rattle.node.specs.declared.Turned.{Turned}
+use Rattle.event.specs.Event.{Turns}
+use Rattle.course.specs.Apart.{Apart}
+use Rattle.course.proofs.Parting.{apart-held, Sent, sent-starts, sent-plan, sent-number, sent-open, sent-turn, sent-all}
+use borrow.Author.Needs.{needs}
+use native.Mathlib.Omega.{arith}
+use Rattle.course.proofs.turn.send_all.Statement.{statement}
+use Rattle.course.proofs.turn.send_all.Tie as tie
+
+-- the turn of which the loop reads the messages and their count
+abbrev turnOf : Node → List Message → ℕ → Turned
+turnOf a sent count = record { node = a; sent = sent; count = count }
+
+abbrev Inv-loop : tie.InvT-loop
+Inv-loop b₀ q₀ start end t x sent count i₀ b q i =
+    (i ≤ count)
+    × (length b ≡ length b₀)
+    × (length q ≡ length q₀)
+    × ((a : Node) (whole : List ℕ) → Apart b₀ q₀ start end whole → Turns whole t x (turnOf a sent count)
+    → Sent whole t x (turnOf a sent count) start end i b q)
+
+abbrev μ-loop : tie.MeasureT-loop
+μ-loop b₀ q₀ start end t x sent count i₀ b q i = count - i
+
+loop-holds : tie.Need-loop-holds Inv-loop μ-loop
+loop-holds c = (omega arith, refl, refl, λ a whole s r. sent-starts whole _ _ _ _ _ _ _ s)
+
+mul-stamp : tie.Need-mul-stamp Inv-loop μ-loop
+mul-stamp c = search needs
+
+array-copy-out-stamp : tie.Need-array-copy-out-stamp Inv-loop μ-loop
+array-copy-out-stamp c =
+    let z = c .before .before .before .before .before .before in omega (arith, c .before .loop-test .taken, z .pre .turns .few, z .pre .turns .full)
+
+stamp-requires : tie.Need-stamp-requires Inv-loop μ-loop
+stamp-requires c κs =
+    let z = c .before .before .before .before .before .before .before in
+    let p = z .pre in
+    let l = c .before .before .before .loop in
+    let s = l .inv .3 (z .args .u .node) (p .whole) (p .apart) (p .turns) in
+    let n = sent-number (p .whole) _ _ (z .args .u) (p .turns) _ _ _ _ _ s (c .before .before .loop-test .taken) in
+    ((apart-held (s .apart), sent-plan (p .whole) _ _ (z .args .u) (p .turns) _ _ _ _ _ s), (p .turns .tick, n))
+
+pack-requires : tie.Need-pack-requires Inv-loop μ-loop
+pack-requires c κs = search needs
+
+add-push : tie.Need-add-push Inv-loop μ-loop
+add-push c =
+    let p = c .before .before .before .before .before .before .before .before .before .before .before .before .pre in
+    let less = c .before .before .before .before .before .before .before .loop-test .taken in
+    omega (arith, less, p .turns .few, p .room)
+
+push-requires : tie.Need-push-requires Inv-loop μ-loop
+push-requires c κs =
+    let z = c .before .before .before .before .before .before .before .before .before .before .before .before in
+    let p = z .pre in
+    let l = c .before .before .before .before .before .before .before .before .loop in
+    let s = l .inv .3 (z .args .u .node) (p .whole) (p .apart) (p .turns) in
+    sent-open (p .whole) _ _ (z .args .u) (p .turns) _ _ _ _ _ s (c .before .before .before .before .before .before .before .loop-test .taken) (p .room)
+
+add-i : tie.Need-add-i Inv-loop μ-loop
+add-i c = search needs
+
+loop-less : tie.Need-loop-less Inv-loop μ-loop
+loop-less c = search needs
+
+loop-again : tie.Need-loop-again Inv-loop μ-loop
+loop-again c =
+    let room = c .before .before .before .before .before .before .before .before .before .before .before .before .before .before .before .pre .room in
+    let l = c .before .before .before .before .before .before .before .before .before .before .before .loop in
+    let less = c .before .before .before .before .before .before .before .before .before .before .loop-test .taken in
+    let f = c .before .before .before .before .before .before .before .stamp .ensures in
+    let r = c .before .before .before .before .pack .ensures in
+    let q = c .before .before .push .ensures in (
+      omega (arith, less),
+      search needs,
+      search needs,
+      λ a whole s t. sent-turn whole _ _ _ t _ _ _ _ _ (l .inv .3 a whole s t) less _ _ refl _ (f .0) _ r room _ _ (f .1) q,
+    )
+
+same-length : tie.Need-same-length Inv-loop μ-loop
+same-length c = c .before .loop .inv .1
+
+same-length-2 : tie.Need-same-length-2 Inv-loop μ-loop
+same-length-2 c = c .before .loop .inv .2
+
+returns : tie.Need-returns Inv-loop μ-loop
+returns c =
+    let u = c .before .before .before .before .before .args .u in
+    λ whole s r. sent-all whole _ _ u _ _ _ _ _ (c .before .loop .inv .3 (u .node) whole s r) (omega arith)
+
+pub send-all-spec : {M : Type 1} → statement M
+send-all-spec =
+    tie.close
+    (tie.spec
+    Inv-loop
+    μ-loop
+    loop-holds
+    mul-stamp
+    array-copy-out-stamp
+    stamp-requires
+    pack-requires
+    add-push
+    push-requires
+    add-i
+    loop-less
+    loop-again
+    same-length
+    same-length-2
+    returns)

@@ -1,0 +1,54 @@
+-- A run whose messages stand in a queue, event by event: it answers and leaves what a run by the search does. Assumes nothing.
+use mathlib.Core.Path.{_≡_, refl, sym, ap, subst, _∙_}
+use mathlib.Core.List.{List}
+use Prim.Native.Nat.{ℕ, _-_, _≤_, _<_}
+use Rattle.logline.specs.declared.Line.{Line}
+use Rattle.store.specs.Store.{planIn, stateIn}
+use Rattle.event.specs.declared.Happened.{Happened}
+use Rattle.event.specs.declared.Happened.the-variants.{Did, Ended, Refused}
+use Rattle.event.specs.Event.{nextAnswer, storeLeft}
+use Rattle.event.specs.Ready.{Ready}
+use Rattle.course.specs.declared.Progress.{Progress}
+use Rattle.course.specs.declared.Went.{Went}
+use Rattle.course.specs.declared.Went.the-variants.{Did as WentOn, Ended as WentOut, Refused as WentWrong}
+use Rattle.course.specs.Progress.{Underway, answerOf, progressOf, Agrees}
+use Rattle.platform.specs.declared.Ran.{Ran}
+use Rattle.platform.specs.declared.Ran.the-variants.{Done, Refused as Unrun}
+use Rattle.platform.specs.Calls.{tooMany, runNext}
+use Rattle.platform.proofs.Running.{Runs, Ends, run-starts, run-goes-on, run-ended, run-refused}
+
+-- of a run of `budget` from the store `first`, all but `rest` are done, and led to the whole store that b and the queue stand for
+pub record RunsOn (first : List ℕ) (budget rest : ℕ) (b q : List ℕ) (c : Progress) : Type 0 where
+  pub whole : List ℕ
+  pub underway : Underway b q c whole
+  pub runs : Runs first budget rest whole
+
+pub queued-starts : (first b q : List ℕ) (budget : ℕ) (c : Progress) → Ready first → Underway b q c first → RunsOn first budget budget b q c
+queued-starts first b q budget c r k = record { whole = first; underway = k; runs = run-starts first budget r }
+
+module _ (first : List ℕ) (budget rest : ℕ) (whole : List ℕ) (h : Runs first budget rest whole) (more : 0 < rest)
+    (r : Went) (b' q' : List ℕ) (g : Agrees whole r b' q') where
+  told : (w : Went) → r ≡ w → Agrees whole w b' q'
+  told w e = subst (λ (z : Went). Agrees whole z b' q') e g
+
+  pub queued-did : (d : Progress) (l : Line) → r ≡ WentOn d l → RunsOn first budget (rest - 1) b' q' d
+  unfolding answerOf progressOf
+  queued-did d l e = let f = told (WentOn d l) e in record {
+    whole = storeLeft whole;
+    underway = f .underway;
+    runs = run-goes-on first budget rest whole h more (f .answer) refl;
+  }
+
+  pub queued-ended : (d : Progress) (l : Line) → r ≡ WentOut d l
+      → Underway b' q' d (storeLeft whole) × ((b : List ℕ) → b ≡ storeLeft whole → Ends (runNext first budget) (Done (budget - rest)) b)
+  unfolding answerOf progressOf
+  queued-ended d l e = let f = told (WentOut d l) e in (f .underway, λ b be. run-ended first budget rest whole h more (f .answer) be)
+
+  pub queued-refused : (d : Progress) → r ≡ WentWrong d
+      → Underway b' q' d (storeLeft whole) × ((b : List ℕ) → b ≡ storeLeft whole → Ends (runNext first budget) (Unrun tooMany (budget - rest)) b)
+  unfolding answerOf progressOf
+  queued-refused d e = let f = told (WentWrong d) e in (f .underway, λ b be. run-refused first budget rest whole h more (f .answer) be)
+
+-- the messages are back in the store
+pub queued-back : (first : List ℕ) (budget rest : ℕ) (whole b : List ℕ) → Runs first budget rest whole → b ≡ whole → Runs first budget rest b
+queued-back first budget rest whole b h e = subst (Runs first budget rest) (sym e) h

@@ -1,0 +1,234 @@
+//! Runs from many places of a file and with many budgets, beside the simulator. A run may search the messages for each event, or keep them
+//! in a queue with 4,096 places; where it changes from one to the other, where it ends and what was run before must not be seen. So
+//! small files are cut at every event; large ones bring many messages into flight, in other orders than their numbers', up to the refusal
+//! by 8, or send more messages in one call than the queue has places.
+
+use super::calls::Call;
+use super::generate::{self, Draft, Random, CROWD, ORDERS};
+use super::{opened, platform_of, shown, Lent, Seen};
+use simulator::log::Line;
+use simulator::node::{Content, Node};
+use simulator::platform::{Platform, Step};
+use simulator::queue::Message;
+use simulator::store::Held;
+
+/// Budgets about those at which a run may change how it finds its events, the least and the greatest.
+pub const BUDGETS: [u64; 13] = [0, 1, 2, 10, 11, 12, 13, 14, 31, 32, 33, 1_000, u64::MAX];
+/// Fewer of them, for stores that take long.
+const FEW_BUDGETS: [u64; 6] = [0, 11, 12, 13, 1_000, u64::MAX];
+/// How many tiny and how many small files are generated.
+const TINY: u64 = 60;
+const SMALL: u64 = 12;
+/// Messages for which the queue has places.
+const PLACES: u64 = 4_096;
+/// At tick 8 a crash comes before two watches, no message and no heartbeat among them.
+const WATCHES: &str = "P,6,3,4,1,16\nC,5,1\nC,5,3\nC,8,5\n";
+
+/// What the runs came upon, for the summary.
+#[derive(Default)]
+pub struct Met {
+    /// Cuts between two events of one tick, by their classes: crash, message, watch, heartbeat.
+    cuts: [[u64; 4]; 4],
+    /// Runs that sent more messages than the queue has places, with few messages in flight after them, and with many.
+    long: [u64; 2],
+    /// Runs of some events that were then refused by 8.
+    refused: u64,
+}
+
+impl Met {
+    /// Every cut that a tick allows has to come up, and each kind of run.
+    pub fn summary(&self) -> Result<(), String> {
+        let Met { cuts, long, refused } = self;
+        println!("platform: cuts within a tick by class {cuts:?}; {long:?} runs of more than {PLACES} messages; {refused} refused late");
+        let missing = (0..4).any(|one| (one.min(2)..4).any(|other| cuts[one][other] == 0));
+        if missing || long.contains(&0) || *refused == 0 {
+            return Err("a kind of run never came up".to_string());
+        }
+        Ok(())
+    }
+}
+
+/// A store in the midst of its run, and what it holds.
+#[derive(Clone)]
+struct Point {
+    store: Lent,
+    held: Option<Held>,
+}
+
+impl Point {
+    fn open(seen: &mut Seen, file: &[u8]) -> Result<Point, String> {
+        let (store, held) = opened(seen, file)?;
+        Ok(Point { store, held })
+    }
+
+    /// Messages sent so far and messages in flight.
+    fn messages(&self) -> (u64, usize) {
+        self.held.as_ref().map_or((0, 0), |held| (held.platform.next_number(), held.platform.in_flight()))
+    }
+
+    fn run(&mut self, seen: &mut Seen, budget: u64) -> Result<(), String> {
+        let (before, _) = self.messages();
+        let answer = seen.call(Call::Run { budget }, &mut self.store, &mut Lent::filled(0), &mut self.held)?;
+        let (after, in_flight) = self.messages();
+        if after - before > PLACES {
+            seen.met.long[usize::from(in_flight > 1_000)] += 1;
+        }
+        seen.met.refused += u64::from(answer[0] == 8 && answer[1] > 0);
+        Ok(())
+    }
+}
+
+/// The lines of a file's events, to the last or to one that is refused.
+fn events_of(file: &[u8]) -> Vec<Line> {
+    let mut platform = platform_of(file);
+    let next = || match platform.step() {
+        Step::Event(line) => Some(line),
+        Step::Done(_) | Step::Refused => None,
+    };
+    std::iter::from_fn(next).collect()
+}
+
+/// From each of these places of the file's run, which rise, a run of each of the budgets.
+fn from_places(
+    seen: &mut Seen,
+    file: &[u8],
+    places: impl IntoIterator<Item = u64>,
+    budgets: impl Fn(u64) -> Vec<u64>,
+) -> Result<(), String> {
+    let mut point = Point::open(seen, file)?;
+    let mut reached = 0;
+    for place in places {
+        let told = |error| format!("after {place} events: {error}\n{}", shown(file));
+        point.run(seen, place - reached).map_err(told)?;
+        reached = place;
+        for budget in budgets(place) {
+            point.clone().run(seen, budget).map_err(told)?;
+        }
+    }
+    Ok(())
+}
+
+// ---- small files, cut at every event
+
+/// Counts the places between two events of one tick.
+fn count_cuts(seen: &mut Seen, events: &[Line]) {
+    let class = |line: &Line| match line.letter {
+        b'C' => 0,
+        b'W' => 2,
+        b'S' => 3,
+        _ => 1,
+    };
+    for pair in events.windows(2).filter(|pair| pair[0].tick == pair[1].tick) {
+        seen.met.cuts[class(&pair[0])][class(&pair[1])] += 1;
+    }
+}
+
+/// From every place of the file's run. `all` takes every budget up to one more than is left, else those that are named.
+fn cut_everywhere(seen: &mut Seen, file: &[u8], all: bool) -> Result<(), String> {
+    let events = events_of(file);
+    count_cuts(seen, &events);
+    let count = events.len() as u64;
+    let about_the_end = |left: u64| [left.saturating_sub(1), left, left + 1];
+    from_places(seen, file, 0..=count, |place| match count - place {
+        left if all => (0..=left + 1).collect(),
+        left => BUDGETS.into_iter().chain(about_the_end(left)).collect(),
+    })
+}
+
+/// A few nodes with short times, so that a tick has events of several classes, and crashes at one tick or one tick after another, mostly
+/// one at the end tick, too.
+fn short_draft(random: &mut Random, most_nodes: u64, events: u64) -> Draft {
+    let nodes = random.range(2, most_nodes);
+    let (period, delay) = (random.range(1, 4), random.range(1, 4));
+    let timeout = period + delay + random.pick(&[0, 0, 1]);
+    let end = (events * period / (2 * nodes)).max(2 * timeout);
+    let delays = (0..random.pick(&[0, events])).map(|number| (number, random.range(1, delay))).collect();
+    let mut draft = Draft { nodes, period, timeout, delay, end, crashes: Vec::new(), delays };
+    let (first, pace) = (random.range(0, end / 2), random.range(0, 2));
+    let tick_of = |row| if row == 0 { end } else { first + row * pace };
+    let rows = (0..random.range(0, nodes)).map(|row| (tick_of(row), random.range(0, nodes - 1))).collect();
+    generate::put_crashes(&mut draft, rows);
+    draft
+}
+
+fn small_files(seen: &mut Seen, seed: u64) -> Result<(), String> {
+    cut_everywhere(seen, WATCHES.as_bytes(), true)?;
+    for index in 0..TINY + SMALL {
+        let mut random = Random::new(seed ^ 0x6375_7473, index);
+        let tiny = index < TINY;
+        let draft = if tiny { short_draft(&mut random, 5, 50) } else { short_draft(&mut random, 12, 300) };
+        cut_everywhere(seen, &draft.bytes(), tiny).map_err(|error| format!("seed {seed} small file {index}: {error}"))?;
+    }
+    Ok(())
+}
+
+// ---- lent stores without timers
+
+/// No timer is on but those that a message sets: a heartbeat a watch, or a new observer a heartbeat.
+fn woken(seen: &mut Seen) -> Result<(), String> {
+    let opened = platform_of(b"P,4,5,20,6,90\n");
+    let asleep = |node: &Node| Node { watch: None, heartbeat: None, ..*node };
+    for content in [Content::Heartbeat, Content::NewObserver] {
+        let message = (6, Message { number: 0, sender: 0, receiver: 1, content });
+        let nodes = opened.nodes().iter().map(asleep).collect();
+        let held = Held::from(Platform::resume(opened.plan().clone(), nodes, vec![message], 1, 0, 3));
+        let point = Point { store: Lent::new(&held.encode()), held: Some(held) };
+        for budget in 0..60 {
+            point.clone().run(seen, budget).map_err(|error| format!("{content:?} where no timer is on: {error}"))?;
+        }
+    }
+    Ok(())
+}
+
+// ---- many messages in flight
+
+/// A crowd of 2,048 messages in each order: all nodes crash when all are sent; none does, so that the next is refused by 8; or a few are
+/// left, just before all are sent, and stay below 2,048 or pass it later.
+fn crowds(seen: &mut Seen) -> Result<(), String> {
+    let places = [0, 700, CROWD - 64, CROWD - 17, CROWD - 1, CROWD, CROWD + 1, CROWD + 64, CROWD + 80, 2_600, 4_000];
+    for order in ORDERS {
+        for (tick, survivors) in [(33, 0), (33, 64), (32, 2), (32, 12)] {
+            let mut draft = generate::crowd(order);
+            draft.crashes = (survivors..64).map(|node| (tick, node)).collect();
+            from_places(seen, &draft.bytes(), places, |_| FEW_BUDGETS.to_vec())
+                .map_err(|error| format!("{order:?} crowd of which {survivors} survive tick {tick}: {error}"))?;
+        }
+    }
+    Ok(())
+}
+
+// ---- more messages in a run than the queue has places
+
+/// The first place of a file's run at which so many messages are sent.
+fn place_of(file: &[u8], sent: u64) -> u64 {
+    let mut platform = platform_of(file);
+    while platform.next_number() < sent && platform.run(1).events == 1 {}
+    platform.events_done()
+}
+
+/// 64 nodes over this many ticks, H 1, with a crash at every tick from 58 on. As the crashes are found, one event sends seven messages.
+fn reporting(delay: u64, crashes: u64, end: u64) -> Draft {
+    let crashes = (0..crashes).map(|row| (58 + row, (63 + 15 * row) % 64)).collect();
+    Draft { nodes: 64, period: 1, timeout: 1 + delay, delay, end, crashes, delays: Vec::new() }
+}
+
+/// Runs to the end from each of the first places, so that the queue's last places are reached at all kinds of events; and runs that end
+/// just there.
+fn long_runs(seen: &mut Seen) -> Result<(), String> {
+    let seven = Draft { nodes: 7, ..reporting(1, 0, 1_300) };
+    for draft in [seven, reporting(1, 0, 120), reporting(32, 0, 160), reporting(4, 4, 110), reporting(26, 3, 160), reporting(30, 4, 160)] {
+        let file = draft.bytes();
+        let told = |error| format!("a long run: {error}");
+        from_places(seen, &file, 0..40, |_| vec![u64::MAX]).map_err(told)?;
+        let (from, to) = (place_of(&file, PLACES - 16), place_of(&file, PLACES + 8));
+        from_places(seen, &file, [0], |_| (from..=to).collect()).map_err(told)?;
+    }
+    Ok(())
+}
+
+pub fn all(seen: &mut Seen, seed: u64) -> Result<(), String> {
+    small_files(seen, seed)?;
+    woken(seen)?;
+    crowds(seen)?;
+    long_runs(seen)
+}
