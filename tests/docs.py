@@ -1,9 +1,7 @@
 #!/usr/bin/env python3
 """Holds the documents against the repository: what they name is there, and the sizes that they give are those counted.
 
-    python3 tests/docs.py           prints each complaint as DOCUMENT:LINE: `WORD`: what is wrong; status 1 if there is one
-    python3 tests/docs.py --sizes   writes the table of tests/sizes.sh into docs/FIGURES.md
-    python3 tests/docs.py --times   after a whole gate, writes the time of each crate and of its edits there, from target/
+    python3 tests/docs.py    prints each complaint as DOCUMENT:LINE: `WORD`: what is wrong; status 1 if there is one
 
 Looked at are words in backquotes, links, blocks of commands, and paths in plain text:
 
@@ -13,36 +11,33 @@ Looked at are words in backquotes, links, blocks of commands, and paths in plain
 - A name is defined in crates/ or include/kelbraut.h: a definition, law, record, field, constructor, function, type, constant, crate,
   module or must-fail edit. Of an expression that goes for what is applied; arguments are free. `a::b` is b in crate or module a.
 - A name beside a file, as in "`law` in `FILE`", "`FILE`: `law`" or "`law` (`FILE`)", is defined in that file.
-- A table whose first column is headed 'Crate' has a row for each crate. docs/README.md names every document and every test.
+- A table whose first column is headed 'Crate' has a row for each crate. docs/README.md names every document, test and tool, and tests/run
+  every test.
 
 Passed over by form: lines of run files and logs (a comma and no space), numbers, single letters, commands, C types (`.._t`),
 modules of the kit (`Rattle·..`). At each run the check first tries itself on wrong words, all of which it has to see, and on right ones."""
 import glob
 import os
 import re
-import subprocess
 import sys
 
 os.chdir(os.path.dirname(os.path.dirname(os.path.abspath(__file__))))
+sys.dont_write_bytecode = True
+sys.path.insert(0, "tools")
+from figures import FIGURES, TIMES, counted, read, table  # the tables of docs/FIGURES.md
+
 # Designs of later changes name what is not there yet: of these only paths are checked.
 DESIGNS = glob.glob("docs/changes/*.md")
 DOCUMENTS = sorted(["README.md", "CONTRIBUTING.md", "docs/src/README.md", *glob.glob("docs/*.md"), *DESIGNS])
-FIGURES = "docs/FIGURES.md"
-TIMES = "| Crate | Proved in | Its edits | together in |"
 COMMANDS = set("rt sh gcc rustc python3 git grep".split())
 # Words of the kit's languages that documents use as such.
 LANGUAGE = set("requires ensures pub mod unfoldable search needs omega arith".split())
-PATH = r"(?:crates|docs|tests|include|\.ci|target)/[\w./*-]*"
+PATH = r"(?:crates|docs|tests|tools|include|\.ci|target)/[\w./*-]*"
 ENDING = re.compile(r"\.(antt|rt|rs|c|h|sh|py|md|txt|edit|run|svg)$")
 RT = "check prove dev staticlib try must-fail ci goals mir fmt doc version selftest help".split()
 OF_CRATE = r"rt (?:check|dev|must-fail|staticlib|try|goals|mir) ([a-z]\w*)"
 NAME = re.compile(r"[^\W\d][\w'₀-₉≥≤-]*$")
 LISTED = r"(?:,|,? and|,? or)\s+$"
-
-
-def read(path):
-    with open(path, encoding="utf-8") as f:
-        return f.read()
 
 
 # ---- what the repository has
@@ -289,24 +284,12 @@ class Document:
 # ---- the index and the figures
 
 
-def index(repository, text):
-    """Complaints about docs/README.md: each document of the folder, and each test of the gate, is named in it."""
-    wanted = [os.path.basename(f) for f in repository.files if re.match(r"docs/\w+\.md$", f) and f != "docs/README.md"]
-    wanted += [os.path.basename(f) for f in re.findall(r"tests/\w+\.(?:sh|py)", read("tests/run"))]
-    return [("docs/README.md", 1, name, "not named") for name in sorted(wanted) if name not in text]
-
-
-def counted():
-    done = subprocess.run(["sh", "tests/sizes.sh"], capture_output=True, text=True, check=True)
-    return done.stdout.rstrip("\n").split("\n")
-
-
-def table(lines, header):
-    """Where the table with that header is: from which line, counted from 0, up to which; (0, 0) where there is none."""
-    at = end = lines.index(header) if header in lines else 0
-    while header in lines and end < len(lines) and lines[end].startswith("|"):
-        end += 1
-    return at, end
+def index(repository, text, run):
+    """Complaints about docs/README.md: each document of the folder, each test and each tool is named in it; and each test in tests/run."""
+    wanted = sorted(f for f in repository.files if re.match(r"docs/\w+\.md$|tests/\w+\.sh$|tools/\w+\.(sh|py)$", f))
+    complaints = [("docs/README.md", 1, f, "not named") for f in wanted if f != "docs/README.md" and os.path.basename(f) not in text]
+    tests = [re.sub(r"tests/(\w+)\.sh", r"\1", f) for f in wanted if f.startswith("tests/") and f != "tests/common.sh"]
+    return complaints + [("tests/run", 1, test, "not run") for test in tests if not re.search(rf"^beside .*\b{test}\b", run, re.M)]
 
 
 def figures(text, rows):
@@ -326,28 +309,6 @@ def figures(text, rows):
         if count.isdigit() and edits.get(name, count) != count:
             complaints.append((FIGURES, number, f"{name}, {count} edits", f"counted: {edits[name]}"))
     return complaints
-
-
-def times(repository):
-    """The table of times, from what a whole gate leaves in target/."""
-    rows = [TIMES, "|---|---|---|---|"]
-    for crate in repository.crates:
-        took = re.findall(r" proved \((\d+) s\)", read(f"target/log/{crate}.out"))
-        edits = [int(re.findall(r"(\d+) s\)", read(f))[-1]) for f in glob.glob(f"target/must-fail/{crate}/*.out")]
-        if not took or len(edits) != sum(e.startswith(crate + "/") for e in repository.edits):
-            sys.exit(f"docs: target/ has not the times of {crate}: run .ci/run first")
-        rows.append(f"| {crate} | {took[-1]} s | {len(edits)} | {sum(edits)} s |")
-    return rows
-
-
-def put_table(rows):
-    lines = read(FIGURES).split("\n")
-    at, end = table(lines, rows[0])
-    if at == end:
-        sys.exit(f"docs: {FIGURES} has no table with the header {rows[0]}")
-    lines[at:end] = rows
-    with open(FIGURES, "w", encoding="utf-8") as f:
-        f.write("\n".join(lines))
 
 
 # ---- whether the check sees what is wrong
@@ -398,6 +359,10 @@ def self_test(repository, rows):
     for lines in (wrong_size, rows[:-1], wrong_count):
         if len(figures("\n".join(lines), rows)) != 1:
             failures.append("tests/docs.py: a wrong figure is not seen")
+    unnamed = index(repository, read("docs/README.md").replace("LAYOUTS.md", "").replace("bench.sh", ""), read("tests/run").replace("host", ""))
+    for path, word in (("docs/README.md", "docs/LAYOUTS.md"), ("docs/README.md", "tools/bench.sh"), ("tests/run", "host")):
+        if (path, 1, word) not in [complaint[:3] for complaint in unnamed]:
+            failures.append(f"tests/docs.py: that {path} does not name {word} is not seen")
     return failures
 
 
@@ -407,12 +372,9 @@ def shown(complaint):
 
 
 def main():
-    repository = Repository()
-    if sys.argv[1:]:
-        return put_table({"--sizes": counted, "--times": lambda: times(repository)}[sys.argv[1]]())
-    rows = counted()
+    repository, rows = Repository(), counted()
     failures = self_test(repository, rows)
-    complaints = index(repository, read("docs/README.md")) + figures(read(FIGURES), rows)
+    complaints = index(repository, read("docs/README.md"), read("tests/run")) + figures(read(FIGURES), rows)
     for path in DOCUMENTS:
         complaints += Document(repository, path, read(path)).check()
     failures += map(shown, sorted(complaints))

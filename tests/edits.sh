@@ -4,9 +4,8 @@
 #
 # Usage: tests/edits.sh [CRATE..], all crates where none is named; of a named one each edit's first error is shown.
 
-set -eu
+. "$(dirname "$0")/common.sh"
 
-cd "$(dirname "$0")/.."
 tried=0
 told=0
 

@@ -3,12 +3,8 @@
 #
 # Usage: tests/exhaust.sh [N H W D END]
 
-set -eu
+. "$(dirname "$0")/common.sh"
 
-cd "$(dirname "$0")/.."
-out=target/tests
-
-mkdir -p "$out"
-rustc --edition 2021 -D warnings -O -C codegen-units=1 --crate-type rlib docs/src/simulator.rs --out-dir "$out"
-rustc --edition 2021 -D warnings -O tests/exhaust.rs --extern simulator="$out/libsimulator.rlib" -o "$out/exhaust"
+simulator
+rust exhaust tests/exhaust.rs
 "$out/exhaust" "$@"

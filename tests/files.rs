@@ -3,49 +3,35 @@
 //!
 //! Usage: files [SEED [COUNT]]. A difference prints its seed and index and the file, and the program fails.
 
-#[path = "generate.rs"]
-mod generate;
 #[allow(dead_code)]
-#[path = "../docs/src/simulator.rs"]
-mod simulator;
+mod calls;
+mod common;
 
-use generate::Random;
+use calls::{answer, proved, refused, Call};
+use common::{ended, same, seed_and_count, shown};
+use simulator::generator::{self, USUAL};
+use simulator::limits::*;
 use simulator::plan;
+use simulator::random::Random;
 use std::process::ExitCode;
 use std::time::Instant;
 
-/// The seed where none is given.
-const SEED: u64 = 20_261_115;
 /// How many files are generated where no count is given.
 const COUNT: u64 = 600;
 /// How many damaged copies are tried of each generated file.
 const COPIES: u64 = 8;
-/// Most bytes of an accepted file, and the least part for writing one.
-const FILE_BYTES: usize = 65_536;
-/// Bytes of a store.
-const STORE_BYTES: usize = 65_536;
 /// What stands in a store and in a part before the call.
 const UNTOUCHED: u8 = 0xa5;
-/// What stands behind the pointer before the call.
-const BEFORE: u64 = 9_000_000_000_000_000_001;
-/// Most L lines.
-const DELAY_ROWS: usize = 2_048;
-
-extern "C" {
-    /// A slice is lent as its address and its length.
-    fn kelbraut_open(file: *const u8, file_size: usize, store: *mut u8, store_size: usize) -> u64;
-    fn kelbraut_write(store: *const u8, store_size: usize, part: *mut u8, part_size: usize, size: *mut u64) -> u64;
-}
 
 /// Number and line of the refusal; 0 and 0 where the file is accepted.
-type Answer = (u64, u64);
+type Opened = (u64, u64);
 
-fn proved(file: &[u8], store: &mut [u8]) -> Answer {
-    let answer = unsafe { kelbraut_open(file.as_ptr(), file.len(), store.as_mut_ptr(), store.len()) };
+fn opened(file: &[u8], store: &mut [u8]) -> Opened {
+    let answer = proved::open(file, store);
     (answer % 256, answer / 256)
 }
 
-fn simulated(file: &[u8]) -> Answer {
+fn simulated(file: &[u8]) -> Opened {
     plan::read(file).map_or_else(|refusal| (refusal.number.into(), refusal.line as u64), |_| (0, 0))
 }
 
@@ -65,9 +51,9 @@ impl Lent {
     }
 
     /// Opens the store. A refused file leaves it.
-    fn open(&mut self, what: &str, file: &[u8]) -> Result<Answer, String> {
+    fn open(&mut self, what: &str, file: &[u8]) -> Result<Opened, String> {
         self.store.fill(UNTOUCHED);
-        let answer = proved(file, &mut self.store);
+        let answer = opened(file, &mut self.store);
         if answer.0 != 0 && !is_untouched(&self.store) {
             return Err(format!("{what}: refused by {answer:?}, and the store is written"));
         }
@@ -78,16 +64,13 @@ impl Lent {
     /// of the part stays; a refused one left no store, and it and a short part leave the part and the number behind the pointer.
     fn writes(&mut self, what: &str, file: &[u8], room: usize) -> Result<(), String> {
         self.part.fill(UNTOUCHED);
-        let (number, again, wanted): (u64, &[u8], u64) = match (simulated(file), room) {
-            ((0, 0), FILE_BYTES..) => (0, file, file.len() as u64),
-            ((0, 0), _) => (9, &[], BEFORE),
-            _ => (7, &[], BEFORE),
+        let (wanted, again) = match (simulated(file), room) {
+            ((0, 0), FILE_BYTES..) => (answer(0, &[file.len() as u64]), file),
+            ((0, 0), _) => (refused(REFUSED_PART), &[][..]),
+            _ => (refused(REFUSED_STORE), &[][..]),
         };
-        let (store, mut size) = (&self.store, BEFORE);
-        let answer = unsafe { kelbraut_write(store.as_ptr(), store.len(), self.part.as_mut_ptr(), room, &mut size) };
-        if (answer, size) != (number, wanted) {
-            return Err(format!("{what}: a part of {room} bytes gets {answer} with {size}, not {number} with {wanted}"));
-        }
+        let answer = proved::call(Call::Write, &mut self.store, &mut self.part[..room]);
+        same(&format!("{what}: the writer, lent {room} bytes,"), answer, wanted)?;
         if self.part[..again.len()] != *again || !is_untouched(&self.part[again.len()..]) {
             return Err(format!("{what}: a part of {room} bytes does not hold the file, {} bytes, and then what it held", again.len()));
         }
@@ -95,28 +78,19 @@ impl Lent {
     }
 }
 
-fn differs(what: &str, file: &[u8], expected: Answer, answer: Answer) -> String {
-    let shown = String::from_utf8_lossy(&file[..file.len().min(400)]).into_owned();
-    format!("{what}: expected {expected:?}, got {answer:?} for {} bytes:\n{shown}", file.len())
-}
-
 /// Both readers give this answer.
-fn edge(lent: &mut Lent, what: &str, file: &[u8], expected: Answer) -> Result<(), String> {
-    for (whose, answer) in [("proved", lent.open(what, file)?), ("simulator", simulated(file))] {
-        if answer != expected {
-            return Err(differs(&format!("{what}, {whose}"), file, expected, answer));
-        }
+fn edge(lent: &mut Lent, what: &str, file: &[u8], expected: Opened) -> Result<(), String> {
+    for (whose, answer) in [("proved", lent.open(what, file)?), ("simulator's", simulated(file))] {
+        same(&format!("{what}: the {whose} reader"), answer, expected).map_err(|error| format!("{error} for {}", shown(file)))?;
     }
     lent.writes(what, file, FILE_BYTES + 1)?;
     lent.writes(what, file, FILE_BYTES - 1)
 }
 
 /// Both readers give the same answer.
-fn same(lent: &mut Lent, what: &str, file: &[u8]) -> Result<(), String> {
-    let (expected, answer) = (simulated(file), lent.open(what, file)?);
-    if answer != expected {
-        return Err(differs(what, file, expected, answer));
-    }
+fn alike(lent: &mut Lent, what: &str, file: &[u8]) -> Result<(), String> {
+    let answer = lent.open(what, file)?;
+    same(&format!("{what}: the proved reader"), answer, simulated(file)).map_err(|error| format!("{error} for {}", shown(file)))?;
     lent.writes(what, file, FILE_BYTES)
 }
 
@@ -138,7 +112,7 @@ fn of_length(length: usize) -> Vec<u8> {
 
 /// 01's edges on run files, those with no star among them.
 fn edges(lent: &mut Lent) -> Result<(), String> {
-    let cases: [(&str, Answer); 44] = [
+    let cases: [(&str, Opened); 44] = [
         ("", (1, 0)),
         ("P,2,2,3,1,6\nC,3,1\n", (0, 0)),
         ("P,1,1,2,1,5\n", (0, 0)),
@@ -187,12 +161,12 @@ fn edges(lent: &mut Lent) -> Result<(), String> {
     for (file, expected) in cases {
         edge(lent, "edge", file.as_bytes(), expected)?;
     }
-    let next = DELAY_ROWS as u64 + 2;
-    edge(lent, "2,048 L lines", &with_delays(DELAY_ROWS, ""), (0, 0))?;
-    edge(lent, "2,049 L lines", &with_delays(DELAY_ROWS, "L,2048,5\n"), (6, next))?;
-    edge(lent, "2,049th of bad form", &with_delays(DELAY_ROWS, "L,2048,5"), (2, next))?;
-    edge(lent, "2,049th out of range", &with_delays(DELAY_ROWS, "L,2048,6\n"), (3, next))?;
-    edge(lent, "2,049th not rising", &with_delays(DELAY_ROWS, "L,2047,5\n"), (5, next))?;
+    let next = MAX_DELAY_ROWS as u64 + 2;
+    edge(lent, "2,048 L lines", &with_delays(MAX_DELAY_ROWS, ""), (0, 0))?;
+    edge(lent, "2,049 L lines", &with_delays(MAX_DELAY_ROWS, "L,2048,5\n"), (6, next))?;
+    edge(lent, "2,049th of bad form", &with_delays(MAX_DELAY_ROWS, "L,2048,5"), (2, next))?;
+    edge(lent, "2,049th out of range", &with_delays(MAX_DELAY_ROWS, "L,2048,6\n"), (3, next))?;
+    edge(lent, "2,049th not rising", &with_delays(MAX_DELAY_ROWS, "L,2047,5\n"), (5, next))?;
     edge(lent, "65,536 bytes", &of_length(FILE_BYTES), (3, 2))?;
     edge(lent, "65,537 bytes", &of_length(FILE_BYTES + 1), (1, 0))
 }
@@ -227,11 +201,11 @@ fn damaged(file: &[u8], random: &mut Random) -> Vec<u8> {
 
 fn generated(lent: &mut Lent, seed: u64, count: u64) -> Result<(), String> {
     for index in 0..count {
-        let file = generate::file(seed, index);
+        let file = generator::file(seed, index, USUAL);
         let mut random = Random::new(seed, index);
-        same(lent, &format!("seed {seed} index {index}"), &file)?;
+        alike(lent, &format!("seed {seed} index {index}"), &file)?;
         for copy in 0..COPIES {
-            same(lent, &format!("seed {seed} index {index} copy {copy}"), &damaged(&file, &mut random))?;
+            alike(lent, &format!("seed {seed} index {index} copy {copy}"), &damaged(&file, &mut random))?;
         }
     }
     Ok(())
@@ -241,25 +215,22 @@ fn generated(lent: &mut Lent, seed: u64, count: u64) -> Result<(), String> {
 fn speed(lent: &mut Lent) {
     let mut file = String::from("P,64,1000,65535,255,1000000\n");
     (0..64).for_each(|node| file += &format!("C,1000000,{node}\n"));
-    (0..DELAY_ROWS).for_each(|row| file += &format!("L,{},255\n", 900_000 + row));
+    (0..MAX_DELAY_ROWS).for_each(|row| file += &format!("L,{},255\n", 900_000 + row));
     let fastest = (0..200).map(|_| {
         let began = Instant::now();
-        assert_eq!(proved(file.as_bytes(), &mut lent.store), (0, 0));
+        assert_eq!(opened(file.as_bytes(), &mut lent.store), (0, 0));
         began.elapsed()
     });
     println!("files: a store is opened from {} bytes in {:?}", file.len(), fastest.min().expect("a round"));
 }
 
 fn main() -> ExitCode {
-    let mut words = std::env::args().skip(1).map(|word| word.parse().expect("a number"));
-    let (seed, count) = (words.next().unwrap_or(SEED), words.next().unwrap_or(COUNT));
+    let (seed, count) = seed_and_count(COUNT);
     println!("files: seed {seed}, {count} generated files");
     let mut lent = Lent::new();
-    if let Err(difference) = edges(&mut lent).and_then(|()| generated(&mut lent, seed, count)) {
-        eprintln!("files: {difference}");
-        return ExitCode::FAILURE;
+    let compared = edges(&mut lent).and_then(|()| generated(&mut lent, seed, count));
+    if compared.is_ok() {
+        speed(&mut lent);
     }
-    speed(&mut lent);
-    println!("files: passed");
-    ExitCode::SUCCESS
+    ended("files", compared.map(|()| "passed".to_string()))
 }

@@ -3,15 +3,9 @@
 #
 # Usage: tests/files.sh [SEED [COUNT]]
 
-set -eu
+. "$(dirname "$0")/common.sh"
 
-cd "$(dirname "$0")/.."
-out=target/tests
-
-mkdir -p "$out"
-rt staticlib planner > "$out/planner.log" 2>&1 || {
-    tail -n 20 "$out/planner.log" >&2
-    exit 1
-}
-rustc --edition 2021 -O -D warnings tests/files.rs -L native=target/staticlib -l static=planner -o "$out/files"
+simulator
+library planner
+rust files tests/files.rs
 "$out/files" "$@"

@@ -5,6 +5,7 @@
 
 use simulator::limits::{MAX_NODES, MAX_PERIOD, MAX_TICK, MAX_TIMEOUT};
 use simulator::node::{Content, Node, Sends, Settings};
+use simulator::random::Random;
 use simulator::record::Record;
 
 extern "C" {
@@ -169,34 +170,7 @@ fn leave(lent: &mut Lent, record: &Record, sends: &Sends) {
     }
 }
 
-// ---- a source of random numbers (splitmix64), and the comparison
-
-struct Random(u64);
-
-impl Random {
-    fn next(&mut self) -> u64 {
-        self.0 = self.0.wrapping_add(0x9e37_79b9_7f4a_7c15);
-        let x = (self.0 ^ self.0 >> 30).wrapping_mul(0xbf58_476d_1ce4_e5b9);
-        let x = (x ^ x >> 27).wrapping_mul(0x94d0_49bb_1331_11eb);
-        x ^ x >> 31
-    }
-
-    fn below(&mut self, bound: u64) -> u64 {
-        self.next() % bound
-    }
-
-    fn one_in(&mut self, count: u64) -> bool {
-        self.below(count) == 0
-    }
-
-    fn pick<T: Copy>(&mut self, from: &[T]) -> T {
-        from[self.below(from.len() as u64) as usize]
-    }
-
-    fn bytes(&mut self, count: usize) -> Vec<u8> {
-        (0..count).map(|_| self.next() as u8).collect()
-    }
-}
+// ---- the comparison
 
 struct Compared {
     calls: u64,
@@ -259,7 +233,7 @@ impl Ring {
     }
 
     fn next_tick(&mut self, random: &mut Random) -> u64 {
-        if random.one_in(20) {
+        if random.chance(20) {
             return random.pick(&[0, 999_999, 1_000_000, 1_000_001, u64::MAX, 1 << 32 | self.tick, self.tick / 2]);
         }
         let step = random.pick(&[0, 0, 1, 2, self.h, self.w, 2 * self.w]);
@@ -270,30 +244,30 @@ impl Ring {
     fn next_call(&mut self, random: &mut Random) -> (usize, Call) {
         let nodes = self.records.len() as u64;
         let tick = self.next_tick(random);
-        if !self.in_flight.is_empty() && random.one_in(2) {
+        if !self.in_flight.is_empty() && random.chance(2) {
             let m = self.in_flight.swap_remove(random.below(self.in_flight.len() as u64) as usize);
             let [kind, to, sender, subject] = [m[0], m[1], m[2], m[3]].map(u64::from);
             return (to as usize, Call::Deliver { tick, kind, sender, subject });
         }
         let node = random.below(nodes);
-        if random.one_in(2) {
+        if random.chance(2) {
             return (node as usize, Call::Timers { tick });
         }
         let odd = [nodes, 64, 255, 256, 256 + node, u64::MAX];
-        let kind = if random.one_in(12) { random.next() >> random.below(64) } else { u64::from(random.pick(b"HOR")) };
-        let sender = if random.one_in(12) { random.pick(&odd) } else { random.below(nodes) };
-        let subject = if random.one_in(6) { random.pick(&odd) } else { random.below(nodes) };
+        let kind = if random.chance(12) { random.draw() >> random.below(64) } else { u64::from(random.pick(b"HOR")) };
+        let sender = if random.chance(12) { random.pick(&odd) } else { random.below(nodes) };
+        let subject = if random.chance(6) { random.pick(&odd) } else { random.below(nodes) };
         (node as usize, Call::Deliver { tick, kind, sender, subject })
     }
 }
 
 /// One ring, some hundred calls.
 fn sequence(compared: &mut Compared, seed: u64) {
-    let mut random = Random(seed);
+    let mut random = Random::seeded(seed);
     let mut ring = Ring::open(compared, &mut random);
     for _ in 0..400 {
         let (node, call) = ring.next_call(&mut random);
-        let size = if random.one_in(10) { random.below(120) as usize } else { PART };
+        let size = if random.chance(10) { random.below(120) as usize } else { PART };
         let mut lent = lent(&ring.records[node], random.bytes(size));
         if compared.call(call, &mut lent) == 0 {
             assert!(decode(&lent.record).is_some());
@@ -318,7 +292,7 @@ fn tells(wrong: Wrong, seed: u64) {
 
 /// Records of many kinds, reached by calls.
 fn reached(compared: &mut Compared, seed: u64) -> Vec<Vec<u8>> {
-    let mut random = Random(seed);
+    let mut random = Random::seeded(seed);
     let mut records = Vec::new();
     for (number, nodes, h, w) in [(0, 1, 1, 1), (1, 2, 3, 5), (2, 5, 1_000, 65_535), (63, 64, 4, 12), (7, 40, 2, 9)] {
         let mut now = lent(&[0; RECORD], vec![0; PART]);

@@ -6,24 +6,15 @@
 #
 # Usage: tests/host.sh [SEED]
 
-set -eu
+. "$(dirname "$0")/common.sh"
 
-cd "$(dirname "$0")/.."
 seed=${1:-20261115}
-out=target/tests
 library=target/staticlib/libhost.a
 mistaken=$out/host-mistaken
 
-fail() {
-    echo "host: $1" >&2
-    exit 1
-}
-
-# compile SOURCE PROGRAM INCLUDE..
-compile() {
-    source=$1 program=$2
-    shift 2
-    gcc -std=c99 -pedantic -Wall -Wextra -Werror -O2 $(printf ' -I%s' "$@") "$source" "$library" -o "$program"
+# c99 PROGRAM WORDS..
+c99() {
+    c "$@" -std=c99 -pedantic "$library"
 }
 
 # prints PROGRAM: it prints the lines on standard input.
@@ -37,7 +28,7 @@ prints() {
 mistake() {
     sed "$2" include/kelbraut.h > "$mistaken/kelbraut.h"
     ! cmp -s include/kelbraut.h "$mistaken/kelbraut.h" || fail "$1: the edit changes nothing"
-    compile tests/readers.c "$mistaken/readers" "$mistaken"
+    c99 "$mistaken/readers" -I"$mistaken" tests/readers.c
     for part in bytes calls; do
         status=0
         "$mistaken/readers" "$seed" "$part" > "$mistaken/out" 2> "$mistaken/err" || status=$?
@@ -48,7 +39,7 @@ mistake() {
 # loop EDIT FILE: tests/loop.c runs the loop that this edit by sed takes out of a file.
 loop() {
     sed -n "$1" "$2" > "$out/loop.inc"
-    compile tests/loop.c "$out/loop" include "$out"
+    c99 "$out/loop" -I"$out" tests/loop.c
     prints "$out/loop" <<'LINES'
 tick 10: H to 2, subject 0
 tick 15: R to 2, subject 0
@@ -62,16 +53,13 @@ tick 1000001: stopped by 12
 LINES
 }
 
-mkdir -p "$out" "$mistaken"
-rt staticlib host > "$out/host.log" 2>&1 || {
-    tail -n 20 "$out/host.log" >&2
-    exit 1
-}
-rustc --edition 2021 -D warnings -O --crate-type rlib docs/src/simulator.rs --out-dir "$out"
-rustc --edition 2021 -D warnings -O tests/host.rs --extern simulator="$out/libsimulator.rlib" -C link-arg="$library" -o "$out/host"
+mkdir -p "$mistaken"
+simulator
+library host
+rust host tests/host.rs -C link-arg="$library"
 "$out/host" "$seed"
 
-compile tests/readers.c "$out/readers" include
+c99 "$out/readers" tests/readers.c
 "$out/readers" "$seed"
 mistake 'the emitter a byte late' 's/return record\[6\];/return record[7];/'
 mistake 'the observer a byte early' 's/return record\[7\];/return record[6];/'
@@ -94,7 +82,7 @@ loop '/^ \*     uint8_t node\[/,/^ \*$/s/^ \*//p' include/kelbraut.h
 loop '/^    uint8_t node\[/,/^$/p' README.md
 echo "host: the header's loop sends what it should"
 
-compile include/host.c "$out/host-c" include
+c99 "$out/host-c" include/host.c
 prints "$out/host-c" <<'LINES'
 tick 1: bytes for node 1 are dropped
 node 0 watches 4, sends to 1 and lists 0000000000000004

@@ -3,8 +3,11 @@
 //!
 //! Usage: `lines [SEED [COUNT]]`. Prints the seed; at a difference prints the case and exits by 1.
 
+mod common;
+
+use common::{ended, same, seed_and_count};
 use simulator::log::{self, Line};
-use std::env;
+use simulator::random::Random;
 use std::process::ExitCode;
 
 mod proved {
@@ -38,27 +41,8 @@ mod proved {
     }
 }
 
-/// Splitmix64.
-struct Random(u64);
-
-impl Random {
-    fn draw(&mut self) -> u64 {
-        self.0 = self.0.wrapping_add(0x9e37_79b9_7f4a_7c15);
-        let mut mixed = self.0;
-        mixed = (mixed ^ mixed >> 30).wrapping_mul(0xbf58_476d_1ce4_e5b9);
-        mixed = (mixed ^ mixed >> 27).wrapping_mul(0x94d0_49bb_1331_11eb);
-        mixed ^ mixed >> 31
-    }
-
-    fn below(&mut self, bound: u64) -> u64 {
-        self.draw() % bound
-    }
-
-    fn pick<T: Copy>(&mut self, choices: &[T]) -> T {
-        choices[self.below(choices.len() as u64) as usize]
-    }
-}
-
+/// How many lines are tried where no count is given.
+const COUNT: u64 = 200_000;
 const LETTERS: &[u8] = b"CHORXWSE";
 
 /// A number near a bound of some column, or any.
@@ -135,14 +119,7 @@ fn line(random: &mut Random) -> Vec<u8> {
 /// A lent part of about the shortest length.
 fn part(random: &mut Random) -> Vec<u8> {
     let length = random.pick(&[0, 1, 15, 16, 17, 34, 35, 38, 39, 40, 40, 41, 64]);
-    (0..length).map(|_| random.draw() as u8).collect()
-}
-
-fn same<T: PartialEq + std::fmt::Debug>(what: &str, proved: T, simulated: T) -> Result<(), String> {
-    if proved == simulated {
-        return Ok(());
-    }
-    Err(format!("{what}\n  proved    {proved:?}\n  simulated {simulated:?}"))
+    random.bytes(length)
 }
 
 fn little(line: &Line) -> Vec<u8> {
@@ -240,29 +217,22 @@ fn bounds() -> Result<(), String> {
     Ok(())
 }
 
-fn main() -> ExitCode {
-    let mut words = env::args().skip(1).map(|word| word.parse().expect("SEED and COUNT are numbers"));
-    let seed = words.next().unwrap_or(20_261_115);
-    let count = words.next().unwrap_or(200_000);
-    let mut seen = Seen::default();
-    let mut random = Random(seed);
-    let differs = |index: u64, error: String| {
-        println!("lines: seed {seed}, case {index} differs\n{error}");
-        ExitCode::FAILURE
-    };
-    if let Err(error) = bounds() {
-        return differs(0, error);
-    }
+/// The bounds, then seeded lines. Every kind of answer has to come up.
+fn compared(seed: u64, count: u64) -> Result<String, String> {
+    bounds()?;
+    let (mut random, mut seen) = (Random::seeded(seed), Seen::default());
     for index in 1..=count {
-        if let Err(error) = case(&mut random, &mut seen) {
-            return differs(index, error);
-        }
+        case(&mut random, &mut seen).map_err(|error| format!("seed {seed}, case {index} differs\n{error}"))?;
     }
     let Seen { accepted, form, range } = seen;
-    println!("lines: seed {seed}, {count} cases agree: {accepted} accepted, {form} refused by 2, {range} by 3");
+    let words = format!("seed {seed}, {count} cases agree: {accepted} accepted, {form} refused by 2, {range} by 3");
     if count >= 1_000 && (accepted == 0 || form == 0 || range == 0) {
-        println!("lines: an answer never came up");
-        return ExitCode::FAILURE;
+        return Err(format!("{words}; an answer never came up"));
     }
-    ExitCode::SUCCESS
+    Ok(words)
+}
+
+fn main() -> ExitCode {
+    let (seed, count) = seed_and_count(COUNT);
+    ended("lines", compared(seed, count))
 }

@@ -8,9 +8,20 @@ use simulator::store::{self, Held};
 use std::slice::{from_raw_parts, from_raw_parts_mut};
 use std::sync::atomic::{AtomicUsize, Ordering};
 
-#[derive(Clone, Copy, PartialEq, Eq, Debug)]
-pub enum Mistake {
-    None,
+/// The mistakes, each named once.
+macro_rules! mistakes {
+    ($($name:ident,)*) => {
+        #[derive(Clone, Copy, PartialEq, Eq, Debug)]
+        pub enum Mistake {
+            None,
+            $($name,)*
+        }
+
+        pub const MISTAKES: [Mistake; 28] = [$($name,)*];
+    };
+}
+
+mistakes! {
     EveryFileRefused,
     LineNotCounted,
     LineBeforeNumber,
@@ -42,37 +53,6 @@ pub enum Mistake {
 }
 
 use Mistake::*;
-
-pub const MISTAKES: [Mistake; 28] = [
-    EveryFileRefused,
-    LineNotCounted,
-    LineBeforeNumber,
-    OpensAnyLength,
-    OldBytesLeft,
-    StepLeavesStore,
-    StepWritesAllOfLog,
-    StepTakesShortLog,
-    LetterOfRefusedStep,
-    SizeOfRefusedStep,
-    DoneMovesTheTick,
-    RenewedByAnyone,
-    RunDoesOneEvent,
-    CountsOneMore,
-    DoneForSpent,
-    SpentForDone,
-    RefusedRunTakenBack,
-    EventsOfRefusedStore,
-    EventsBeforeNotTold,
-    SpentOfRefusedEvent,
-    FewerInFlight,
-    UnusedNotLookedAt,
-    PastNotLookedAt,
-    WriterClearsTheRest,
-    WriterTakesShortPart,
-    SizeOfRefusedFile,
-    ElevenForTwelve,
-    LeftByDueTick,
-];
 
 static MADE: AtomicUsize = AtomicUsize::new(0);
 

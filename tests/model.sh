@@ -1,23 +1,44 @@
 #!/bin/sh
 # Holds the platform's definitions against the simulator: the log that they give of small random run files, computed by the
-# checker in a copy of the repository, has the bytes that the simulator writes.
+# checker in a copy of the crates that it takes, has the bytes that the simulator writes.
 #
 # Usage: tests/model.sh [SEED [COUNT]]
 
-set -eu
+. "$(dirname "$0")/common.sh"
 
-cd "$(dirname "$0")/.."
 seed=${1:-20261115}
 count=${2:-30}
+
+# below CRATE: the crates that it uses, at any depth, and itself.
+below() {
+    awk -v crate="$1" '
+        function visit(crate,    names, count, i) {
+            if (!(crate in uses) || crate in seen) return
+            seen[crate]
+            count = split(uses[crate], names, " ")
+            for (i = 1; i <= count; i++) visit(names[i])
+            print crate
+        }
+        { sub(/#.*/, "") }
+        split($0, parts, ":") == 2 { uses[parts[1]] = parts[2] }
+        END { visit(crate) }' crates.txt
+}
+
+# A crate is proved again in the copy where target/ has not proved it as it is.
+simulator
 copy=$(mktemp -d)
 trap 'rm -rf "$copy"' EXIT
-
-cp -R crates crates.txt target "$copy"
-python3 tests/model.py target/tests/simulate crates/edges/proofs/Starred.antt "$seed" "$count" > "$copy/crates/edges/proofs/Simulated.antt"
+mkdir -p "$copy/crates" "$copy/target/stamp" "$copy/target/rlib"
+cp crates.txt "$copy"
+for crate in $(below edges); do
+    cp -R "crates/$crate" "$copy/crates"
+    [ ! -e "target/stamp/$crate" ] || cp "target/stamp/$crate" "$copy/target/stamp"
+    [ ! -e "target/rlib/$crate.rlib" ] || cp -R "target/rlib/$crate.rlib" "$copy/target/rlib"
+done
+python3 tests/model.py "$out/simulate" crates/edges/proofs/Starred.antt "$seed" "$count" > "$copy/crates/edges/proofs/Simulated.antt"
 echo 'pub mod Simulated' >> "$copy/crates/edges/proofs/Lib.antt"
 if ! (cd "$copy" && rt dev edges) > "$copy/model.log" 2>&1 || ! grep -q '^logic=proved' "$copy/model.log"; then
     grep -v '^note' "$copy/model.log" | tail -n 40 >&2
-    echo "model: seed $seed: the definitions and the simulator differ" >&2
-    exit 1
+    fail "seed $seed: the definitions and the simulator differ"
 fi
 echo "model: seed $seed, the logs of $count files agree"

@@ -5,23 +5,12 @@
 #
 # Usage: tests/planner.sh [SEED [COUNT]]
 
-set -eu
+. "$(dirname "$0")/common.sh"
 
-cd "$(dirname "$0")/.."
 seed=${1:-20261115}
 count=${2:-40}
-out=target/tests
 library=target/staticlib/libplanner.a
 planner=$out/planner-c
-
-fail() {
-    echo "planner: $1" >&2
-    exit 1
-}
-
-compile() {
-    gcc -std=c11 -Wall -Wextra -Werror -O2 -Iinclude "$1" "$library" -o "$2"
-}
 
 # prints STATUS OUTPUT ERRORS [ARGUMENT ..]: what the planner's program writes of the run file on standard input, and how it ends.
 prints() {
@@ -153,14 +142,11 @@ wrong_use() {
     [ ! -e /dev/full ] || ! printf "$six_nodes" | "$planner" > /dev/full || fail 'output that cannot be written is passed over'
 }
 
-mkdir -p "$out"
-rt staticlib planner > "$out/planner.log" 2>&1 || {
-    tail -n 20 "$out/planner.log" >&2
-    exit 1
-}
-compile tests/planner.c "$out/planner-calls"
+rehearsal_program
+library planner
+c "$out/planner-calls" tests/planner.c "$library"
 "$out/planner-calls"
-compile include/planner.c "$planner"
+c "$planner" include/planner.c "$library"
 tables
 refusals
 nothing_to_tell

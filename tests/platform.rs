@@ -9,25 +9,23 @@
 //! and each mistake has to be found.
 
 mod calls;
-#[allow(dead_code)]
-#[path = "generate.rs"]
-mod generate;
+mod common;
 #[cfg(mock)]
 mod mock;
 mod runs;
 mod stores;
 
 use calls::{answer, opening, proved, refused, simulated, Answer, Call};
-use generate::Random;
+use common::{ended, same, seed_and_count, shown};
+use simulator::generator::{self, USUAL};
 use simulator::limits::*;
 use simulator::plan;
 use simulator::platform::Platform;
+use simulator::random::Random;
 use simulator::settle;
 use simulator::store::{self, Held};
 use std::process::ExitCode;
 
-/// The seed where none is given.
-const SEED: u64 = 20_261_115;
 /// How many files are generated where no count is given.
 const COUNT: u64 = 300;
 /// Calls on the store of one file.
@@ -90,13 +88,6 @@ struct Seen {
     met: runs::Met,
 }
 
-fn same<T: PartialEq + std::fmt::Debug>(what: &str, answer: T, wanted: T) -> Result<(), String> {
-    if answer == wanted {
-        return Ok(());
-    }
-    Err(format!("{what} answers {answer:?}, not {wanted:?}"))
-}
-
 impl Seen {
     fn count(&mut self, number: u64) {
         self.calls += 1;
@@ -142,11 +133,6 @@ impl Seen {
         }
         Ok(answer)
     }
-}
-
-fn shown(file: &[u8]) -> String {
-    let start = String::from_utf8_lossy(&file[..file.len().min(400)]).into_owned();
-    format!("the file, {} bytes:\n{}", file.len(), start.trim_end())
 }
 
 // ---- generated files, steps and runs mixed at random
@@ -239,7 +225,7 @@ fn lent(seen: &mut Seen, file: &[u8], random: &mut Random) -> Result<(), String>
 fn generated(seen: &mut Seen, seed: u64, count: u64) -> Result<(), String> {
     for index in 0..count {
         let mut random = Random::new(seed ^ 0x7061_7274, index);
-        let (file, good) = (generate::file(seed, index), generate::plan(seed, index));
+        let (file, good) = (generator::file(seed, index, USUAL), generator::plan(seed, index));
         let told = |file: &[u8], error| format!("seed {seed} index {index}: {error}\n{}", shown(file));
         sequence(seen, &file, &mut random).map_err(|error| told(&file, error))?;
         lent(seen, &good, &mut random).map_err(|error| told(&good, error))?;
@@ -380,12 +366,7 @@ fn full_flight(seen: &mut Seen) -> Result<(), String> {
 }
 
 fn worked_log(seen: &mut Seen) -> Result<(), String> {
-    let (file, log) = (
-        "P,2,2,3,1,6\nC,3,1\n",
-        "S,2,0,1,0000000000000000\nS,2,1,0,0000000000000000\nC,3,1,1,0000000000000000\nX,3,1,0,0000000000000000\n\
-         H,3,0,1,0000000000000000\nS,4,0,1,0000000000000000\nX,5,1,0,0000000000000000\nW,6,0,1,0000000000000002\n\
-         E,6,1,0,0000000000000002\n",
-    );
+    let (file, log) = (include_str!("worked.run"), include_str!("worked.log"));
     let fields = |line: &str| {
         let column: Vec<&str> = line.split(',').collect();
         let number = |place: usize| column[place].parse().expect("a number");
@@ -487,15 +468,9 @@ fn mistakes(_: u64) -> Result<(), String> {
 }
 
 fn main() -> ExitCode {
-    let mut words = std::env::args().skip(1).map(|word| word.parse().expect("SEED and COUNT are numbers"));
-    let (seed, count) = (words.next().unwrap_or(SEED), words.next().unwrap_or(COUNT));
+    let (seed, count) = seed_and_count(COUNT);
     println!("platform: seed {seed}, {count} generated files");
     let mut seen = Seen::default();
     let compared = mistakes(seed).and_then(|()| all(&mut seen, seed, count)).and_then(|()| summary(&seen, count));
-    if let Err(difference) = compared {
-        eprintln!("platform: {difference}");
-        return ExitCode::FAILURE;
-    }
-    println!("platform: passed");
-    ExitCode::SUCCESS
+    ended("platform", compared.map(|()| "passed".to_string()))
 }

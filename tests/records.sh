@@ -2,41 +2,20 @@
 # The nodes beside the rehearsal: tests/records.c drives a record for each node of a run file through the calls of a host in C,
 # and its log has to be the rehearsal program's, byte for byte: what is rehearsed is what the nodes do. The files are those
 # named below, most of 48 nodes, and generated ones; refused ones are left out. Mistakes planted in tests/records.c have to be
-# found. Stops at the first difference, prints its seed and keeps its file. tests/simulator.sh builds the generator.
+# found. Stops at the first difference, prints its seed and keeps its file.
 #
 # Usage: tests/records.sh [SEED [COUNT]]: COUNT small generated files, a fifth as many large ones; REHEARSE names another program.
 
-set -eu
+. "$(dirname "$0")/common.sh"
 
-cd "$(dirname "$0")/.."
 seed=${1:-20261115}
 count=${2:-600}
-rehearse=${REHEARSE:-target/bin/rehearse}
-out=target/tests
 work=$out/records-$seed
-library=target/staticlib/libhost.a
 seconds=20
-
-fail() {
-    echo "records: $1" >&2
-    exit 1
-}
-
-# The library is built where there is none, or where a source is newer than it.
-build() {
-    mkdir -p "$out" "$work"
-    if [ ! -e "$library" ] || [ -n "$(find crates crates.txt -newer "$library")" ]; then
-        rt staticlib host > "$out/host.log" 2>&1 || {
-            tail -n 20 "$out/host.log" >&2
-            exit 1
-        }
-    fi
-    compile 0 "$out/records"
-}
 
 # compile MISTAKE PROGRAM
 compile() {
-    gcc -std=c11 -Wall -Wextra -Werror -O2 -DMISTAKE="$1" -Iinclude tests/records.c "$library" -o "$2"
+    c "$2" -DMISTAKE="$1" tests/records.c target/staticlib/libhost.a
 }
 
 # differ NAME FILE WORDS: fails and keeps the file.
@@ -65,28 +44,22 @@ same() {
     [ "$nodes" -lt 48 ] || wide=$((wide + 1))
 }
 
-# generated KIND COUNT: files of the generator that are not refused; KIND is `small` or nothing.
+# generated NAME FILE: the same, unless the file is refused.
 generated() {
-    "$out/generate" $1 "$seed" "$2" "$work"
-    index=0
-    while [ "$index" -lt "$2" ]; do
-        name="seed $seed index $index ${1:-large}"
-        rehearsed "$name" "$work/$seed-$index.run"
-        case $(head -n 1 "$work/rehearsed") in
-            [1-6],*) refused=$((refused + 1)) ;;
-            *) same "$name" "$work/$seed-$index.run" ;;
-        esac
-        index=$((index + 1))
-    done
+    rehearsed "$1" "$2"
+    case $(head -n 1 "$work/rehearsed") in
+        [1-6],*) refused=$((refused + 1)) ;;
+        *) same "$1" "$2" ;;
+    esac
 }
 
-# named NAME COMMAND..: the file that the command writes, which may not be refused.
+# named WORDS COMMAND..: the file that the command writes, which may not be refused.
 named() {
-    name=$1
+    words=$1
     shift
     "$@" > "$work/named.run"
-    rehearsed "$name" "$work/named.run"
-    same "$name" "$work/named.run"
+    rehearsed "$words" "$work/named.run"
+    same "$words" "$work/named.run"
 }
 
 # ring P-LINE [CRASHES..]: a file of this P line. Each five numbers are C lines: how many, from which tick on, how many ticks
@@ -164,11 +137,13 @@ counted() {
     done
 }
 
-[ -x "$rehearse" ] || fail "there is no program $rehearse"
-[ -x "$out/generate" ] || fail "there is no program $out/generate; tests/simulator.sh builds it"
+simulator
+rehearsal_program
+library host
 echo "records: $rehearse, seed $seed, $count small and $((count / 5)) large generated files"
+mkdir -p "$work"
 trap 'rm -rf "$work"' EXIT
-build
+compile 0 "$out/records"
 # A program that writes without end is stopped at 64 megabytes.
 ulimit -f 131072
 files=0 wide=0 refused=0
@@ -176,7 +151,7 @@ small_rings
 rings_of_48
 full_rings
 mistakes
-generated '' $((count / 5))
-generated small "$count"
+each_generated '' $((count / 5)) "$work" generated
+each_generated small "$count" "$work" generated
 lines=$(counted)
 echo "records: $files files, $wide of them with 48 nodes or more, agree; $refused refused; 6 mistakes found; lines:$lines"

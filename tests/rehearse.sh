@@ -1,23 +1,15 @@
 #!/bin/sh
 # The rehearsal program beside the simulator: the same bytes for generated run files, good and damaged, for a few large ones,
 # for files at and beyond the greatest length, and for input that comes in pieces. Then its streams: slow, full, closed or no file.
-# Stops at the first difference, prints its seed and keeps its file. tests/simulator.sh builds the simulator and the generator.
+# Stops at the first difference, prints its seed and keeps its file.
 #
 # Usage: tests/rehearse.sh [SEED [COUNT]]; REHEARSE names another program to compare.
 
-set -eu
+. "$(dirname "$0")/common.sh"
 
-cd "$(dirname "$0")/.."
 seed=${1:-20261115}
 count=${2:-2000}
-rehearse=${REHEARSE:-target/bin/rehearse}
-out=target/tests
 work=$out/rehearse-$seed
-
-fail() {
-    echo "rehearse: $1" >&2
-    exit 1
-}
 
 # run: the program, which ends within two minutes.
 run() {
@@ -38,16 +30,6 @@ same() {
     files=$((files + 1))
 }
 
-# generated KIND COUNT: files of the generator; KIND is `small` or nothing.
-generated() {
-    "$out/generate" $1 "$seed" "$2" "$work"
-    index=0
-    while [ "$index" -lt "$2" ]; do
-        same "seed $seed index $index ${1:-usual}" "$work/$seed-$index.run"
-        index=$((index + 1))
-    done
-}
-
 # named NAME LINES: a file of these lines.
 named() {
     printf "$2" > "$work/named.run"
@@ -56,7 +38,7 @@ named() {
 
 # padded LENGTH: a good file, then line feeds up to this length, so that its first bytes are no other file of good form.
 padded() {
-    { printf 'P,2,2,3,1,6\nC,3,1\n'; head -c $(($1 - 18)) /dev/zero | tr '\0' '\n'; } > "$work/padded.run"
+    { cat tests/worked.run; head -c $(($1 - 18)) /dev/zero | tr '\0' '\n'; } > "$work/padded.run"
     same "$1 bytes" "$work/padded.run"
 }
 
@@ -73,29 +55,20 @@ large() {
 }
 
 worked_log() {
-    printf 'P,2,2,3,1,6\nC,3,1\n' | run > "$work/worked" || true
-    printf 'S,2,0,1,0000000000000000
-S,2,1,0,0000000000000000
-C,3,1,1,0000000000000000
-X,3,1,0,0000000000000000
-H,3,0,1,0000000000000000
-S,4,0,1,0000000000000000
-X,5,1,0,0000000000000000
-W,6,0,1,0000000000000002
-E,6,1,0,0000000000000002
-' > "$work/expected"
-    cmp "$work/expected" "$work/worked" || fail "the log of 01's first example differs"
+    run < tests/worked.run > "$work/worked" || true
+    cmp tests/worked.log "$work/worked" || fail "the log of 01's first example differs"
 }
 
 # A file that comes a few bytes at a time, and one longer than a pipe holds.
 pieces() {
     { printf 'P,2,2'; sleep 0.2; printf ',3,1,6\nC,3'; sleep 0.2; printf ',1\n'; } | run > "$work/pieces" || true
-    cmp "$work/expected" "$work/pieces" || fail 'input in pieces is read otherwise'
+    cmp tests/worked.log "$work/pieces" || fail 'input in pieces is read otherwise'
     cat "$work/padded.run" | run > "$work/pieces" || true
     printf '1,0\n' | cmp - "$work/pieces" || fail 'a long input through a pipe is read otherwise'
 }
 
-[ -x "$rehearse" ] || fail "there is no program $rehearse"
+simulator
+rehearsal_program
 echo "rehearse: $rehearse, seed $seed, $count generated files"
 mkdir -p "$work"
 trap 'rm -rf "$work"' EXIT
@@ -108,8 +81,8 @@ named 'a byte that is no text' 'P,2,2,3,1,6\n\000\377\n'
 for length in 65536 65537 131072 200000; do padded "$length"; done
 pieces
 large
-gcc -std=c11 -Wall -Wextra -Werror -O2 -shared -fPIC tests/streams.c -o "$work/streams.so" -ldl
+c "$work/streams.so" -shared -fPIC tests/streams.c -ldl
 python3 tests/streams.py "$rehearse" "$work/large.run" "$work/large.log" "$work/streams.so"
-generated '' $((count / 50))
-generated small "$count"
+each_generated '' $((count / 50)) "$work" same
+each_generated small "$count" "$work" same
 echo "rehearse: $files files, $lines lines agree"

@@ -4,12 +4,14 @@
 //! by 8, or send more messages in one call than the queue has places.
 
 use super::calls::Call;
-use super::generate::{self, Draft, Random, CROWD, ORDERS};
-use super::{opened, platform_of, shown, Lent, Seen};
+use super::common::shown;
+use super::{opened, platform_of, Lent, Seen};
+use simulator::generator::{self, Draft, CROWD, ORDERS};
 use simulator::log::Line;
 use simulator::node::{Content, Node};
 use simulator::platform::{Platform, Step};
 use simulator::queue::Message;
+use simulator::random::Random;
 use simulator::store::Held;
 
 /// Budgets about those at which a run may change how it finds its events, the least and the greatest.
@@ -147,7 +149,7 @@ fn short_draft(random: &mut Random, most_nodes: u64, events: u64) -> Draft {
     let (first, pace) = (random.range(0, end / 2), random.range(0, 2));
     let tick_of = |row| if row == 0 { end } else { first + row * pace };
     let rows = (0..random.range(0, nodes)).map(|row| (tick_of(row), random.range(0, nodes - 1))).collect();
-    generate::put_crashes(&mut draft, rows);
+    generator::put_crashes(&mut draft, rows);
     draft
 }
 
@@ -188,7 +190,7 @@ fn crowds(seen: &mut Seen) -> Result<(), String> {
     let places = [0, 700, CROWD - 64, CROWD - 17, CROWD - 1, CROWD, CROWD + 1, CROWD + 64, CROWD + 80, 2_600, 4_000];
     for order in ORDERS {
         for (tick, survivors) in [(33, 0), (33, 64), (32, 2), (32, 12)] {
-            let mut draft = generate::crowd(order);
+            let mut draft = generator::crowd(order);
             draft.crashes = (survivors..64).map(|node| (tick, node)).collect();
             from_places(seen, &draft.bytes(), places, |_| FEW_BUDGETS.to_vec())
                 .map_err(|error| format!("{order:?} crowd of which {survivors} survive tick {tick}: {error}"))?;

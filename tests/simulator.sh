@@ -5,30 +5,11 @@
 #
 # Usage: tests/simulator.sh [SEED [COUNT]]
 
-set -eu
+. "$(dirname "$0")/common.sh"
 
-cd "$(dirname "$0")/.."
 seed=${1:-20261115}
 count=${2:-400}
-out=target/tests
 files=$out/generated-$seed
-
-fail() {
-    echo "simulator: $1" >&2
-    exit 1
-}
-
-compile() {
-    rustc --edition 2021 -D warnings "$@"
-}
-
-build() {
-    mkdir -p "$out"
-    compile -O -C codegen-units=1 --crate-type rlib docs/src/simulator.rs --out-dir "$out"
-    compile -O docs/src/simulate.rs --extern simulator="$out/libsimulator.rlib" -o "$out/simulate"
-    compile -O tests/generate.rs -o "$out/generate"
-    compile -C opt-level=1 -C debug-assertions --test docs/src/simulator.rs -o "$out/simulator-tests"
-}
 
 # answers NAME INPUT ANSWER COMMAND: the program, given COMMAND, answers INPUT by ANSWER, byte for byte.
 answers() {
@@ -39,35 +20,19 @@ answers() {
 }
 
 worked_logs() {
-    answers two 'P,2,2,3,1,6\nC,3,1\n' 'S,2,0,1,0000000000000000
-S,2,1,0,0000000000000000
-C,3,1,1,0000000000000000
-X,3,1,0,0000000000000000
-H,3,0,1,0000000000000000
-S,4,0,1,0000000000000000
-X,5,1,0,0000000000000000
-W,6,0,1,0000000000000002
-E,6,1,0,0000000000000002
-' ''
+    answers two "$(cat tests/worked.run)\n" "$(cat tests/worked.log)\n" ''
     answers alone 'P,1,1,2,1,5\n' 'E,5,1,0,0000000000000000\n' ''
     answers empty '' '1,0\n' ''
     answers short 'P,2,2,2,1,6\n' '4,1\n' ''
 }
 
-# Each answer is a refusal, or a log that ends in E or in 8,0.
-generated() {
-    mkdir -p "$files"
-    "$out/generate" "$seed" "$count" "$files"
-    index=0
-    while [ "$index" -lt "$count" ]; do
-        "$out/simulate" < "$files/$seed-$index.run" > "$out/generated.log" || fail "seed $seed index $index: failed"
-        case $(tail -n 1 "$out/generated.log") in
-            E,* | [1-6],* | 8,0) ;;
-            *) fail "seed $seed index $index: no last line" ;;
-        esac
-        index=$((index + 1))
-    done
-    rm -r "$files"
+# ends NAME FILE: the answer is a refusal, or a log that ends in E or in 8,0.
+ends() {
+    "$out/simulate" < "$2" > "$out/generated.log" || fail "$1: failed"
+    case $(tail -n 1 "$out/generated.log") in
+        E,* | [1-6],* | 8,0) ;;
+        *) fail "$1: no last line" ;;
+    esac
 }
 
 # The tables of N 1 and of refused questions hold 255 in all 384 places.
@@ -80,11 +45,14 @@ commands() {
 }
 
 echo "simulator: seed $seed, $count generated files"
-build
+simulator
+rustc --edition 2021 -D warnings -C opt-level=1 -C debug-assertions --test docs/src/simulator.rs -o "$out/simulator-tests"
 "$out/simulator-tests" --quiet
 worked_logs
 commands
-generated
+mkdir -p "$files"
+each_generated '' "$count" "$files" ends
+rm -r "$files"
 printf 'P,64,10,265,255,1000000\n' > "$out/speed.run"
 "$out/simulate" time "$out/speed.run"
 echo "simulator: passed"

@@ -1,12 +1,12 @@
 //! Stores that no run file leads to, all of them in range: a plan with any fields of nodes and any messages that the ranges
 //! allow. Rules can be told apart on them that no run tells apart, as a watch renewed by a heartbeat from anyone.
 
-use super::generate::Random;
 use simulator::limits::*;
 use simulator::node::{Content, Node};
 use simulator::plan::Plan;
 use simulator::platform::Platform;
 use simulator::queue::Message;
+use simulator::random::Random;
 use simulator::store;
 
 /// Where a store has the subjects of its messages.

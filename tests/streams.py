@@ -17,17 +17,11 @@ import time
 
 LIMIT = 120  # seconds for a run
 PAUSE = 0.3  # seconds for which a slow stream waits
-GOOD = b"P,2,2,3,1,6\nC,3,1\n"
-LOG = b"""S,2,0,1,0000000000000000
-S,2,1,0,0000000000000000
-C,3,1,1,0000000000000000
-X,3,1,0,0000000000000000
-H,3,0,1,0000000000000000
-S,4,0,1,0000000000000000
-X,5,1,0,0000000000000000
-W,6,0,1,0000000000000002
-E,6,1,0,0000000000000002
-"""
+# 01's first example.
+with open("tests/worked.run", "rb") as file:
+    GOOD = file.read()
+with open("tests/worked.log", "rb") as file:
+    LOG = file.read()
 
 
 def fail(case, told):

@@ -1,12 +1,15 @@
 #!/bin/sh
 # Compares the forwarding tables of the proved program with the simulator's, byte for byte.
-# Usage: tests/table.sh [TABLES [SIMULATE [SEED]]], the paths of the two built programs; the simulator is called as `SIMULATE table`.
 # For each N from 0 to 66, 100 and 999: no node listed, every node, all but one, every bit, each single bit, random lists
 # below N, and random lists with a bit from N on.
-set -eu
-tables=${1:-target/bin/tables}
-simulate=${2:-target/tests/simulate}
-seed=${3:-1}
+#
+# Usage: tests/table.sh [SEED]
+
+. "$(dirname "$0")/common.sh"
+
+seed=${1:-1}
+program tables
+simulator
 work=$(mktemp -d)
 trap 'rm -r "$work"' EXIT
 
@@ -48,16 +51,14 @@ BEGIN {
     cases(999)
 }' >"$work/lines"
 
-"$tables" <"$work/lines" >"$work/proved"
-"$simulate" table <"$work/lines" >"$work/simulated"
+target/bin/tables <"$work/lines" >"$work/proved"
+"$out/simulate" table <"$work/lines" >"$work/simulated"
 count=$(wc -l <"$work/lines")
 if [ "$(wc -l <"$work/proved")" -ne "$count" ]; then
-    echo "table: the proved program does not write a line for each of $count (seed $seed)"
-    exit 1
+    fail "the proved program does not write a line for each of $count (seed $seed)"
 fi
 if ! cmp -s "$work/proved" "$work/simulated"; then
     at=$(cmp "$work/proved" "$work/simulated" 2>&1 | sed -n 's/.*line \([0-9]*\).*/\1/p')
-    echo "table: the programs differ (seed $seed), first at: $(sed -n "${at:-1}p" "$work/lines")"
-    exit 1
+    fail "the programs differ (seed $seed), first at: $(sed -n "${at:-1}p" "$work/lines")"
 fi
 echo "table: $count lists agree (seed $seed)"

@@ -1,4 +1,4 @@
-"""Holds what docs/timeline.py draws and says against the lines of logs.
+"""Holds what tools/timeline.py draws and says against the lines of logs.
 
 Usage: timeline.py SIMULATE DIRECTORY SHOWN FILE..., the simulator's program, a directory for pictures, the run file of the committed
 picture, and more run files, good and damaged. Stops at the first difference.
@@ -30,7 +30,7 @@ def log_of(run_file):
 def timeline(log, *arguments, limit=None):
     """Runs the script; a limit is that of the bytes it may write to a file."""
     bounds = (lambda: resource.setrlimit(resource.RLIMIT_FSIZE, (limit, limit))) if limit else None
-    done = subprocess.run([sys.executable, "docs/timeline.py", *arguments], input=log, capture_output=True, preexec_fn=bounds)
+    done = subprocess.run([sys.executable, "tools/timeline.py", *arguments], input=log, capture_output=True, preexec_fn=bounds)
     check(b"Traceback" not in done.stderr, f"timeline.py fails on {log[:200]!r}: {done.stderr.decode()}")
     return done
 

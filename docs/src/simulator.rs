@@ -14,15 +14,19 @@
 //! - `store`: the bytes of a platform, written, read and checked.
 //! - `exhaust`: all runs of a small ring.
 //! - `log`: log lines, written, read and cut into columns.
+//! - `random`: seeded numbers.
+//! - `generator`: run files of a seed, good and damaged.
 
 pub mod exhaust;
 pub mod fields;
+pub mod generator;
 pub mod limits;
 pub mod log;
 pub mod node;
 pub mod plan;
 pub mod platform;
 pub mod queue;
+pub mod random;
 pub mod record;
 pub mod ring;
 pub mod settle;

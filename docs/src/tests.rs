@@ -1,16 +1,15 @@
 //! Whole runs: the worked logs, the edges of 01 that concern the platform, and demand 3's words on
 //! generated plans.
 
+use super::generator;
 use super::log::Line;
 use super::node::{Node, Timer};
 use super::plan::{self, Crash};
 use super::platform::{Ending, Platform, Run, Step};
 use super::queue::{Cause, Pending};
+use super::random::Random;
 use super::settle;
 use super::store;
-
-#[path = "../../tests/generate.rs"]
-mod generate;
 
 /// The seed of the generated plans; a failing case names its index.
 const SEED: u64 = 20_261_115;
@@ -237,7 +236,7 @@ fn demand_3_on_generated_plans() {
     let mut owed = 0u64;
     for index in 0..300 {
         let file =
-            if index % 2 == 0 { generate::plan(SEED, index) } else { generate::spaced_plan(SEED, index) };
+            if index % 2 == 0 { generator::plan(SEED, index) } else { generator::spaced_plan(SEED, index) };
         let plan = plan::read(&file).unwrap_or_else(|refusal| panic!("index {index}: {refusal:?}"));
         assert_eq!(plan.bytes(), file, "index {index}");
         let mut platform = Platform::open(plan);
@@ -283,7 +282,7 @@ fn timers_of(node: &Node) -> impl Iterator<Item = (u32, Cause)> {
 #[test]
 fn the_heap_agrees_with_a_plain_search() {
     for index in 0..20 {
-        let mut platform = Platform::open(plan::read(&generate::plan(SEED + 4, index)).unwrap());
+        let mut platform = Platform::open(plan::read(&generator::plan(SEED + 4, index)).unwrap());
         for event in 0..1_000 {
             let found = next_by_search(&platform);
             assert_eq!(platform.next_event(), found, "index {index}, after {event} events");
@@ -298,9 +297,9 @@ fn the_heap_agrees_with_a_plain_search() {
 #[test]
 fn steps_and_runs_agree() {
     for index in 0..60 {
-        let plan = plan::read(&generate::plan(SEED + 1, index)).unwrap();
+        let plan = plan::read(&generator::plan(SEED + 1, index)).unwrap();
         let (mut by_step, mut by_run) = (Platform::open(plan.clone()), Platform::open(plan));
-        let mut random = generate::Random::new(SEED + 1, index);
+        let mut random = Random::new(SEED + 1, index);
         loop {
             let budget = random.range(0, 300);
             let run = by_run.run(budget);
@@ -318,7 +317,7 @@ fn steps_and_runs_agree() {
 #[test]
 fn messages_in_flight_are_in_range() {
     for index in 0..60 {
-        let mut platform = Platform::open(plan::read(&generate::plan(SEED + 2, index)).unwrap());
+        let mut platform = Platform::open(plan::read(&generator::plan(SEED + 2, index)).unwrap());
         while platform.run(97).ending == Ending::Spent {
             let messages = platform.messages();
             let plan = platform.plan();
@@ -340,7 +339,7 @@ fn messages_in_flight_are_in_range() {
 #[test]
 fn every_store_that_events_lead_to() {
     for index in 0..40 {
-        let mut platform = Platform::open(plan::read(&generate::plan(SEED + 5, index)).unwrap());
+        let mut platform = Platform::open(plan::read(&generator::plan(SEED + 5, index)).unwrap());
         for round in 0..100 {
             let bytes = store::encode(&platform);
             let held = store::decode(&bytes);
@@ -373,7 +372,7 @@ fn held_state(platform: &Platform) -> impl PartialEq + std::fmt::Debug {
 fn damaged_files_are_answered() {
     let mut refused = [0; 7];
     for index in 0..3_000 {
-        let file = generate::file(SEED + 3, index);
+        let file = generator::file(SEED + 3, index, generator::USUAL);
         match plan::read(&file) {
             Ok(plan) => assert_eq!(plan.bytes(), file, "index {index}"),
             Err(refusal) => refused[usize::from(refusal.number)] += 1,

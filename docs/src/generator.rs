@@ -1,25 +1,15 @@
-//! A seeded generator of run files, good and damaged.
+//! A seeded generator of run files, good and damaged. A file depends on its seed and index alone.
 //!
-//! As a module: `file(seed, index)` gives the bytes of one file, `small_file(seed, index)` one of few
-//! events, `plan(seed, index)` an undamaged one, `spaced_plan(seed, index)` one whose crashes are all
-//! spaced by S; `crowd(order)` is a plan that brings 2,048 messages into flight, due in that order.
-//! As a program: `generate SEED COUNT DIR` writes DIR/SEED-INDEX.run for each index below COUNT,
-//! `generate one SEED INDEX` writes that file to standard output; `generate small ..` does the same with
-//! files of few events. A file depends on its seed and index alone.
-#![allow(dead_code)]
+//! `file(seed, index, size)` gives the bytes of one file, `plan(seed, index)` an undamaged one, `spaced_plan(seed, index)` one whose
+//! crashes are all spaced by S; `crowd(order)` is a plan that brings 2,048 messages into flight, due in that order.
 
+use super::limits::{FILE_BYTES, MAX_DELAY_ROWS};
+use super::random::Random;
 use std::fmt::Write as _;
-use std::io::{self, Write as _};
-use std::process::ExitCode;
-
-/// Longest accepted run file, in bytes.
-const FILE_BYTES: usize = 65_536;
-/// Most L lines.
-const MAX_DELAY_ROWS: u64 = 2_048;
 
 /// How many events the heartbeats of a plan lead to.
 #[derive(Clone, Copy)]
-struct Size {
+pub struct Size {
     /// About how many.
     events: u64,
     /// At most, where the plan is damaged.
@@ -28,40 +18,8 @@ struct Size {
     crowded: bool,
 }
 
-const USUAL: Size = Size { events: 6_000, most_events: 20_000, crowded: true };
-const SMALL: Size = Size { events: 240, most_events: 1_500, crowded: false };
-
-/// Splitmix64.
-pub struct Random(u64);
-
-impl Random {
-    pub fn new(seed: u64, index: u64) -> Random {
-        let mut random = Random(seed);
-        let mixed = random.draw() ^ index.wrapping_mul(0x9e37_79b9_7f4a_7c15);
-        Random(mixed)
-    }
-
-    pub fn draw(&mut self) -> u64 {
-        self.0 = self.0.wrapping_add(0x9e37_79b9_7f4a_7c15);
-        let mut mixed = self.0;
-        mixed = (mixed ^ mixed >> 30).wrapping_mul(0xbf58_476d_1ce4_e5b9);
-        mixed = (mixed ^ mixed >> 27).wrapping_mul(0x94d0_49bb_1331_11eb);
-        mixed ^ mixed >> 31
-    }
-
-    /// A number from `low` to `high`, both included.
-    pub fn range(&mut self, low: u64, high: u64) -> u64 {
-        low + self.draw() % (high - low + 1)
-    }
-
-    pub fn chance(&mut self, of: u64) -> bool {
-        self.range(1, of) == 1
-    }
-
-    pub fn pick<T: Copy>(&mut self, choices: &[T]) -> T {
-        choices[self.range(0, choices.len() as u64 - 1) as usize]
-    }
-}
+pub const USUAL: Size = Size { events: 6_000, most_events: 20_000, crowded: true };
+pub const SMALL: Size = Size { events: 240, most_events: 1_500, crowded: false };
 
 /// The fields of a run file, in the paper's order.
 pub struct Draft {
@@ -95,16 +53,7 @@ impl Draft {
 }
 
 /// One file: about one in three is damaged.
-pub fn file(seed: u64, index: u64) -> Vec<u8> {
-    sized_file(seed, index, USUAL)
-}
-
-/// One file of few events: about one in three is damaged.
-pub fn small_file(seed: u64, index: u64) -> Vec<u8> {
-    sized_file(seed, index, SMALL)
-}
-
-fn sized_file(seed: u64, index: u64, size: Size) -> Vec<u8> {
+pub fn file(seed: u64, index: u64, size: Size) -> Vec<u8> {
     let mut random = Random::new(seed, index);
     let bytes = draft(&mut random, size).bytes();
     if random.chance(3) {
@@ -278,8 +227,8 @@ fn crash_spaced(random: &mut Random, draft: &mut Draft, short: u64) {
 fn put_delays(random: &mut Random, draft: &mut Draft) {
     let count = match random.range(0, 4) {
         0 => return,
-        1 => MAX_DELAY_ROWS,
-        _ => random.range(0, MAX_DELAY_ROWS),
+        1 => MAX_DELAY_ROWS as u64,
+        _ => random.range(0, MAX_DELAY_ROWS as u64),
     };
     let style = random.range(0, 4);
     let gap = random.pick(&[1, 1, 2, 4]);
@@ -450,48 +399,11 @@ fn lengthen_file(random: &mut Random, bytes: &mut Vec<u8>) {
 
 /// Adds C or L rows at the end, possibly one more than a file may hold.
 fn add_rows(random: &mut Random, bytes: &mut Vec<u8>) {
-    let rows = random.pick(&[1, 2, MAX_DELAY_ROWS, MAX_DELAY_ROWS + 1, MAX_DELAY_ROWS + 1]);
+    let most = MAX_DELAY_ROWS as u64;
+    let rows = random.pick(&[1, 2, most, most + 1, most + 1]);
     let letter = random.pick(&['C', 'L', 'L', 'L']);
     let base = random.pick(&[0, 10_000, 900_000, 900_000]);
     for row in 0..rows {
         bytes.extend_from_slice(format!("{letter},{},1\n", base + row).as_bytes());
     }
-}
-
-pub fn main() -> ExitCode {
-    let arguments: Vec<String> = std::env::args().skip(1).collect();
-    let words: Vec<&str> = arguments.iter().map(String::as_str).collect();
-    let (words, size) = match &words[..] {
-        ["small", rest @ ..] => (rest, SMALL),
-        all => (all, USUAL),
-    };
-    let done = match *words {
-        ["one", seed, index] => write_one(seed, index, size),
-        [seed, count, directory] => write_many(seed, count, directory, size),
-        _ => None,
-    };
-    match done {
-        Some(Ok(())) => ExitCode::SUCCESS,
-        Some(Err(error)) => {
-            eprintln!("generate: {error}");
-            ExitCode::from(1)
-        }
-        None => {
-            eprintln!("usage: generate [small] SEED COUNT DIR | generate [small] one SEED INDEX");
-            ExitCode::from(2)
-        }
-    }
-}
-
-fn write_one(seed: &str, index: &str, size: Size) -> Option<io::Result<()>> {
-    let bytes = sized_file(seed.parse().ok()?, index.parse().ok()?, size);
-    Some(io::stdout().write_all(&bytes))
-}
-
-fn write_many(seed: &str, count: &str, directory: &str, size: Size) -> Option<io::Result<()>> {
-    let (seed, count): (u64, u64) = (seed.parse().ok()?, count.parse().ok()?);
-    Some((0..count).try_for_each(|index| {
-        let path = std::path::Path::new(directory).join(format!("{seed}-{index}.run"));
-        std::fs::write(path, sized_file(seed, index, size))
-    }))
 }

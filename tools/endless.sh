@@ -3,42 +3,28 @@
 # program, the platform's calls, the reader of run files, log lines, node records and the header's readers of them; and rings of
 # node records beside the rehearsal program. Builds all of them first. Prints what it tries, stops at the first difference and says how to repeat it.
 #
-# Usage: tests/endless.sh [SEED [ROUNDS]]: the seed of the first round, by default from the clock, and how many rounds, by default
+# Usage: tools/endless.sh [SEED [ROUNDS]]: the seed of the first round, by default from the clock, and how many rounds, by default
 # until it is stopped. REHEARSE names another program than the proved one.
 
-set -eu
+. "$(dirname "$0")/../tests/common.sh"
 
-cd "$(dirname "$0")/.."
 seed=${1:-$(date +%s)}
 rounds=${2:-0}
-out=target/tests
 began=$(date +%s)
-
-# build COMMAND..: what it prints is shown only where it fails.
-build() {
-    mkdir -p "$out"
-    "$@" > "$out/endless.log" 2>&1 || {
-        tail -n 30 "$out/endless.log" >&2
-        echo "endless: $* fails" >&2
-        exit 1
-    }
-}
 
 # try COMMAND..: one comparison; the last line that it prints is shown.
 try() {
     if ! "$@" > "$out/endless.log" 2>&1; then
         tail -n 30 "$out/endless.log" >&2
-        echo "endless: round $round, seed $seed: a difference; to repeat: $*" >&2
-        exit 1
+        fail "round $round, seed $seed: a difference; to repeat: $*"
     fi
     echo "  $* | $(grep -v ': passed$' "$out/endless.log" | tail -n 1)"
 }
 
 echo "endless: building, which takes some minutes"
-build sh tests/simulator.sh
-[ -n "${REHEARSE:-}" ] || build rt check rehearse
-for test in platform files lines host; do
-    build sh "tests/$test.sh"
+rehearsal_program
+for test in simulator platform files lines host; do
+    quietly sh "tests/$test.sh"
 done
 
 round=1

@@ -8,13 +8,11 @@
 //! and then by turns. The time of a proved call has its one check of the store in it.
 
 #[allow(dead_code)]
+#[path = "../tests/calls.rs"]
 mod calls;
-#[allow(dead_code)]
-#[path = "generate.rs"]
-mod generate;
 
 use calls::{proved, Call};
-use generate::{Draft, CROWD, ORDERS};
+use simulator::generator::{self, Draft, CROWD, ORDERS};
 use simulator::limits::*;
 use simulator::plan;
 use simulator::platform::Platform;
@@ -275,7 +273,7 @@ fn filling() -> Result<(), String> {
     println!("Runs on a store with 2,048 in flight, by the order of their due ticks; in microseconds, the check taken off.\n");
     println!("{:<8} {:>10} {:>10}", "dues", format!("budget {}", QUEUED - 1), format!("budget {QUEUED}"));
     for order in ORDERS {
-        let store = store_of(&generate::crowd(order), CROWD + 64)?;
+        let store = store_of(&generator::crowd(order), CROWD + 64)?;
         let (times, check) = call_times(&store, &[QUEUED - 1, QUEUED].map(|budget| Call::Run { budget }));
         println!("{:<8} {:>10.1} {:>10.1}", format!("{order:?}").to_lowercase(), times[0] - check, times[1] - check);
     }

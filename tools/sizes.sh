@@ -1,7 +1,7 @@
 #!/bin/sh
 # The size of each crate in lines: its code, its definitions, its laws, the proofs of its functions, and its must-fail edits.
 #
-# Usage: tests/sizes.sh, which writes a table.
+# Usage: tools/sizes.sh, which writes a table. `python3 tools/figures.py --sizes` puts it into docs/FIGURES.md.
 
 set -eu
 
@@ -18,7 +18,7 @@ row() {
 echo '| Crate | Code | Definitions | Laws | Functions'"'"' proofs | Edits |'
 echo '|---|---|---|---|---|---|'
 all_code=0 all_specs=0 all_laws=0 all_proofs=0 all_edits=0
-for crate in $(sed -n 's/^\([a-z]*\):.*/\1/p' crates.txt); do
+for crate in $(sed -n 's/^\([a-z0-9_]*\):.*/\1/p' crates.txt); do
     at=crates/$crate
     code=$(lines $(find "$at/src" -name '*.rt'))
     specs=$(lines $(find "$at" -path '*/specs/*.antt'))

@@ -1,0 +1,41 @@
+//! What the programs that compare have in common: their words, how two answers are held against each other, and how they end.
+#![allow(dead_code)]
+
+use std::fmt::Debug;
+use std::process::ExitCode;
+
+/// The seed where none is given.
+pub const SEED: u64 = 20_261_115;
+
+/// The words SEED and COUNT; what is not given is `SEED`, or this count.
+pub fn seed_and_count(count: u64) -> (u64, u64) {
+    let mut words = std::env::args().skip(1).map(|word| word.parse().expect("SEED and COUNT are numbers"));
+    (words.next().unwrap_or(SEED), words.next().unwrap_or(count))
+}
+
+pub fn same<T: PartialEq + Debug>(what: &str, answer: T, wanted: T) -> Result<(), String> {
+    if answer == wanted {
+        return Ok(());
+    }
+    Err(format!("{what} answers\n  {answer:?}, not\n  {wanted:?}"))
+}
+
+/// A run file's length and start.
+pub fn shown(file: &[u8]) -> String {
+    let start = String::from_utf8_lossy(&file[..file.len().min(400)]).into_owned();
+    format!("the file, {} bytes:\n{}", file.len(), start.trim_end())
+}
+
+/// Ends a program: its last line says what agrees; where there is a difference it is told, and the program fails.
+pub fn ended(name: &str, compared: Result<String, String>) -> ExitCode {
+    match compared {
+        Ok(words) => {
+            println!("{name}: {words}");
+            ExitCode::SUCCESS
+        }
+        Err(difference) => {
+            eprintln!("{name}: {difference}");
+            ExitCode::FAILURE
+        }
+    }
+}
