@@ -1,6 +1,7 @@
 //! The platform's calls, each in two ways: through the static library, and by the simulator on what a store holds.
 
 use simulator::limits::*;
+use simulator::log;
 use simulator::platform::{Ending, Run, Step};
 use simulator::store::Held;
 
@@ -82,15 +83,13 @@ pub mod proved {
     }
 }
 
-fn step(held: &mut Held, log: &mut [u8]) -> Answer {
-    if log.len() < LINE_BYTES {
+fn step(held: &mut Held, part: &mut [u8]) -> Answer {
+    if part.len() < LINE_BYTES {
         return refused(REFUSED_PART);
     }
-    let line = match held.platform.step() {
-        Step::Event(line) | Step::Done(line) => line,
-        Step::Refused => return refused(REFUSED_EVENT),
-    };
-    let size = line.write(log).expect("the line is in range and the part long enough");
+    let step = held.platform.step();
+    let (Step::Event(line) | Step::Done(line)) = step else { return refused(REFUSED_EVENT) };
+    let size = log::write(step.lines(), part).expect("the lines are in range and the part long enough");
     answer(0, &[u64::from(line.letter), line.tick, line.node, line.other, size as u64])
 }
 

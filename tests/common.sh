@@ -90,7 +90,7 @@ simulator_parts() {
 
 # simulator: its library, the program `simulate` and the generator of run files.
 simulator() {
-    made "$(rustc --version) $(sum docs/src tests/common.sh)" "$out/simulate" "$out/generate" "$out/libsimulator.rlib" -- simulator_parts
+    made "$(rustc --version) $(sum docs/src/*.rs tests/common.sh)" "$out/simulate" "$out/generate" "$out/libsimulator.rlib" -- simulator_parts
 }
 
 # c PROGRAM WORDS..: compiles and links a C program; a folder of -I is looked at before include/.

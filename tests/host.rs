@@ -7,6 +7,7 @@ use simulator::limits::{MAX_NODES, MAX_PERIOD, MAX_TICK, MAX_TIMEOUT};
 use simulator::node::{Content, Node, Sends, Settings};
 use simulator::random::Random;
 use simulator::record::Record;
+use simulator::ring;
 
 extern "C" {
     fn kelbraut_node_open(record: *mut u8, size: usize, number: u64, nodes: u64, h: u64, w: u64) -> u64;
@@ -79,7 +80,7 @@ fn decode(bytes: &[u8]) -> Option<Record> {
         && heartbeat.is_none_or(|due| observer != me && u64::from(due) <= last + h)
         && bytes[28..].iter().all(|b| *b == 0);
     good.then_some(Record {
-        settings: Settings { nodes, period: h as u32, timeout: w as u32 },
+        settings: Settings { ring: ring::Ring { nodes }, period: h as u32, timeout: w as u32 },
         node: Node { number: me, alive: true, emitter, observer, watch, heartbeat, dead_list: list },
         last_tick: last as u32,
     })
@@ -88,7 +89,7 @@ fn decode(bytes: &[u8]) -> Option<Record> {
 fn encode(record: &Record) -> Vec<u8> {
     let (settings, node) = (record.settings, record.node);
     let due = |timer: Option<u32>| timer.map_or(0, |tick| tick + 1).to_le_bytes();
-    let mut bytes = vec![node.number, settings.nodes];
+    let mut bytes = vec![node.number, settings.ring.nodes];
     bytes.extend((settings.period as u16).to_le_bytes());
     bytes.extend((settings.timeout as u16).to_le_bytes());
     bytes.extend([node.emitter, node.observer]);

@@ -397,7 +397,7 @@ fn settling(seen: &mut Seen) -> Result<(), String> {
         let mut platform = store::decode(store.part()).expect("the store is in range").platform;
         if platform.crashes_done() == 1 && platform.earliest_due().is_some_and(|due| due >= 33 + 140) {
             settled += 1;
-            if !settle::settled(platform.nodes()) {
+            if !settle::settled(platform.ring(), platform.nodes()) {
                 return Err(format!("not settled at tick {}", platform.last_tick()));
             }
         }

@@ -81,41 +81,38 @@ def slow_input(program):
         fail(case, f"{busy() - before:.2f} s of processor time while it waited for {4 * PAUSE:.1f} s")
 
 
-def directory(program):
-    case = "a directory as input"
-    folder = os.open(".", os.O_RDONLY)
-    out, errors = ended(case, start(program, stdin=folder))
-    os.close(folder)
+def unread(case, program, stdin):
+    """An input that cannot be read, or not to its end: nothing is answered, and one line is said."""
+    out, errors = ended(case, start(program, stdin=stdin))
     expect(case, out, b"")
     expect_one_line(case, errors, b"rehearse: standard input: ")
+
+
+def directory(program):
+    folder = os.open(".", os.O_RDONLY)
+    unread("a directory as input", program, folder)
+    os.close(folder)
+
+
+def broken_after(case, program, given):
+    """These bytes come, and then a read fails: the other end of a socket pair is closed with a byte unread."""
+    ours, theirs = socket.socketpair()
+    ours.setsockopt(socket.SOL_SOCKET, socket.SO_SNDBUF, 400000)
+    theirs.send(b"x")
+    ours.sendall(given)
+    ours.close()
+    unread(case, program, theirs.fileno())
+    theirs.close()
 
 
 def broken_input(program):
-    """An input whose first line comes, and then a read fails: the other end of a socket pair is closed with a byte unread."""
-    case = "an input that fails after its first line"
-    ours, theirs = socket.socketpair()
-    theirs.send(b"x")
-    ours.send(GOOD[:12])
-    ours.close()
-    out, errors = ended(case, start(program, stdin=theirs.fileno()))
-    theirs.close()
-    expect(case, out, b"")
-    expect_one_line(case, errors, b"rehearse: standard input: ")
+    broken_after("an input that fails after its first line", program, GOOD[:12])
 
 
 def broken_long_input(program):
-    """The same where the read fails after as many bytes as a run file may have: nothing is answered, not even that it is refused."""
-    case = "an input that fails after 65,536 bytes"
-    for more in (0, 5000):
-        ours, theirs = socket.socketpair()
-        ours.setsockopt(socket.SOL_SOCKET, socket.SO_SNDBUF, 400000)
-        theirs.send(b"x")
-        ours.sendall(GOOD + b"\n" * (65536 - len(GOOD) + more))
-        ours.close()
-        out, errors = ended(case, start(program, stdin=theirs.fileno()))
-        theirs.close()
-        expect(case, out, b"")
-        expect_one_line(case, errors, b"rehearse: standard input: ")
+    """As many bytes as a run file may have, or more: it is not even answered that the file is refused."""
+    for length in (65536, 70536):
+        broken_after(f"an input that fails after {length} bytes", program, GOOD + b"\n" * (length - len(GOOD)))
 
 
 def whole_input(program):

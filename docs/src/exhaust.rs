@@ -7,7 +7,7 @@
 
 use super::node::{Content, Node, Sends, Settings, Timer};
 use super::plan::{Crash, Delay, Plan};
-use super::ring;
+use super::ring::{self, Ring};
 use super::settle;
 use std::collections::HashMap;
 
@@ -188,7 +188,7 @@ impl State {
 
 impl Search {
     fn settings(&self) -> Settings {
-        Settings { nodes: self.nodes, period: self.period, timeout: self.timeout }
+        Settings { ring: Ring { nodes: self.nodes }, period: self.period, timeout: self.timeout }
     }
 
     /// S after a crash that left these nodes.
@@ -397,7 +397,7 @@ impl<'search> Tree<'search> {
         let Crashes::Spaced(since) = state.crashes else { return None };
         let time = self.search.settling_time(&state.nodes);
         let passed = state.earliest_due().is_none_or(|due| since + due >= time);
-        (passed && !settle::settled(&state.nodes)).then_some(Finding::Unsettled)
+        (passed && !settle::settled(self.search.settings().ring, &state.nodes)).then_some(Finding::Unsettled)
     }
 
     /// The choices that first led to a state, from the first tick on.

@@ -1,12 +1,12 @@
 //! The rules of one node, in 01's order and words.
 
 use super::limits::MAX_SENDS;
-use super::ring;
+use super::ring::{self, Ring};
 
-/// The settings that a node's rules use: N, H and W.
+/// The settings that a node's rules use: the ring, H and W.
 #[derive(Clone, Copy, PartialEq, Eq, Debug)]
 pub struct Settings {
-    pub nodes: u8,
+    pub ring: Ring,
     pub period: u32,
     pub timeout: u32,
 }
@@ -83,13 +83,13 @@ impl Node {
         let mut node = Node {
             number,
             alive: true,
-            emitter: ring::before(settings.nodes, number),
-            observer: ring::after(settings.nodes, number),
+            emitter: settings.ring.before(number),
+            observer: settings.ring.after(number),
             watch: Some(settings.timeout),
             heartbeat: Some(settings.period),
             dead_list: 0,
         };
-        if settings.nodes == 1 {
+        if settings.ring.nodes == 1 {
             node.become_alone();
         }
         node
@@ -148,7 +148,7 @@ impl Node {
 
     /// R of the subject to the forward targets. "The list is the one after the change."
     fn report(&self, settings: &Settings, subject: u8, sends: &mut Sends) {
-        let targets = ring::forward_targets(settings.nodes, self.dead_list, self.number);
+        let targets = settings.ring.forward_targets(self.dead_list, self.number);
         for target in targets.as_slice() {
             sends.add(*target, Content::Report { subject });
         }
@@ -170,7 +170,7 @@ impl Node {
         let mut sends = Sends::none();
         let left = self.emitter;
         self.dead_list = ring::with(self.dead_list, left);
-        self.emitter = ring::first_unlisted_back(settings.nodes, self.dead_list, left);
+        self.emitter = settings.ring.first_unlisted_back(self.dead_list, left);
         if self.emitter == self.number {
             self.become_alone();
             return sends;
@@ -182,11 +182,16 @@ impl Node {
     }
 }
 
+/// The crashed nodes as a list.
+pub fn crashed(nodes: &[Node]) -> u64 {
+    nodes.iter().filter(|node| !node.alive).fold(0, |list, node| ring::with(list, node.number))
+}
+
 #[cfg(test)]
 mod tests {
     use super::*;
 
-    const EIGHT: Settings = Settings { nodes: 8, period: 2, timeout: 10 };
+    const EIGHT: Settings = Settings { ring: Ring { nodes: 8 }, period: 2, timeout: 10 };
 
     fn reports(subject: u8, targets: &[u8]) -> Vec<Sent> {
         targets
@@ -202,7 +207,7 @@ mod tests {
         assert_eq!((node.alive, node.dead_list), (true, 0));
         let last = Node::open(&EIGHT, 7);
         assert_eq!((last.emitter, last.observer), (6, 0));
-        let alone = Node::open(&Settings { nodes: 1, ..EIGHT }, 0);
+        let alone = Node::open(&Settings { ring: Ring { nodes: 1 }, ..EIGHT }, 0);
         assert_eq!((alone.emitter, alone.observer, alone.watch, alone.heartbeat), (0, 0, None, None));
     }
 
@@ -237,7 +242,7 @@ mod tests {
 
     #[test]
     fn a_node_alone_takes_a_new_observer() {
-        let two = Settings { nodes: 2, ..EIGHT };
+        let two = Settings { ring: Ring { nodes: 2 }, ..EIGHT };
         let mut node = Node::open(&two, 0);
         node.expire_watch(&two, 10);
         node.deliver(&two, 11, 1, Content::NewObserver);
@@ -310,8 +315,8 @@ mod tests {
 
     #[test]
     fn a_full_ring_sends_seven_messages() {
-        let mut node = Node::open(&Settings { nodes: 64, ..EIGHT }, 0);
-        let sends = node.expire_watch(&Settings { nodes: 64, ..EIGHT }, 10);
+        let mut node = Node::open(&Settings { ring: Ring { nodes: 64 }, ..EIGHT }, 0);
+        let sends = node.expire_watch(&Settings { ring: Ring { nodes: 64 }, ..EIGHT }, 10);
         assert_eq!(sends.as_slice().len(), 1 + 5 + 1);
     }
 

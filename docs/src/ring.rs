@@ -13,43 +13,6 @@ pub fn with(list: u64, node: u8) -> u64 {
     list | 1 << node
 }
 
-/// The node after `node` in a ring of `nodes`.
-pub fn after(nodes: u8, node: u8) -> u8 {
-    if node + 1 == nodes {
-        0
-    } else {
-        node + 1
-    }
-}
-
-/// The node before `node` in a ring of `nodes`.
-pub fn before(nodes: u8, node: u8) -> u8 {
-    if node == 0 {
-        nodes - 1
-    } else {
-        node - 1
-    }
-}
-
-/// "the first unlisted node going back from it". The walk ends at `from` itself where every
-/// node is listed, which no live node's list leads to.
-pub fn first_unlisted_back(nodes: u8, list: u64, from: u8) -> u8 {
-    let mut node = before(nodes, from);
-    while node != from && listed(list, node) {
-        node = before(nodes, node);
-    }
-    node
-}
-
-/// "the first one ahead in the ring" that the list does not hold, with the same end of the walk.
-pub fn first_unlisted_ahead(nodes: u8, list: u64, from: u8) -> u8 {
-    let mut node = after(nodes, from);
-    while node != from && listed(list, node) {
-        node = after(nodes, node);
-    }
-    node
-}
-
 /// Up to six forward targets, in the order of sending.
 #[derive(Clone, Copy, PartialEq, Eq, Debug)]
 pub struct Targets {
@@ -68,23 +31,68 @@ impl Targets {
     }
 }
 
-/// "For each power of two below m, smallest first, the target is that many unlisted nodes ahead."
-/// m counts the unlisted nodes, the node itself included.
-pub fn forward_targets(nodes: u8, list: u64, node: u8) -> Targets {
-    let mut targets = Targets { row: [NO_TARGET; MAX_TARGETS], count: 0 };
-    let mut passed = 0u32;
-    let mut ahead = after(nodes, node);
-    while ahead != node {
-        if !listed(list, ahead) {
-            passed += 1;
-            if passed.is_power_of_two() {
-                targets.row[targets.count] = ahead;
-                targets.count += 1;
-            }
+/// Nodes in a ring, in the order of their numbers. All that goes by the ring's order is asked of it.
+#[derive(Clone, Copy, PartialEq, Eq, Debug)]
+pub struct Ring {
+    pub nodes: u8,
+}
+
+impl Ring {
+    /// The node after `node`.
+    pub fn after(self, node: u8) -> u8 {
+        if node + 1 == self.nodes {
+            0
+        } else {
+            node + 1
         }
-        ahead = after(nodes, ahead);
     }
-    targets
+
+    /// The node before `node`.
+    pub fn before(self, node: u8) -> u8 {
+        if node == 0 {
+            self.nodes - 1
+        } else {
+            node - 1
+        }
+    }
+
+    /// "the first unlisted node going back from it".
+    pub fn first_unlisted_back(self, list: u64, from: u8) -> u8 {
+        first_unlisted(list, from, |node| self.before(node))
+    }
+
+    /// "the first one ahead in the ring" that the list does not hold.
+    pub fn first_unlisted_ahead(self, list: u64, from: u8) -> u8 {
+        first_unlisted(list, from, |node| self.after(node))
+    }
+
+    /// "For each power of two below m, smallest first, the target is that many unlisted nodes ahead."
+    /// m counts the unlisted nodes, the node itself included.
+    pub fn forward_targets(self, list: u64, node: u8) -> Targets {
+        let mut targets = Targets { row: [NO_TARGET; MAX_TARGETS], count: 0 };
+        let mut passed = 0u32;
+        let mut ahead = self.after(node);
+        while ahead != node {
+            if !listed(list, ahead) {
+                passed += 1;
+                if passed.is_power_of_two() {
+                    targets.row[targets.count] = ahead;
+                    targets.count += 1;
+                }
+            }
+            ahead = self.after(ahead);
+        }
+        targets
+    }
+}
+
+/// The first unlisted node of a walk. The walk ends at `from` itself where every node is listed, which no live node's list leads to.
+fn first_unlisted(list: u64, from: u8, next: impl Fn(u8) -> u8) -> u8 {
+    let mut node = next(from);
+    while node != from && listed(list, node) {
+        node = next(node);
+    }
+    node
 }
 
 /// The forwarding table: 64 rows of six targets.
@@ -99,10 +107,10 @@ pub fn forwarding_table(nodes: u64, list: u64) -> Result<Table, u8> {
     if !(1..=MAX_NODES).contains(&nodes) || (nodes < MAX_NODES && list >> nodes != 0) {
         return Err(REFUSED_RANGE);
     }
-    let nodes = nodes as u8;
+    let ring = Ring { nodes: nodes as u8 };
     let mut table = EMPTY_TABLE;
-    for node in (0..nodes).filter(|node| !listed(list, *node)) {
-        table[usize::from(node)] = forward_targets(nodes, list, node).row();
+    for node in (0..ring.nodes).filter(|node| !listed(list, *node)) {
+        table[usize::from(node)] = ring.forward_targets(list, node).row();
     }
     Ok(table)
 }
@@ -125,28 +133,28 @@ mod tests {
     #[test]
     fn jumps_go_over_unlisted_nodes() {
         let list = 1 << 2 | 1 << 3;
-        assert_eq!(forward_targets(8, list, 1).as_slice(), [4, 5, 7]);
-        assert_eq!(forward_targets(8, list, 7).as_slice(), [0, 1, 5]);
+        assert_eq!(Ring { nodes: 8 }.forward_targets(list, 1).as_slice(), [4, 5, 7]);
+        assert_eq!(Ring { nodes: 8 }.forward_targets(list, 7).as_slice(), [0, 1, 5]);
     }
 
     #[test]
     fn powers_of_two_below_the_count() {
-        assert_eq!(forward_targets(1, 0, 0).as_slice(), [0u8; 0]);
-        assert_eq!(forward_targets(2, 0, 0).as_slice(), [1]);
-        assert_eq!(forward_targets(4, 0, 0).as_slice(), [1, 2]);
-        assert_eq!(forward_targets(5, 0, 0).as_slice(), [1, 2, 4]);
-        assert_eq!(forward_targets(64, 0, 0).as_slice(), [1, 2, 4, 8, 16, 32]);
-        assert_eq!(forward_targets(33, 0, 32).as_slice(), [0, 1, 3, 7, 15, 31]);
-        assert_eq!(forward_targets(64, !(1 << 9), 9).as_slice(), [0u8; 0]);
+        assert_eq!(Ring { nodes: 1 }.forward_targets(0, 0).as_slice(), [0u8; 0]);
+        assert_eq!(Ring { nodes: 2 }.forward_targets(0, 0).as_slice(), [1]);
+        assert_eq!(Ring { nodes: 4 }.forward_targets(0, 0).as_slice(), [1, 2]);
+        assert_eq!(Ring { nodes: 5 }.forward_targets(0, 0).as_slice(), [1, 2, 4]);
+        assert_eq!(Ring { nodes: 64 }.forward_targets(0, 0).as_slice(), [1, 2, 4, 8, 16, 32]);
+        assert_eq!(Ring { nodes: 33 }.forward_targets(0, 32).as_slice(), [0, 1, 3, 7, 15, 31]);
+        assert_eq!(Ring { nodes: 64 }.forward_targets(!(1 << 9), 9).as_slice(), [0u8; 0]);
     }
 
     #[test]
     fn going_back_passes_listed_nodes() {
-        assert_eq!(first_unlisted_back(5, 1 << 3 | 1 << 4, 4), 2);
-        assert_eq!(first_unlisted_back(5, 0b11110, 4), 0);
-        assert_eq!(first_unlisted_back(5, 0b11110, 1), 0);
-        assert_eq!(first_unlisted_back(64, 1 | 1 << 63, 0), 62);
-        assert_eq!(first_unlisted_ahead(64, 1 | 1 << 63, 63), 1);
+        assert_eq!(Ring { nodes: 5 }.first_unlisted_back(1 << 3 | 1 << 4, 4), 2);
+        assert_eq!(Ring { nodes: 5 }.first_unlisted_back(0b11110, 4), 0);
+        assert_eq!(Ring { nodes: 5 }.first_unlisted_back(0b11110, 1), 0);
+        assert_eq!(Ring { nodes: 64 }.first_unlisted_back(1 | 1 << 63, 0), 62);
+        assert_eq!(Ring { nodes: 64 }.first_unlisted_ahead(1 | 1 << 63, 63), 1);
     }
 
     #[test]
@@ -157,7 +165,7 @@ mod tests {
             let nodes = (round % 64 + 1) as u8;
             let node = (list >> 32) as u8 % nodes;
             let kept = list & (u64::MAX >> (64 - nodes)) & !(1 << node);
-            assert_eq!(forward_targets(nodes, kept, node).as_slice(), targets_in_words(nodes, kept, node));
+            assert_eq!(Ring { nodes }.forward_targets(kept, node).as_slice(), targets_in_words(nodes, kept, node));
         }
     }
 

@@ -1,9 +1,9 @@
 //! Demand 3's words: no live node is listed; S; crashes that are spaced; the settled ring.
 
-use super::node::Node;
+use super::node::{crashed, Node};
 use super::plan::Plan;
 use super::platform::Platform;
-use super::ring;
+use super::ring::Ring;
 
 /// K: "the base-two logarithm, rounded up, of how many survive (0 for none)".
 fn rounded_up_logarithm(survivors: usize) -> u64 {
@@ -18,11 +18,6 @@ pub fn settling_time(timeout: u32, delay: u32, survivors: usize) -> u64 {
 /// S counted from the crash in this row of the plan.
 fn settling_time_of(plan: &Plan, row: usize) -> u64 {
     settling_time(plan.timeout, plan.delay, usize::from(plan.nodes) - row - 1)
-}
-
-/// The crashed nodes as a list.
-fn crashed(nodes: &[Node]) -> u64 {
-    nodes.iter().filter(|node| !node.alive).fold(0, |list, node| ring::with(list, node.number))
 }
 
 /// "no node's list holds a live node", crashed nodes' lists included.
@@ -51,18 +46,17 @@ pub fn settling_time_passed(platform: &mut Platform) -> bool {
 
 /// "every survivor lists exactly the crashed nodes, emits to the next survivor and observes the one
 /// before; a lone survivor is both to itself".
-pub fn settled(nodes: &[Node]) -> bool {
+pub fn settled(ring: Ring, nodes: &[Node]) -> bool {
     let crashed = crashed(nodes);
-    let count = nodes.len() as u8;
     nodes.iter().filter(|node| node.alive).all(|node| {
         node.dead_list == crashed
-            && node.observer == ring::first_unlisted_ahead(count, crashed, node.number)
-            && node.emitter == ring::first_unlisted_back(count, crashed, node.number)
+            && node.observer == ring.first_unlisted_ahead(crashed, node.number)
+            && node.emitter == ring.first_unlisted_back(crashed, node.number)
     })
 }
 
 /// What demand 3 claims of the platform as it stands.
 pub fn demand_3(platform: &mut Platform) -> bool {
     let owed = crashes_spaced(platform) && settling_time_passed(platform);
-    no_live_node_listed(platform.nodes()) && (!owed || settled(platform.nodes()))
+    no_live_node_listed(platform.nodes()) && (!owed || settled(platform.ring(), platform.nodes()))
 }

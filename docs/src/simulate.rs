@@ -7,7 +7,7 @@
 
 use simulator::fields;
 use simulator::limits::*;
-use simulator::log::Line;
+use simulator::log::{self, Line};
 use simulator::plan::{self, Refusal};
 use simulator::platform::{Platform, Step};
 use simulator::ring;
@@ -50,9 +50,11 @@ fn rehearse(out: &mut impl Write) -> io::Result<()> {
     };
     let mut platform = Platform::open(plan);
     loop {
-        match platform.step() {
-            Step::Event(line) => line.put(out)?,
-            Step::Done(line) => return line.put(out),
+        let step = platform.step();
+        log::put(step.lines(), out)?;
+        match step {
+            Step::Event(_) => {}
+            Step::Done(_) => return Ok(()),
             Step::Refused => return writeln!(out, "{REFUSED_EVENT},0"),
         }
     }

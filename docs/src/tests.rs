@@ -2,7 +2,7 @@
 //! generated plans.
 
 use super::generator;
-use super::log::Line;
+use super::log::{self, Line};
 use super::node::{Node, Timer};
 use super::plan::{self, Crash};
 use super::platform::{Ending, Platform, Run, Step};
@@ -19,23 +19,22 @@ fn open(file: &str) -> Platform {
 }
 
 /// The whole log by steps, as the rehearsal program writes it.
-fn log(file: &str) -> String {
+fn log_of(file: &str) -> String {
     let mut platform = open(file);
-    let mut log = Vec::new();
+    let mut text = Vec::new();
     loop {
-        match platform.step() {
-            Step::Event(line) => line.put(&mut log).unwrap(),
-            Step::Done(line) => {
-                line.put(&mut log).unwrap();
-                return String::from_utf8(log).unwrap();
-            }
-            Step::Refused => return String::from_utf8(log).unwrap() + "8,0\n",
+        let step = platform.step();
+        log::put(step.lines(), &mut text).unwrap();
+        match step {
+            Step::Event(_) => {}
+            Step::Done(_) => return String::from_utf8(text).unwrap(),
+            Step::Refused => return String::from_utf8(text).unwrap() + "8,0\n",
         }
     }
 }
 
 fn last_line(file: &str) -> String {
-    log(file).lines().last().unwrap().to_string()
+    log_of(file).lines().last().unwrap().to_string()
 }
 
 /// What a caller can see of a platform.
@@ -61,31 +60,31 @@ fn the_worked_log() {
     let expected = "S,2,0,1,0000000000000000\nS,2,1,0,0000000000000000\nC,3,1,1,0000000000000000\n\
         X,3,1,0,0000000000000000\nH,3,0,1,0000000000000000\nS,4,0,1,0000000000000000\n\
         X,5,1,0,0000000000000000\nW,6,0,1,0000000000000002\nE,6,1,0,0000000000000002\n";
-    assert_eq!(log("P,2,2,3,1,6\nC,3,1\n"), expected);
+    assert_eq!(log_of("P,2,2,3,1,6\nC,3,1\n"), expected);
 }
 
 #[test]
 fn a_node_alone_from_the_start() {
-    assert_eq!(log("P,1,1,2,1,5\n"), "E,5,1,0,0000000000000000\n");
-    assert_eq!(log("P,1,1,2,1,5\nC,0,0\n"), "C,0,0,0,0000000000000000\nE,5,0,0,0000000000000001\n");
+    assert_eq!(log_of("P,1,1,2,1,5\n"), "E,5,1,0,0000000000000000\n");
+    assert_eq!(log_of("P,1,1,2,1,5\nC,0,0\n"), "C,0,0,0,0000000000000000\nE,5,0,0,0000000000000001\n");
 }
 
 #[test]
 fn end_at_tick_zero() {
-    assert_eq!(log("P,2,1,2,1,0\n"), "E,0,2,0,0000000000000000\n");
-    assert_eq!(log("P,2,1,2,1,0\nC,0,1\n"), "C,0,1,1,0000000000000000\nE,0,1,0,0000000000000002\n");
+    assert_eq!(log_of("P,2,1,2,1,0\n"), "E,0,2,0,0000000000000000\n");
+    assert_eq!(log_of("P,2,1,2,1,0\nC,0,1\n"), "C,0,1,1,0000000000000000\nE,0,1,0,0000000000000002\n");
 }
 
 #[test]
 fn deliveries_come_before_timers_and_crashes_before_both() {
-    let log = log("P,2,1,2,1,2\nC,2,1\n");
+    let log = log_of("P,2,1,2,1,2\nC,2,1\n");
     let order: Vec<&str> = log.lines().map(|line| &line[..5]).collect();
     assert_eq!(order, ["S,1,0", "S,1,1", "C,2,1", "X,2,1", "H,2,0", "S,2,0", "E,2,1"]);
 }
 
 #[test]
 fn timers_go_by_node_and_watch_before_heartbeat() {
-    let log = log("P,3,2,4,2,4\nC,0,1\n");
+    let log = log_of("P,3,2,4,2,4\nC,0,1\n");
     let order: Vec<&str> =
         log.lines().filter(|line| line.split(',').nth(1) == Some("4")).map(|line| &line[..5]).collect();
     assert_eq!(order, ["X,4,1", "H,4,0", "S,4,0", "W,4,2", "S,4,2", "E,4,2"]);
@@ -93,14 +92,14 @@ fn timers_go_by_node_and_watch_before_heartbeat() {
 
 #[test]
 fn twice_the_timeout_after_a_move() {
-    let log = log("P,3,2,3,1,12\nC,1,0\nC,1,2\n");
+    let log = log_of("P,3,2,3,1,12\nC,1,0\nC,1,2\n");
     let watches: Vec<&str> = log.lines().filter(|line| line.starts_with('W')).collect();
     assert_eq!(watches, ["W,3,1,0,0000000000000001", "W,9,1,2,0000000000000005"]);
 }
 
 #[test]
 fn a_node_that_becomes_alone_sends_no_heartbeat_at_that_tick() {
-    let log = log("P,2,2,4,2,20\nC,0,1\n");
+    let log = log_of("P,2,2,4,2,20\nC,0,1\n");
     assert!(log.contains("W,4,0,1,0000000000000002\n"));
     assert!(!log.contains("S,4,0"));
     assert!(log.ends_with("X,4,1,0,0000000000000000\nW,4,0,1,0000000000000002\nE,20,1,0,0000000000000002\n"));
@@ -108,7 +107,7 @@ fn a_node_that_becomes_alone_sends_no_heartbeat_at_that_tick() {
 
 #[test]
 fn delays_go_by_message_number() {
-    let log = log("P,2,2,7,5,4\nL,0,2\nL,1,1\n");
+    let log = log_of("P,2,2,7,5,4\nL,0,2\nL,1,1\n");
     let lines: Vec<&str> = log.lines().map(|line| &line[..7]).collect();
     assert_eq!(lines, ["S,2,0,1", "S,2,1,0", "H,3,0,1", "H,4,1,0", "S,4,0,1", "S,4,1,0", "E,4,2,2"]);
 }
@@ -123,8 +122,8 @@ fn jumps_over_listed_nodes_in_a_run() {
     let mut platform = open("P,8,2,3,1,12\nC,0,2\nC,0,3\n");
     platform.run(u64::MAX);
     assert_eq!(platform.nodes()[4].dead_list, 0b1100);
-    assert!(settle::settled(platform.nodes()));
-    let reports = log("P,8,2,3,1,12\nC,0,2\nC,0,3\n");
+    assert!(settle::settled(platform.ring(), platform.nodes()));
+    let reports = log_of("P,8,2,3,1,12\nC,0,2\nC,0,3\n");
     let of_2: Vec<&str> =
         reports.lines().filter(|line| line.starts_with("R,10,") && line.contains(",2,0")).collect();
     assert_eq!(of_2.iter().map(|line| &line[5..6]).collect::<Vec<_>>(), ["5", "6", "0"]);
@@ -218,11 +217,11 @@ fn settling_counts_what_lies_beyond_the_end_tick() {
     let mut early = open("P,3,3,4,1,4\nC,2,0\n");
     early.run(u64::MAX);
     assert!(!settle::settling_time_passed(&mut early));
-    assert!(!settle::settled(early.nodes()));
+    assert!(!settle::settled(early.ring(), early.nodes()));
     let mut late = open("P,3,3,4,1,8\nC,2,0\n");
     late.run(u64::MAX);
     assert!(settle::settling_time_passed(&mut late));
-    assert!(settle::settled(late.nodes()));
+    assert!(settle::settled(late.ring(), late.nodes()));
 }
 
 #[test]
@@ -255,10 +254,10 @@ fn unsettled_rings_are_told_from_settled_ones() {
     let mut platform = open("P,4,2,3,1,40\nC,5,1\n");
     let mut unsettled = 0;
     for_each_event(&mut platform, |platform| {
-        unsettled += usize::from(platform.crashes_done() == 1 && !settle::settled(platform.nodes()));
+        unsettled += usize::from(platform.crashes_done() == 1 && !settle::settled(platform.ring(), platform.nodes()));
     });
     assert!(unsettled > 0);
-    assert!(settle::settled(platform.nodes()) && settle::no_live_node_listed(platform.nodes()));
+    assert!(settle::settled(platform.ring(), platform.nodes()) && settle::no_live_node_listed(platform.nodes()));
 }
 
 /// The next event by a plain search, as the paper lists the three classes.
