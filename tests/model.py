@@ -1,14 +1,16 @@
 """Small run files with the logs that the simulator writes of them, as equations about the definitions: for each file, that the
 log which `model` defines has the simulator's bytes. The checker proves each by computing.
 
-Usage: model.py SIMULATE STARRED SEED COUNT, the simulator's program and the proof of the starred edges, whose imports and
-unfoldings serve here too. Writes the proof file to standard output.
+Usage: model.py SIMULATE EDGES SEED COUNT, the simulator's program and the crate of the starred edges: the imports of its table and of its
+proof, and the proof's unfoldings, serve here too. Writes the proof file to standard output.
 """
+import os
 import random
+import re
 import subprocess
 import sys
 
-simulate, starred, seed, count = sys.argv[1], sys.argv[2], int(sys.argv[3]), int(sys.argv[4])
+simulate, edges, seed, count = sys.argv[1], sys.argv[2], int(sys.argv[3]), int(sys.argv[4])
 choose = random.Random(seed)
 
 
@@ -30,24 +32,34 @@ def literal(text):
     return '"' + text.replace("\n", "\\n") + '"'
 
 
-proof = open(starred, encoding="utf-8").read().split("\n")
-unfolding = next(line for line in proof if line.startswith("unfolding "))
-print("\n".join(line for line in proof if line.startswith("use ")))
-print(
-    """use mathlib.Core.Path.{_≡_}
-use mathlib.Core.List.{List, []}
-use Prim.Native.Nat.{ℕ}
-use Rattle.logline.specs.declared.Line.{Line}
-use Rattle.runfile.specs.File.{Answer, accepted, refused}
+def read(path):
+    with open(os.path.join(edges, path), encoding="utf-8") as file:
+        return file.read()
 
-unfoldable planLog : Answer → ℕ → List Line
-planLog (accepted p) tries = log p tries
-planLog (refused number line) tries = []
-"""
-)
+
+def imports(*texts):
+    """A `use` line for each name that the texts import."""
+    lines = {}
+    for module, names in re.findall(r"^use (\S+)\.\{(.*)\}$", "\n".join(texts), re.M):
+        for name in names.split(", "):
+            lines.setdefault(name.split(" as ")[-1], f"use {module}.{{{name}}}")
+    return lines.values()
+
+
+def written_of(table):
+    """The table's definition of the log that is written of a file, for any number of events instead of fewer than 20."""
+    kind = re.search(r"^unfoldable pub written : (.*)$", table, re.M).group(1)
+    clauses = re.findall(r"^written (.*)$", table, re.M)
+    return [f"unfoldable writtenOf : ℕ → {kind}", *(f"writtenOf tries {re.sub(r'20', 'tries', clause)}" for clause in clauses)]
+
+
+table, proof = read("specs/Edges.antt"), read("proofs/Starred.antt")
+unfolded = " ".join(re.findall(r"^unfolding (.*)$", proof, re.M))
+own = ["use Rattle.edges.specs.Edges.{" + name + "}" for name in ("bytes", "judged", "logText")]
+print("\n".join([*imports(table, proof, *own), "", *written_of(table), ""]))
 for case in range(count):
     file = run_file()
     log = subprocess.run([simulate], input=file.encode(), capture_output=True, check=True).stdout.decode()
     tries = log.count("\n")
-    print(f"case-{case} : logText (planLog (judged {literal(file)}) {tries}) ≡ bytes {literal(log)}")
-    print(f"{unfolding} planLog\ncase-{case} = refl\n")
+    print(f"case-{case} : writtenOf {tries} (judged {literal(file)}) ≡ bytes {literal(log)}")
+    print(f"unfolding {unfolded} writtenOf\ncase-{case} = refl\n")

@@ -35,7 +35,7 @@ for crate in $(below edges); do
     [ ! -e "target/stamp/$crate" ] || cp "target/stamp/$crate" "$copy/target/stamp"
     [ ! -e "target/rlib/$crate.rlib" ] || cp -R "target/rlib/$crate.rlib" "$copy/target/rlib"
 done
-python3 tests/model.py "$out/simulate" crates/edges/proofs/Starred.antt "$seed" "$count" > "$copy/crates/edges/proofs/Simulated.antt"
+python3 tests/model.py "$out/simulate" crates/edges "$seed" "$count" > "$copy/crates/edges/proofs/Simulated.antt"
 echo 'pub mod Simulated' >> "$copy/crates/edges/proofs/Lib.antt"
 if ! (cd "$copy" && rt dev edges) > "$copy/model.log" 2>&1 || ! grep -q '^logic=proved' "$copy/model.log"; then
     grep -v '^note' "$copy/model.log" | tail -n 40 >&2
