@@ -5,12 +5,20 @@ use std::fmt::Debug;
 use std::process::ExitCode;
 
 /// The seed where none is given.
-pub const SEED: u64 = 20_261_115;
+const SEED: u64 = 20_261_115;
 
-/// The words SEED and COUNT; what is not given is `SEED`, or this count.
-pub fn seed_and_count(count: u64) -> (u64, u64) {
-    let mut words = std::env::args().skip(1).map(|word| word.parse().expect("SEED and COUNT are numbers"));
-    (words.next().unwrap_or(SEED), words.next().unwrap_or(count))
+/// The first word of the program, or the usual seed.
+pub fn seed() -> u64 {
+    word(1).unwrap_or(SEED)
+}
+
+/// The second word of the program, or this count.
+pub fn count(usual: u64) -> u64 {
+    word(2).unwrap_or(usual)
+}
+
+fn word(place: usize) -> Option<u64> {
+    std::env::args().nth(place).map(|word| word.parse().expect("SEED and COUNT are numbers"))
 }
 
 pub fn same<T: PartialEq + Debug>(what: &str, answer: T, wanted: T) -> Result<(), String> {

@@ -8,6 +8,8 @@ name=$(basename "$0" .sh)
 cd "$(dirname "$0")/.."
 out=target/tests
 mkdir -p "$out"
+# The seed where none is given.
+usual_seed=20261115
 
 fail() {
     echo "$name: $1" >&2
@@ -54,7 +56,8 @@ made() (
 proved() {
     proved_file=$1
     shift
-    made "$(rt version) $(sum crates crates.txt)" "$proved_file" -- quietly "$@"
+    sources="$(rt version) $(sum crates crates.txt)"
+    made "$sources" "$proved_file" -- quietly "$@"
 }
 
 # library NAME: target/staticlib/libNAME.a.
@@ -90,7 +93,8 @@ simulator_parts() {
 
 # simulator: its library, the program `simulate` and the generator of run files.
 simulator() {
-    made "$(rustc --version) $(sum docs/src/*.rs tests/common.sh)" "$out/simulate" "$out/generate" "$out/libsimulator.rlib" -- simulator_parts
+    sources="$(rustc --version) $(sum docs/src/*.rs tests/common.sh)"
+    made "$sources" "$out/simulate" "$out/generate" "$out/libsimulator.rlib" -- simulator_parts
 }
 
 # c PROGRAM WORDS..: compiles and links a C program; a folder of -I is looked at before include/.

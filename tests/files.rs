@@ -8,7 +8,7 @@ mod calls;
 mod common;
 
 use calls::{answer, proved, refused, Call};
-use common::{ended, same, seed_and_count, shown};
+use common::{count, ended, same, seed, shown};
 use simulator::generator::{self, USUAL};
 use simulator::limits::*;
 use simulator::plan;
@@ -225,7 +225,7 @@ fn speed(lent: &mut Lent) {
 }
 
 fn main() -> ExitCode {
-    let (seed, count) = seed_and_count(COUNT);
+    let (seed, count) = (seed(), count(COUNT));
     println!("files: seed {seed}, {count} generated files");
     let mut lent = Lent::new();
     let compared = edges(&mut lent).and_then(|()| generated(&mut lent, seed, count));

@@ -3,6 +3,8 @@
 //!
 //! Usage: host [SEED]. A failure prints the call and the seed that leads to it.
 
+mod common;
+
 use simulator::limits::{MAX_NODES, MAX_PERIOD, MAX_TICK, MAX_TIMEOUT};
 use simulator::node::{Content, Node, Sends, Settings};
 use simulator::random::Random;
@@ -378,7 +380,7 @@ fn numbers(compared: &mut Compared, records: &[Vec<u8>]) {
 }
 
 fn main() {
-    let seed = std::env::args().nth(1).map_or(20_261_115, |s| s.parse().expect("a seed is a number"));
+    let seed = common::seed();
     println!("host: seed {seed}");
     let mut compared = Compared::new(Wrong::No);
     for i in 0..600 {

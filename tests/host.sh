@@ -8,7 +8,7 @@
 
 . "$(dirname "$0")/common.sh"
 
-seed=${1:-20261115}
+seed=${1:-$usual_seed}
 library=target/staticlib/libhost.a
 mistaken=$out/host-mistaken
 

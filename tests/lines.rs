@@ -5,7 +5,7 @@
 
 mod common;
 
-use common::{ended, same, seed_and_count};
+use common::{count, ended, same, seed};
 use simulator::log::{self, Line};
 use simulator::random::Random;
 use std::process::ExitCode;
@@ -233,6 +233,6 @@ fn compared(seed: u64, count: u64) -> Result<String, String> {
 }
 
 fn main() -> ExitCode {
-    let (seed, count) = seed_and_count(COUNT);
+    let (seed, count) = (seed(), count(COUNT));
     ended("lines", compared(seed, count))
 }

@@ -6,7 +6,7 @@
 
 . "$(dirname "$0")/common.sh"
 
-seed=${1:-20261115}
+seed=${1:-$usual_seed}
 count=${2:-30}
 
 # below CRATE: the crates that it uses, at any depth, and itself.

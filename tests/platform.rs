@@ -16,7 +16,7 @@ mod runs;
 mod stores;
 
 use calls::{answer, opening, proved, refused, simulated, Answer, Call};
-use common::{ended, same, seed_and_count, shown};
+use common::{count, ended, same, seed, shown};
 use simulator::generator::{self, USUAL};
 use simulator::limits::*;
 use simulator::plan;
@@ -468,7 +468,7 @@ fn mistakes(_: u64) -> Result<(), String> {
 }
 
 fn main() -> ExitCode {
-    let (seed, count) = seed_and_count(COUNT);
+    let (seed, count) = (seed(), count(COUNT));
     println!("platform: seed {seed}, {count} generated files");
     let mut seen = Seen::default();
     let compared = mistakes(seed).and_then(|()| all(&mut seen, seed, count)).and_then(|()| summary(&seen, count));

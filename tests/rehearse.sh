@@ -7,7 +7,7 @@
 
 . "$(dirname "$0")/common.sh"
 
-seed=${1:-20261115}
+seed=${1:-$usual_seed}
 count=${2:-2000}
 work=$out/rehearse-$seed
 
