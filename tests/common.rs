@@ -25,7 +25,7 @@ pub fn same<T: PartialEq + Debug>(what: &str, answer: T, wanted: T) -> Result<()
     if answer == wanted {
         return Ok(());
     }
-    Err(format!("{what} answers\n  {answer:?}, not\n  {wanted:?}"))
+    Err(format!("{what} answers {answer:?}, not {wanted:?}"))
 }
 
 /// A run file's length and start.

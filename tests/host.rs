@@ -5,7 +5,7 @@
 
 mod common;
 
-use simulator::limits::{MAX_NODES, MAX_PERIOD, MAX_TICK, MAX_TIMEOUT};
+use simulator::limits::{MAX_NODES, MAX_PERIOD, MAX_TICK, MAX_TIMEOUT, MESSAGE_BYTES};
 use simulator::node::{Content, Node, Sends, Settings};
 use simulator::random::Random;
 use simulator::record::Record;
@@ -20,7 +20,9 @@ extern "C" {
 }
 
 const RECORD: usize = 64;
-const PART: usize = 56;
+/// Bytes of one message, and of the part that takes a call's messages.
+const MESSAGE: usize = 8;
+const PART: usize = MESSAGE_BYTES;
 const REFUSED_RECORD: u64 = 10;
 
 #[derive(Clone, Copy, Debug)]
@@ -104,7 +106,7 @@ fn encode(record: &Record) -> Vec<u8> {
 }
 
 /// The 8 bytes of a message: kind, receiver, sender, subject, four zeros.
-fn message(sender: u8, receiver: u8, content: Content) -> [u8; 8] {
+fn message(sender: u8, receiver: u8, content: Content) -> [u8; MESSAGE] {
     let (kind, subject) = match content {
         Content::Heartbeat => (b'H', 0),
         Content::NewObserver => (b'O', 0),
@@ -169,7 +171,7 @@ fn leave(lent: &mut Lent, record: &Record, sends: &Sends) {
     lent.record = encode(record);
     lent.part[..PART].fill(0);
     for (place, sent) in sends.as_slice().iter().enumerate() {
-        lent.part[place * 8..place * 8 + 8].copy_from_slice(&message(record.node.number, sent.receiver, sent.content));
+        lent.part[place * MESSAGE..][..MESSAGE].copy_from_slice(&message(record.node.number, sent.receiver, sent.content));
     }
 }
 
@@ -214,7 +216,7 @@ fn lent(record: &[u8], part: Vec<u8>) -> Lent {
 
 struct Ring {
     records: Vec<Vec<u8>>,
-    in_flight: Vec<[u8; 8]>,
+    in_flight: Vec<[u8; MESSAGE]>,
     tick: u64,
     h: u64,
     w: u64,
@@ -274,8 +276,8 @@ fn sequence(compared: &mut Compared, seed: u64) {
         let mut lent = lent(&ring.records[node], random.bytes(size));
         if compared.call(call, &mut lent) == 0 {
             assert!(decode(&lent.record).is_some());
-            let sent = lent.part[..PART].chunks(8).take_while(|m| m[0] != 0);
-            ring.in_flight.extend(sent.map(|m| <[u8; 8]>::try_from(m).unwrap()));
+            let sent = lent.part[..PART].chunks(MESSAGE).take_while(|m| m[0] != 0);
+            ring.in_flight.extend(sent.map(|m| <[u8; MESSAGE]>::try_from(m).unwrap()));
             ring.in_flight.truncate(200);
         }
         ring.records[node] = lent.record;

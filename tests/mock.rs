@@ -1,6 +1,7 @@
 //! The platform's four calls over the simulator and its store, with one mistake at a time: what tests/platform.rs has to find.
 
 use super::calls::{opening, refused, simulated, Answer, Call};
+use simulator::layout::*;
 use simulator::limits::*;
 use simulator::plan;
 use simulator::platform::Platform;
@@ -85,20 +86,15 @@ fn open(file: &[u8], store: &mut [u8]) -> u64 {
     0
 }
 
-/// The number in the first four bytes.
-fn number(bytes: &[u8]) -> u32 {
-    u32::from_le_bytes(bytes[..4].try_into().expect("four bytes"))
-}
-
 /// What the call takes the store to hold.
 fn hold(store: &[u8]) -> Option<Held> {
     let mut seen = store.to_vec();
     if store.len() == STORE_BYTES && is_made(UnusedNotLookedAt) {
         seen[60_000..].fill(0);
     }
-    if store.len() == STORE_BYTES && is_made(PastNotLookedAt) && seen[26] > 0 {
-        let due = number(&seen[28_736..]).max(number(&seen[12..]));
-        seen[28_736..28_740].copy_from_slice(&due.to_le_bytes());
+    if store.len() == STORE_BYTES && is_made(PastNotLookedAt) && get(&seen, MESSAGES, 0) > 0 {
+        let due = get(&seen, MESSAGE_DUE, 0).max(get(&seen, LAST_TICK, 0));
+        put(&mut seen, MESSAGE_DUE, 0, due);
     }
     store::decode(&seen)
 }
@@ -131,10 +127,12 @@ fn call(call: Call, store: &mut [u8], part: &mut [u8]) -> Answer {
 
 /// Puts the first two messages in the order of their due ticks, as far as numbers and ticks go.
 fn swap_by_due(store: &mut [u8]) {
-    let [first, second] = [28_736, 28_740].map(|place| number(&store[place..]));
-    if first > second && second > 0 {
-        store[12_352..12_368].rotate_left(8);
-        store[28_736..28_744].rotate_left(4);
+    if get(store, MESSAGE_DUE, 0) > get(store, MESSAGE_DUE, 1) && get(store, MESSAGE_DUE, 1) > 0 {
+        for field in [MESSAGE_NUMBER, MESSAGE_DUE] {
+            let [first, second] = [0, 1].map(|place| get(store, field, place));
+            put(store, field, 0, second);
+            put(store, field, 1, first);
+        }
     }
 }
 
@@ -146,13 +144,12 @@ fn spoil(call: Call, answer: &mut Answer, before: &[u8], store: &mut [u8], part:
         (Call::Step, 8) if is_made(LetterOfRefusedStep) => answer[1] = u64::from(b'S'),
         (Call::Step, 7 | 9) if is_made(SizeOfRefusedStep) => answer[5] = 0,
         (Call::Step, 0) if is_made(DoneMovesTheTick) && answer[1] == u64::from(b'E') => {
-            store[12..16].copy_from_slice(&before[8..12]);
+            put(store, LAST_TICK, 0, get(before, END, 0));
         }
         (Call::Step, 0) if is_made(RenewedByAnyone) && answer[1] == u64::from(b'H') => {
-            let (watch, timeout) = (256 + 4 * answer[3] as usize, number(&[store[4], store[5], 0, 0]));
-            store[watch..watch + 4].copy_from_slice(&(answer[2] as u32 + timeout + 1).to_le_bytes());
+            put(store, WATCH, answer[3] as usize, answer[2] + get(store, TIMEOUT, 0) + 1);
         }
-        (Call::Step, 0) if is_made(FewerInFlight) && store[27] == 8 && before != &*store => {
+        (Call::Step, 0) if is_made(FewerInFlight) && get(store, MESSAGES, 0) == MAX_IN_FLIGHT as u64 && before != &*store => {
             store.copy_from_slice(before);
             *answer = refused(REFUSED_EVENT);
         }

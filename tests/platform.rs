@@ -18,6 +18,7 @@ mod stores;
 use calls::{answer, opening, proved, refused, simulated, Answer, Call};
 use common::{count, ended, same, seed, shown};
 use simulator::generator::{self, USUAL};
+use simulator::layout;
 use simulator::limits::*;
 use simulator::plan;
 use simulator::platform::Platform;
@@ -411,7 +412,7 @@ fn settling(seen: &mut Seen) -> Result<(), String> {
 /// An event on a lent store may bring the next number above its bound: it is done, and the next call gets 7.
 fn last_number(seen: &mut Seen) -> Result<(), String> {
     let mut bytes = reached(b"P,2,2,3,1,6\nC,3,1\n", 0);
-    bytes[16..24].copy_from_slice(&MAX_NEXT_NUMBER.to_le_bytes());
+    layout::put(&mut bytes, layout::NEXT_NUMBER, 0, MAX_NEXT_NUMBER);
     for (call, room) in [(Call::Step, LINE_BYTES), (Call::Run { budget: 3 }, 0)] {
         let (mut store, mut held) = (Lent::new(&bytes), store::decode(&bytes));
         seen.call(call, &mut store, &mut Lent::filled(room), &mut held)?;

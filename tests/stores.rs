@@ -1,6 +1,7 @@
 //! Stores that no run file leads to, all of them in range: a plan with any fields of nodes and any messages that the ranges
 //! allow. Rules can be told apart on them that no run tells apart, as a watch renewed by a heartbeat from anyone.
 
+use simulator::layout;
 use simulator::limits::*;
 use simulator::node::{Content, Node};
 use simulator::plan::Plan;
@@ -8,9 +9,6 @@ use simulator::platform::Platform;
 use simulator::queue::Message;
 use simulator::random::Random;
 use simulator::store;
-
-/// Where a store has the subjects of its messages.
-const SUBJECTS: usize = 43_072;
 
 /// A store of the plan at a tick of its run, with everything else at random.
 pub fn any(plan: &Plan, random: &mut Random) -> Vec<u8> {
@@ -26,7 +24,7 @@ pub fn any(plan: &Plan, random: &mut Random) -> Vec<u8> {
     let mut bytes = store::encode(&Platform::resume(plan.clone(), nodes, messages.clone(), next_number, crashes_done, last));
     for (place, (_, message)) in messages.iter().enumerate() {
         if !matches!(message.content, Content::Report { .. }) {
-            bytes[SUBJECTS + place] = random.range(0, u64::from(plan.nodes) - 1) as u8;
+            layout::put(&mut bytes, layout::MESSAGE_SUBJECT, place, random.range(0, u64::from(plan.nodes) - 1));
         }
     }
     bytes

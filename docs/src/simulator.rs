@@ -11,6 +11,7 @@
 //! - `queue`: what is pending, in the order of the events.
 //! - `platform`: events, step and run.
 //! - `settle`: demand 3's words about safety and settling.
+//! - `layout`: where a store has its fields.
 //! - `store`: the bytes of a platform, written, read and checked.
 //! - `exhaust`: all runs of a small ring.
 //! - `log`: log lines, written, read and cut into columns.
@@ -20,6 +21,7 @@
 pub mod exhaust;
 pub mod fields;
 pub mod generator;
+pub mod layout;
 pub mod limits;
 pub mod log;
 pub mod node;

@@ -3,140 +3,16 @@
 //!
 //! `check` is number 7: "other length, a field out of range, or an unused byte not zero".
 
+use super::layout::*;
 use super::limits::*;
 use super::node::{Content, Node};
 use super::plan::{self, Crash, Delay, Plan};
 use super::platform::Platform;
 use super::queue::Message;
 use super::ring;
-use std::ops::Range;
-
-/// A field of the layout: numbers of `width` bytes, the lowest first, in places one after another.
-#[derive(Clone, Copy, Debug)]
-struct Field {
-    start: usize,
-    width: usize,
-    places: usize,
-}
-
-const fn field(start: usize, width: usize, places: usize) -> Field {
-    Field { start, width, places }
-}
-
-const NODES: Field = field(0, 1, 1);
-const LONGEST_DELAY: Field = field(1, 1, 1);
-const PERIOD: Field = field(2, 2, 1);
-const TIMEOUT: Field = field(4, 2, 1);
-const CRASHES: Field = field(6, 1, 1);
-const CRASHES_DONE: Field = field(7, 1, 1);
-const END: Field = field(8, 4, 1);
-const LAST_TICK: Field = field(12, 4, 1);
-const NEXT_NUMBER: Field = field(16, 8, 1);
-const DELAYS: Field = field(24, 2, 1);
-const MESSAGES: Field = field(26, 2, 1);
-const UNUSED_HEAD: Field = field(28, 1, 100);
-const EMITTER: Field = field(128, 1, 64);
-const OBSERVER: Field = field(192, 1, 64);
-const WATCH: Field = field(256, 4, 64);
-const HEARTBEAT: Field = field(512, 4, 64);
-const DEAD_LIST: Field = field(768, 8, 64);
-const UNUSED_MARK: Field = field(1_280, 1, 512);
-const CRASH_TICK: Field = field(1_792, 4, 64);
-const CRASH_NODE: Field = field(2_048, 1, 64);
-const DELAY_NUMBER: Field = field(2_112, 4, 2_048);
-const DELAY_TICKS: Field = field(10_304, 1, 2_048);
-const MESSAGE_NUMBER: Field = field(12_352, 8, 2_048);
-const MESSAGE_DUE: Field = field(28_736, 4, 2_048);
-const MESSAGE_KIND: Field = field(36_928, 1, 2_048);
-const MESSAGE_SENDER: Field = field(38_976, 1, 2_048);
-const MESSAGE_RECEIVER: Field = field(41_024, 1, 2_048);
-const MESSAGE_SUBJECT: Field = field(43_072, 1, 2_048);
-const UNUSED_TAIL: Field = field(45_120, 1, 20_416);
 
 /// A store of unused bytes.
 static ZEROS: [u8; STORE_BYTES] = [0; STORE_BYTES];
-
-/// How many places of the fields that have more than one are used.
-#[derive(Clone, Copy)]
-struct Counts {
-    nodes: usize,
-    crashes: usize,
-    delays: usize,
-    messages: usize,
-}
-
-impl Counts {
-    /// The counts in the bytes; nothing where there are more rows or messages than a store may have.
-    fn read(bytes: &[u8]) -> Option<Counts> {
-        let count = |field| get(bytes, field, 0) as usize;
-        let counts = Counts {
-            nodes: count(NODES),
-            crashes: count(CRASHES),
-            delays: count(DELAYS),
-            messages: count(MESSAGES),
-        };
-        let room = (1..=MAX_NODES as usize).contains(&counts.nodes)
-            && counts.crashes <= counts.nodes
-            && counts.delays <= MAX_DELAY_ROWS
-            && counts.messages <= MAX_IN_FLIGHT;
-        room.then_some(counts)
-    }
-
-    /// Every field of the store with the number of its places that are used.
-    fn fields(&self) -> [(Field, usize); 29] {
-        let Counts { nodes, crashes, delays, messages } = *self;
-        [
-            (NODES, 1),
-            (LONGEST_DELAY, 1),
-            (PERIOD, 1),
-            (TIMEOUT, 1),
-            (CRASHES, 1),
-            (CRASHES_DONE, 1),
-            (END, 1),
-            (LAST_TICK, 1),
-            (NEXT_NUMBER, 1),
-            (DELAYS, 1),
-            (MESSAGES, 1),
-            (UNUSED_HEAD, 0),
-            (EMITTER, nodes),
-            (OBSERVER, nodes),
-            (WATCH, nodes),
-            (HEARTBEAT, nodes),
-            (DEAD_LIST, nodes),
-            (UNUSED_MARK, 0),
-            (CRASH_TICK, crashes),
-            (CRASH_NODE, crashes),
-            (DELAY_NUMBER, delays),
-            (DELAY_TICKS, delays),
-            (MESSAGE_NUMBER, messages),
-            (MESSAGE_DUE, messages),
-            (MESSAGE_KIND, messages),
-            (MESSAGE_SENDER, messages),
-            (MESSAGE_RECEIVER, messages),
-            (MESSAGE_SUBJECT, messages),
-            (UNUSED_TAIL, 0),
-        ]
-    }
-
-    /// The unused bytes of each field: the spare ones, and the places beyond the counts.
-    fn unused(&self) -> impl Iterator<Item = Range<usize>> {
-        let unused = |(Field { start, width, places }, used): (Field, usize)| {
-            start + used * width..start + places * width
-        };
-        self.fields().into_iter().map(unused)
-    }
-}
-
-/// The number at a place of a field.
-fn get(bytes: &[u8], Field { start, width, .. }: Field, place: usize) -> u64 {
-    let from = start + place * width;
-    bytes[from..from + width].iter().rev().fold(0, |number, byte| number << 8 | u64::from(*byte))
-}
-
-fn put(bytes: &mut [u8], Field { start, width, .. }: Field, place: usize, number: u64) {
-    let from = start + place * width;
-    bytes[from..from + width].copy_from_slice(&number.to_le_bytes()[..width]);
-}
 
 /// A timer: 0 off, else one more than its tick.
 fn timer(number: u64) -> Option<u32> {
@@ -426,16 +302,6 @@ mod tests {
         let mut bytes = encode(&in_midst());
         put(&mut bytes, field, place, number);
         bytes
-    }
-
-    #[test]
-    fn the_fields_fill_the_store_one_after_another() {
-        let none = Counts { nodes: 0, crashes: 0, delays: 0, messages: 0 };
-        let end = none.fields().into_iter().fold(0, |end, (field, _)| {
-            assert_eq!(field.start, end);
-            end + field.width * field.places
-        });
-        assert_eq!(end, STORE_BYTES);
     }
 
     #[test]
