@@ -54,7 +54,7 @@ def written_of(table):
 
 
 table, proof = read("specs/Edges.antt"), read("proofs/Starred.antt")
-unfolded = " ".join(re.findall(r"^unfolding (.*)$", proof, re.M))
+unfolded = " ".join(" ".join(re.findall(r"^unfolding (.*(?:\n +.*)*)$", proof, re.M)).split())
 own = ["use Rattle.edges.specs.Edges.{" + name + "}" for name in ("bytes", "judged", "logText")]
 print("\n".join([*imports(table, proof, *own), "", *written_of(table), ""]))
 for case in range(count):

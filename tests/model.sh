@@ -38,7 +38,7 @@ done
 python3 tests/model.py "$out/simulate" crates/edges "$seed" "$count" > "$copy/crates/edges/proofs/Simulated.antt"
 echo 'pub mod Simulated' >> "$copy/crates/edges/proofs/Lib.antt"
 if ! (cd "$copy" && rt dev edges) > "$copy/model.log" 2>&1 || ! grep -q '^logic=proved' "$copy/model.log"; then
-    grep -v '^note' "$copy/model.log" | tail -n 40 >&2
+    grep -v '^note' "$copy/model.log" | cut -c 1-300 | tail -n 40 >&2
     fail "seed $seed: the definitions and the simulator differ"
 fi
 echo "model: seed $seed, the logs of $count files agree"
