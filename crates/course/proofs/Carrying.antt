@@ -1,23 +1,23 @@
 -- The messages taken out of a store into a queue, and put back. Assumes nothing.
 use Prim.Native.Nat.{ℕ, zero, suc, _+_, _-_, _^_, _≤_, _<_}
 use mathlib.Core.Path.{_≡_, refl, sym, ap, ap₂, subst, _∙_}
-use mathlib.Core.Logic.{inl, inr}
 use mathlib.Core.List.{List, [], _∷_, _++_, map, map-append}
 use native.Mathlib.Numerals.{add-one}
 use native.Mathlib.Omega.{arith}
 use lib.ListN.{length, getD, take, length-take, length-map}
 use lib.Seq.{take-suc, take-all}
-use Rattle.ring.specs.Limits.{mostNodes, mostInFlight}
-use Rattle.runfile.specs.Plan.{Plan}
+use Rattle.limits.specs.Limits.{mostNodes, mostInFlight}
+use Rattle.plans.specs.Plan.{Plan}
 use Rattle.model.specs.Platform.{InFlight, State, messageAt, noMessage}
-use Rattle.model.specs.Range.{Known, FlightRange, Rises}
+use Rattle.node.proofs.Tests.{kind-fits}
+use Rattle.model.specs.Range.{FlightRange, Rises}
 use Rattle.model.proofs.RangesKept.{at-mem}
 use Rattle.store.specs.Store.{encode, planIn, stateIn}
 use Rattle.store.specs.Inside.{Fits, Held, flying, messageOf, withFlight}
 use Rattle.store.specs.declared.Flight.{Flight}
 use Rattle.store.proofs.Store.{plan-encode, state-encode, held-encode}
 use Rattle.event.specs.Ready.{Ready}
-use Rattle.event.proofs.Fitting.{ranges}
+use Rattle.plans.proofs.Tests.{ranges}
 use Rattle.event.proofs.Readiness.{ready-accepted, ready-sound}
 use Rattle.queue.specs.declared.Row.{Row}
 use Rattle.queue.specs.Order.{Every, From, Climbing}
@@ -32,17 +32,12 @@ use Rattle.course.proofs.Flights.{flight-again, flight-of, one-more, fi
 
 -- ---- a message as a row
 
-small-kind : (k : ℕ) → Known k → k < 256
-small-kind k (inl e) = omega arith
-small-kind k (inr (inl e)) = omega arith
-small-kind k (inr (inr e)) = omega arith
-
 -- the row of a message in range comes back as that message
 pub unpacked-row : (m : InFlight) (p : Plan) (last : ℕ) → p .n ≤ mostNodes → FlightRange p last m → (r : Row) → r ≡ packed m
     → (t : ℕ) → m .due ≡ t → unpacked r t ≡ flying m
 unfolding unpacked packed
 unpacked-row m p last h f r e t d =
-    let a : m .kind < 256 = small-kind (m .kind) (f .kind) in
+    let a : m .kind < 256 = kind-fits (m .kind) (f .kind) in
     let b : m .from < 256 = omega (arith, f .from) in
     let c : m .to < 256 = omega (arith, f .to) in
     let g : m .subject < 256 = omega (arith, f .subject) in

@@ -6,9 +6,10 @@ use mathlib.Core.List.{List}
 use native.Mathlib.Omega.{arith}
 use lib.ListN.{length}
 use Rattle.node.specs.declared.Node.{Node}
-use Rattle.runfile.specs.Plan.{Plan}
+use Rattle.plans.specs.Plan.{Plan}
 use Rattle.model.specs.Platform.{InFlight, State, crash, message, watch, heartbeat, nodeOf}
-use Rattle.model.specs.Range.{Plain, NotBefore, rowAt}
+use Rattle.plans.specs.Plain.{Plain, rowAt}
+use Rattle.model.specs.Range.{NotBefore}
 use Rattle.model.proofs.Search.{found-crash, found-message, found-none, found-watch, found-beat}
 use Rattle.store.specs.Store.{planIn, stateIn}
 use Rattle.event.specs.Event.{NextIs}

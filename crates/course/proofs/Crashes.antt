@@ -6,14 +6,14 @@ use mathlib.Core.List.{List}
 use native.Mathlib.Omega.{arith}
 use native.Mathlib.Decide.{ℕ-discrete}
 use lib.ListN.{length}
-use Rattle.ring.specs.Limits.{mostTick}
+use Rattle.limits.specs.Limits.{mostTick}
 use Rattle.node.specs.declared.Node.{Node}
-use Rattle.logline.specs.declared.Line.{Line}
+use Rattle.model.specs.declared.Deed.{Deed}
 use Rattle.logline.specs.Line.{letterC}
-use Rattle.runfile.specs.Plan.{Crash, Plan, planTest}
+use Rattle.plans.specs.Plan.{Crash, Plan, planTest}
 use Rattle.model.specs.Platform.{InFlight, State, Outcome, crash, did, alive, nodeOf, crashedList, apply, left}
-use Rattle.model.specs.Range.{Plain, rowAt}
-use Rattle.model.specs.Lines.{line}
+use Rattle.plans.specs.Plain.{Plain, rowAt}
+use Rattle.model.specs.Lines.{deed}
 use Rattle.model.proofs.NextEvent.{Chosen, alive-hit, alive-other}
 use Rattle.store.specs.declared.CrashRow.{CrashRow}
 use Rattle.store.specs.Store.{encode, planIn, stateIn}
@@ -121,11 +121,13 @@ module _ (b q : List ℕ) (c : Progress) (whole : List ℕ) (k : Underway b q c 
         let d : stateIn b' .done ≡ suc (stateIn whole .done) = apart-done left-apart ∙ done in
         (held-sized b' (apart-held left-apart), (ap planTest p ∙ k .ready .plan, omega (arith, d, ap (λ (z : Plan). length (z .crashes)) p, more)))
 
-    pub crash-stepped : (dead : ℕ) → dead ≡ crashedList (planIn b') (stateIn b' .done) → (l : Line) → l ≡ line letterC t n n (nodeOf (stateIn b) n .list)
+    pub crash-stepped : (dead : ℕ) → dead ≡ crashedList (planIn b') (stateIn b' .done) → (l : Deed)
+        → l ≡ deed letterC t n n (nodeOf (stateIn b) n .list)
         → SteppedAs whole c (Did (record { start = c .start; end = c .end; dead = dead; bound = c .bound; x = 0 }) l) b' q
     unfolding SteppedAs
     crash-stepped dead de l le =
-        let le' : l ≡ line letterC t n n (nodeOf (stateIn whole) n .list) = le ∙ ap (λ (m : Node). line letterC t n n (m .list)) (apart-node (k .apart) n) in (
+        let le' : l ≡ deed letterC t n n (nodeOf (stateIn whole) n .list) =
+        le ∙ ap (λ (m : Node). deed letterC t n n (m .list)) (apart-node (k .apart) n) in (
           crash-done whole (k .ready) t n next (storeLeft whole) l le' (sym left-is) .0,
           record {
             ready = left-ready whole (storeLeft whole) (k .ready) refl;

@@ -5,13 +5,13 @@ use mathlib.Core.Bool.{Bool, not}
 use mathlib.Core.List.{List, []}
 use native.Mathlib.Omega.{arith}
 use lib.ListN.{length}
-use Rattle.ring.specs.Limits.{mostNodes, mostTick, mostInFlight}
+use Rattle.limits.specs.Limits.{mostNodes, mostTick, mostInFlight, mostSent}
 use Rattle.ring.specs.Ring.{listed}
-use Rattle.logline.specs.declared.Line.{Line}
-use Rattle.model.specs.Lines.{messageLine}
+use Rattle.model.specs.declared.Deed.{Deed}
+use Rattle.model.specs.Lines.{messageDeed}
 use Rattle.node.specs.declared.Turned.{Turned}
-use Rattle.node.specs.Node.{turned, mostSent}
-use Rattle.runfile.specs.Plan.{Plan}
+use Rattle.node.specs.Node.{turned}
+use Rattle.plans.specs.Plan.{Plan}
 use Rattle.model.specs.Platform.{InFlight, State, message, messageAt, without, received, apply}
 use Rattle.model.specs.Range.{FlightRange}
 use Rattle.model.proofs.RangesKept.{at-mem}
@@ -127,7 +127,7 @@ module _ (b q : List ℕ) (c : Progress) (t : ℕ) (whole : List ℕ) (k : Under
         room = room;
       }
 
-      module _ (ls : Bool) (lse : ls ≡ listed (c .dead) (f .to)) (l : Line) (le : l ≡ messageLine t (messageOf f) (not ls) (u .node .list)) where
+      module _ (ls : Bool) (lse : ls ≡ listed (c .dead) (f .to)) (l : Deed) (le : l ≡ messageDeed t (messageOf f) (not ls) (u .node .list)) where
         delivery-given : Given whole mid (without i (stateIn whole .flight)) t (messageAt (stateIn whole) i .to) u l
         unfolding apply
         delivery-given = record {

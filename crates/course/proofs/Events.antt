@@ -4,15 +4,15 @@ use mathlib.Core.Path.{_≡_, refl, sym, ap, ap₂, subst, _∙_}
 use mathlib.Core.List.{List}
 use native.Mathlib.Omega.{arith}
 use lib.ListN.{length, set}
-use Rattle.ring.specs.Limits.{mostInFlight}
+use Rattle.limits.specs.Limits.{mostInFlight, mostSent}
 use Rattle.node.specs.declared.Node.{Node}
 use Rattle.node.specs.declared.Turned.{Turned}
-use Rattle.node.specs.Node.{turned, mostSent, onHeartbeatDue, onWatchDue}
-use Rattle.logline.specs.declared.Line.{Line}
+use Rattle.node.specs.Node.{turned, onHeartbeatDue, onWatchDue}
+use Rattle.model.specs.declared.Deed.{Deed}
 use Rattle.logline.specs.Line.{letterS, letterW}
-use Rattle.runfile.specs.Plan.{Plan}
+use Rattle.plans.specs.Plan.{Plan}
 use Rattle.model.specs.Platform.{InFlight, State, Entry, Outcome, watch, heartbeat, did, crashedList, nodeOf, taken, apply, left}
-use Rattle.model.specs.Lines.{line}
+use Rattle.model.specs.Lines.{deed}
 use Rattle.store.specs.Store.{encode, planIn, stateIn}
 use Rattle.store.specs.Inside.{withFlight}
 use Rattle.event.specs.declared.Happened.{Happened}
@@ -35,7 +35,7 @@ use Rattle.course.proofs.Progressing.{timers-turn}
 
 -- Node x takes the turn u at tick t: `mid` is the whole store as the turn finds it, with the messages `rest` in flight. What a step would
 -- have answered and left is given for both outcomes.
-pub record Given (whole mid : List ℕ) (rest : List InFlight) (t x : ℕ) (u : Turned) (l : Line) : Type 0 where
+pub record Given (whole mid : List ℕ) (rest : List InFlight) (t x : ℕ) (u : Turned) (l : Deed) : Type 0 where
   pub plan : planIn mid ≡ planIn whole
   pub state : stateIn mid ≡ withFlight (stateIn whole) rest
   pub inside : x < planIn whole .n
@@ -44,8 +44,9 @@ pub record Given (whole mid : List ℕ) (rest : List InFlight) (t x : ℕ) (u : 
   pub answer : length rest + u .count ≤ mostInFlight → done l ≡ nextAnswer whole
   pub full : mostInFlight < length rest + u .count → _≡_ {A = Happened} overfull (nextAnswer whole) × (whole ≡ storeLeft whole)
 
-module _ (b q : List ℕ) (c c₁ : Progress) (whole mid : List ℕ) (k : Underway b q c whole) (rest : List InFlight) (t x : ℕ) (u : Turned) (l : Line)
-    (g : Given whole mid rest t x u l) (ts : Timers (planIn whole) (stateIn whole) (c₁ .bound) (c₁ .x)) (de : c₁ .dead ≡ c .dead) (h : c₁ .x ≤ x) where
+module _ (b q : List ℕ) (c c₁ : Progress) (whole mid : List ℕ) (k : Underway b q c whole) (rest : List InFlight) (t x : ℕ) (u : Turned) (l : Deed)
+    (g : Given whole mid rest t x u l) (ts : Timers (planIn whole) (stateIn whole) (c₁ .bound) (c₁ .x)) (de : c₁ .dead ≡ c .dead)
+    (h : c₁ .x ≤ x) where
   rest-flight : length (stateIn mid .flight) ≡ length rest
   unfolding withFlight
   rest-flight = ap (λ (s : State). length (s .flight)) (g .state)
@@ -58,7 +59,7 @@ module _ (b q : List ℕ) (c c₁ : Progress) (whole mid : List ℕ) (k : Underw
   mid-left = ap₂ (λ (p : Plan) (s : State). encode p (taken p s t x (s .flight) (turnOf u))) (g .plan) (g .state)
 
   -- it is taken
-  module _ (d : Progress) (m : Line) (b' q' : List ℕ) (f : Taken c₁ t x u l mid d m b' q') where
+  module _ (d : Progress) (m : Deed) (b' q' : List ℕ) (f : Taken c₁ t x u l mid d m b' q') where
     did-it : nextOutcome whole ≡ did (g .entry) After
     did-it = g .outcome (omega (arith, f .room, rest-flight))
 
@@ -102,7 +103,7 @@ module _ (b q : List ℕ) (c c₁ : Progress) (whole mid : List ℕ) (k : Underw
   pub turn-stepped : (r : Step) (b' q' : List ℕ) → SettledAs b q c₁ t x u l mid r b' q' → SteppedAs whole c r b' q'
   unfolding SettledAs SteppedAs
   turn-stepped (Did d m) b' q' f =
-      (ap done (f .line) ∙ g .answer (omega (arith, f .room, rest-flight)), turn-underway d m b' q' f)
+      (ap done (f .deed) ∙ g .answer (omega (arith, f .room, rest-flight)), turn-underway d m b' q' f)
   turn-stepped (Waits d) b' q' f = absurd f
   turn-stepped Ended b' q' f = absurd f
   turn-stepped Refused b' q' f = let z = g .full (omega (arith, f .full, rest-flight)) in (z .0, z .1, still-underway b' q' f)
@@ -130,9 +131,9 @@ module _ (b q : List ℕ) (c : Progress) (whole : List ℕ) (k : Underway b q c 
       room = room;
     }
 
-    module _ (l : Line) (le : l ≡ line letterS (c .bound) (c .x) (nodeOf (stateIn b) (c .x) .observer) (u .node .list)) where
-      line-is : l ≡ line letterS (c .bound) (c .x) (nodeOf (stateIn whole) (c .x) .observer) (u .node .list)
-      line-is = le ∙ ap (λ (n : Node). line letterS (c .bound) (c .x) (n .observer) (u .node .list)) (apart-node (k .apart) (c .x))
+    module _ (l : Deed) (le : l ≡ deed letterS (c .bound) (c .x) (nodeOf (stateIn b) (c .x) .observer) (u .node .list)) where
+      deed-is : l ≡ deed letterS (c .bound) (c .x) (nodeOf (stateIn whole) (c .x) .observer) (u .node .list)
+      deed-is = le ∙ ap (λ (n : Node). deed letterS (c .bound) (c .x) (n .observer) (u .node .list)) (apart-node (k .apart) (c .x))
 
       beat-given : Given whole whole (stateIn whole .flight) (c .bound) (c .x) u l
       unfolding apply
@@ -142,7 +143,7 @@ module _ (b q : List ℕ) (c : Progress) (whole : List ℕ) (k : Underway b q c 
         inside = beat-place whole (k .ready) (c .bound) (c .x) next;
         entry = entry (c .bound) (heartbeat (c .x));
         outcome = turn-did (planIn whole) (stateIn whole) (c .bound) (heartbeat (c .x)) next (c .x) (stateIn whole .flight) u _ beat-is refl;
-        answer = λ room. beat-done whole (k .ready) (c .bound) (c .x) next u beat-is l line-is room .0;
+        answer = λ room. beat-done whole (k .ready) (c .bound) (c .x) next u beat-is l deed-is room .0;
         full = beat-refused whole (k .ready) (c .bound) (c .x) next u beat-is;
       }
 
@@ -156,7 +157,8 @@ module _ (b q : List ℕ) (c : Progress) (whole : List ℕ) (k : Underway b q c 
       (ue : u ≡ turned (onWatchDue (planIn b .order) (planIn b .w) (c .bound) (c .x) (nodeOf (stateIn b) (c .x)))) where
     watch-is : u ≡ turned (onWatchDue (planIn whole .order) (planIn whole .w) (c .bound) (c .x) (nodeOf (stateIn whole) (c .x)))
     watch-is =
-        ue ∙ ap₂ (λ (p : Plan) (n : Node). turned (onWatchDue (p .order) (p .w) (c .bound) (c .x) n)) (apart-plan (k .apart)) (apart-node (k .apart) (c .x))
+        ue ∙ ap₂ (λ (p : Plan) (n : Node). turned (onWatchDue (p .order) (p .w) (c .bound) (c .x) n)) (apart-plan (k .apart))
+        (apart-node (k .apart) (c .x))
 
     pub watch-settling : c .end + mostSent ≤ places → Settling b q c (c .bound) (c .x) u
     watch-settling room = record {
@@ -167,9 +169,9 @@ module _ (b q : List ℕ) (c : Progress) (whole : List ℕ) (k : Underway b q c 
       room = room;
     }
 
-    module _ (l : Line) (le : l ≡ line letterW (c .bound) (c .x) (nodeOf (stateIn b) (c .x) .emitter) (u .node .list)) where
-      watch-line-is : l ≡ line letterW (c .bound) (c .x) (nodeOf (stateIn whole) (c .x) .emitter) (u .node .list)
-      watch-line-is = le ∙ ap (λ (n : Node). line letterW (c .bound) (c .x) (n .emitter) (u .node .list)) (apart-node (k .apart) (c .x))
+    module _ (l : Deed) (le : l ≡ deed letterW (c .bound) (c .x) (nodeOf (stateIn b) (c .x) .emitter) (u .node .list)) where
+      watch-deed-is : l ≡ deed letterW (c .bound) (c .x) (nodeOf (stateIn whole) (c .x) .emitter) (u .node .list)
+      watch-deed-is = le ∙ ap (λ (n : Node). deed letterW (c .bound) (c .x) (n .emitter) (u .node .list)) (apart-node (k .apart) (c .x))
 
       watch-given : Given whole whole (stateIn whole .flight) (c .bound) (c .x) u l
       unfolding apply
@@ -179,7 +181,7 @@ module _ (b q : List ℕ) (c : Progress) (whole : List ℕ) (k : Underway b q c 
         inside = watch-place whole (k .ready) (c .bound) (c .x) next;
         entry = entry (c .bound) (watch (c .x));
         outcome = turn-did (planIn whole) (stateIn whole) (c .bound) (watch (c .x)) next (c .x) (stateIn whole .flight) u _ watch-is refl;
-        answer = λ room. watch-done whole (k .ready) (c .bound) (c .x) next u watch-is l watch-line-is room .0;
+        answer = λ room. watch-done whole (k .ready) (c .bound) (c .x) next u watch-is l watch-deed-is room .0;
         full = watch-refused whole (k .ready) (c .bound) (c .x) next u watch-is;
       }
 

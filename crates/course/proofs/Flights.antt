@@ -5,7 +5,7 @@ use mathlib.Core.List.{List, [], _∷_}
 use native.Mathlib.Omega.{arith}
 use lib.ListN.{length, take, length-take}
 use lib.Seq.{take-all}
-use Rattle.runfile.specs.Plan.{Plan}
+use Rattle.plans.specs.Plan.{Plan}
 use Rattle.model.specs.Platform.{InFlight, State, without}
 use Rattle.store.specs.Store.{encode, planIn, stateIn}
 use Rattle.store.specs.Inside.{Fits, Held, withFlight, withoutMessage}

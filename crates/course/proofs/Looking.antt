@@ -11,10 +11,11 @@ use lib.ListN.{length, List·getD-eq-default}
 use Rattle.node.specs.Node.{alone}
 use Rattle.node.specs.declared.Node.{Node}
 use Rattle.ring.specs.Ring.{listed}
-use Rattle.runfile.specs.Plan.{Plan}
+use Rattle.plans.specs.Plan.{Plan}
 use Rattle.store.specs.declared.CrashRow.{CrashRow}
 use Rattle.model.specs.Platform.{InFlight, State, alive, nodeOf, crashedList}
-use Rattle.model.specs.Range.{rowAt, Plain, Accepted}
+use Rattle.plans.specs.Plain.{rowAt, Plain}
+use Rattle.model.specs.Range.{Accepted}
 use Rattle.store.specs.Store.{planIn, stateIn}
 use Rattle.store.specs.Inside.{withFlight, crashRow}
 use Rattle.event.specs.Search.{timerTick}
@@ -254,7 +255,8 @@ module _
     above = λ t k f. k;
   }
 
-  module _ (h : l ≡ false) (a : Node) (ae : a ≡ nodeOf s i) (w z : ℕ) (we : w ≡ timerTick least (a .watch)) (ze : z ≡ timerTick w (a .heartbeat)) where
+  module _ (h : l ≡ false) (a : Node) (ae : a ≡ nodeOf s i) (w z : ℕ) (we : w ≡ timerTick least (a .watch))
+      (ze : z ≡ timerTick w (a .heartbeat)) where
     abbrev x : ℕ
     x = nodeOf s i .watch
 

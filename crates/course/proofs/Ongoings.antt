@@ -5,16 +5,18 @@ use mathlib.Core.List.{List}
 use mathlib.Core.Option.{none}
 use native.Mathlib.Omega.{arith}
 use lib.ListN.{length}
-use Rattle.node.specs.Node.{mostSent}
+use Rattle.limits.specs.Limits.{mostSent}
 use Rattle.store.specs.Store.{planIn, stateIn}
 use Rattle.event.specs.Ready.{Ready}
 use Rattle.event.proofs.Readiness.{ready-sound}
-use Rattle.event.proofs.Doing.{last-of, ended-answer}
+use Rattle.event.proofs.Doing.{ended-answer}
+use Rattle.event.proofs.LineRoom.{last-of}
 use Rattle.logline.specs.declared.Line.{Line}
+use Rattle.model.specs.declared.Deed.{Deed}
 use Rattle.logline.specs.Line.{letterE}
-use Rattle.runfile.specs.Plan.{Plan}
+use Rattle.plans.specs.Plan.{Plan}
 use Rattle.model.specs.Platform.{survivors, crashedList, nextEvent}
-use Rattle.model.specs.Lines.{line}
+use Rattle.model.specs.Lines.{line, lastLine}
 use Rattle.queue.specs.Rows.{places, Moved}
 use Rattle.queue.proofs.Queues.{holds-moved, holds-count}
 use Rattle.course.specs.declared.Progress.{Progress}
@@ -26,7 +28,8 @@ use Rattle.course.specs.Progress.{Underway, SteppedAs, answerOf, progres
 use Rattle.course.proofs.Parting.{apart-plan, apart-done}
 
 pub room-moved : (b q q' : List ℕ) (c : Progress) (whole : List ℕ) → Underway b q c whole → Moved q (c .start) (c .end) q'
-    → Underway b q' (record { start = 0; end = c .end - c .start; dead = c .dead; bound = c .bound; x = c .x }) whole × (c .end - c .start + mostSent ≤ places)
+    → Underway b q' (record { start = 0; end = c .end - c .start; dead = c .dead; bound = c .bound; x = c .x }) whole
+    × (c .end - c .start + mostSent ≤ places)
 room-moved b q q' c whole k m = (
   record {
     ready = k .ready;
@@ -39,7 +42,7 @@ room-moved b q q' c whole k m = (
 
 -- what a look comes to, d being how far the run was; e where it goes on
 module _ (whole : List ℕ) (d : Progress) (r : Step) (b' q' : List ℕ) (s : SteppedAs whole d r b' q') where
-  pub look-did : (e : Progress) (l : Line) → r ≡ Did e l → Agrees whole (WentOn e l) b' q'
+  pub look-did : (e : Progress) (l : Deed) → r ≡ Did e l → Agrees whole (WentOn e l) b' q'
   unfolding SteppedAs answerOf progressOf
   look-did e l h = let f = subst (λ (z : Step). SteppedAs whole d z b' q') h s in record { answer = f .0; underway = f .1 }
 
@@ -53,22 +56,26 @@ module _ (whole : List ℕ) (d : Progress) (r : Step) (b' q' : List ℕ) (s : St
       let f = subst (λ (z : Step). SteppedAs whole d z b' q') h s in
       record { answer = f .0; underway = subst (Underway b' q' d) (f .1) (f .2) }
 
-  pub look-none : r ≡ Ended → (nextEvent (planIn whole) (stateIn whole) ≡ none) × Underway b' q' d whole
+  look-none : r ≡ Ended → (nextEvent (planIn whole) (stateIn whole) ≡ none) × Underway b' q' d whole
   unfolding SteppedAs
   look-none h = subst (λ (z : Step). SteppedAs whole d z b' q') h s
 
--- none is left: the last line is that of the whole store
-module _ (whole b q : List ℕ) (d : Progress) (none-left : nextEvent (planIn whole) (stateIn whole) ≡ none) (k : Underway b q d whole) where
-  pub look-ended : (flying : ℕ) → flying ≡ d .end - d .start → (l : Line)
-      → l ≡ line letterE (planIn b .end) (survivors (planIn b) (stateIn b .done)) flying (crashedList (planIn b) (stateIn b .done))
-      → Agrees whole (WentOut d l) b q
+  pub look-ended : r ≡ Ended → Agrees whole (WentOut d) b' q'
   unfolding answerOf progressOf
-  look-ended flying fe l le =
-      let e : l ≡ line letterE (planIn whole .end) (survivors (planIn whole) (stateIn whole .done)) flying (crashedList (planIn whole) (stateIn whole .done)) =
-      le ∙ ap₂ (λ (p : Plan) (n : ℕ). line letterE (p .end) (survivors p n) flying (crashedList p n)) (apart-plan (k .apart)) (apart-done (k .apart)) in
-      let few : flying ≡ length (stateIn whole .flight) = fe ∙ sym (holds-count q (d .start) (d .end) (stateIn whole .flight) (k .apart .holds)) in
-      let f = ended-answer (planIn whole) (stateIn whole) whole (k .apart .held .canonical) none-left l (last-of whole flying few l e) in
-      record { answer = f .0; underway = subst (Underway b q d) (f .1) k }
+  look-ended h =
+      let n = look-none h in
+      let f = ended-answer (planIn whole) (stateIn whole) whole (n .1 .apart .held .canonical) (n .0) in
+      record { answer = f .0; underway = subst (Underway b' q' d) (f .1) (n .1) }
+
+-- ---- the last line, as of the whole store
+
+pub last-whole : {b q : List ℕ} {c : Progress} {whole : List ℕ} → Underway b q c whole → (l : Line)
+    → l ≡ line letterE (planIn b .end) (survivors (planIn b) (stateIn b .done)) (c .end - c .start) (crashedList (planIn b) (stateIn b .done))
+    → l ≡ lastLine (planIn whole) (stateIn whole)
+last-whole {b} {q} {c} {whole} k l e =
+    last-of whole (c .end - c .start) (sym (holds-count q (c .start) (c .end) (stateIn whole .flight) (k .apart .holds))) l
+    (e ∙ ap₂ (λ (p : Plan) (n : ℕ). line letterE (p .end) (survivors p n) (c .end - c .start) (crashedList p n)) (apart-plan (k .apart))
+    (apart-done (k .apart)))
 
 -- ---- a run begins, and ends
 

@@ -8,8 +8,9 @@ use lib.ListN.{length, getD, take}
 use Rattle.node.specs.declared.Node.{Node}
 use Rattle.node.specs.declared.Message.{Message}
 use Rattle.node.specs.declared.Turned.{Turned}
-use Rattle.node.specs.Node.{alone, mostSent}
-use Rattle.runfile.specs.Plan.{Plan, planTest}
+use Rattle.node.specs.Node.{alone}
+use Rattle.limits.specs.Limits.{mostSent}
+use Rattle.plans.specs.Plan.{Plan, planTest}
 use Rattle.model.specs.Platform.{InFlight, State, nodeOf}
 use Rattle.store.specs.Store.{encode, planIn, stateIn}
 use Rattle.store.specs.Inside.{SmallNode, Fits, Held, withFlight, withTick, withNode, numberTaken}

@@ -10,7 +10,7 @@ use lib.ListN.{length, set}
 use lib.Seq.{getD-set-same, getD-set-other}
 use Rattle.node.specs.declared.Node.{Node}
 use Rattle.node.specs.Node.{alone}
-use Rattle.runfile.specs.Plan.{Plan}
+use Rattle.plans.specs.Plan.{Plan}
 use Rattle.model.specs.Platform.{State, alive, nodeOf}
 use Rattle.store.specs.Store.{stateIn}
 use Rattle.event.specs.Search.{timerTick}

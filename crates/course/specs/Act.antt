@@ -2,7 +2,7 @@
 use mathlib.Core.List.{List}
 use mathlib.Core.Path.{_≡_}
 use Prim.Native.Nat.{ℕ, _+_, _≤_, _<_}
-use Rattle.node.specs.Node.{mostSent}
+use Rattle.limits.specs.Limits.{mostSent}
 use Rattle.model.specs.Platform.{Event, crash, message}
 use Rattle.store.specs.Store.{stateIn}
 use Rattle.event.specs.Event.{NextIs}

@@ -4,7 +4,7 @@ use mathlib.Core.List.{List, []}
 use mathlib.Core.Path.{_≡_}
 use Prim.Native.Nat.{ℕ, _+_, _≤_}
 use Rattle.node.specs.declared.Turned.{Turned}
-use Rattle.node.specs.Node.{mostSent}
+use Rattle.limits.specs.Limits.{mostSent}
 use Rattle.store.specs.Store.{encode, planIn, stateIn}
 use Rattle.store.specs.Inside.{Held, withFlight}
 use Rattle.event.specs.Event.{Turns, sendsLeft, turnLeft}

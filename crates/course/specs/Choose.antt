@@ -1,7 +1,7 @@
 -- What a step asks for once it has looked at crashes and messages. Assumes nothing.
 use mathlib.Core.List.{List}
 use Prim.Native.Nat.{ℕ, suc, _+_, _≤_}
-use Rattle.node.specs.Node.{mostSent}
+use Rattle.limits.specs.Limits.{mostSent}
 use Rattle.model.specs.Range.{NotBefore}
 use Rattle.store.specs.Store.{planIn, stateIn}
 use Rattle.queue.specs.Rows.{places}

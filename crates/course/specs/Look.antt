@@ -5,9 +5,9 @@ use mathlib.Core.Logic.{_⊎_, _≢_}
 use mathlib.Core.Path.{_≡_}
 use Prim.Native.Nat.{ℕ, suc, _≤_, _<_}
 use lib.ListN.{length}
-use Rattle.runfile.specs.Plan.{Plan}
+use Rattle.plans.specs.Plan.{Plan}
 use Rattle.model.specs.Platform.{InFlight, State, alive, nodeOf}
-use Rattle.model.specs.Range.{rowAt}
+use Rattle.plans.specs.Plain.{rowAt}
 use Rattle.queue.specs.Rows.{rowAt as queueRow}
 
 -- r is the tick of the first crash that is not done, or the one after the end tick

@@ -5,11 +5,10 @@ use mathlib.Core.Option.{none}
 use mathlib.Core.Path.{_≡_}
 use Prim.Native.Nat.{ℕ, _+_, _≤_, _<_}
 use lib.ListN.{length}
-use Rattle.ring.specs.Limits.{mostInFlight}
+use Rattle.limits.specs.Limits.{mostInFlight, mostSent}
 use Rattle.node.specs.declared.Node.{Node}
 use Rattle.node.specs.declared.Turned.{Turned}
-use Rattle.node.specs.Node.{mostSent}
-use Rattle.logline.specs.declared.Line.{Line}
+use Rattle.model.specs.declared.Deed.{Deed}
 use Rattle.model.specs.Platform.{crashedList, nextEvent}
 use Rattle.store.specs.Store.{planIn, stateIn}
 use Rattle.event.specs.declared.Happened.{Happened}
@@ -59,9 +58,9 @@ pub record Later (c d : Progress) (count : ℕ) (a : Node) : Type 0 where
   pub x : d .x ≤ c .x
   pub again : d .bound < c .bound → d .x ≡ 0
 
--- it is taken, and its line is the one that was given
-pub record Taken (c : Progress) (t y : ℕ) (u : Turned) (given : Line) (whole : List ℕ) (d : Progress) (l : Line) (b' q' : List ℕ) : Type 0 where
-  pub line : l ≡ given
+-- it is taken, and its deed is the one that was given
+pub record Taken (c : Progress) (t y : ℕ) (u : Turned) (given : Deed) (whole : List ℕ) (d : Progress) (a : Deed) (b' q' : List ℕ) : Type 0 where
+  pub deed : a ≡ given
   pub room : length (stateIn whole .flight) + u .count ≤ mostInFlight
   pub later : Later c d (u .count) (u .node)
   pub apart : Apart b' q' (d .start) (d .end) (turnLeft whole t y u)
@@ -72,21 +71,21 @@ pub record TurnedDown (b q : List ℕ) (u : Turned) (whole b' q' : List ℕ) : T
   pub store : b' ≡ b
   pub queue : q' ≡ q
 
-unfoldable pub SettledAs : (b q : List ℕ) → Progress → (t y : ℕ) → Turned → Line → (whole : List ℕ) → Step → (b' q' : List ℕ) → Type 0
-SettledAs b q c t y u line whole (Did d l) b' q' = Taken c t y u line whole d l b' q'
-SettledAs b q c t y u line whole (Waits d) b' q' = ⊥
-SettledAs b q c t y u line whole Ended b' q' = ⊥
-SettledAs b q c t y u line whole Refused b' q' = TurnedDown b q u whole b' q'
+unfoldable pub SettledAs : (b q : List ℕ) → Progress → (t y : ℕ) → Turned → Deed → (whole : List ℕ) → Step → (b' q' : List ℕ) → Type 0
+SettledAs b q c t y u deed whole (Did d a) b' q' = Taken c t y u deed whole d a b' q'
+SettledAs b q c t y u deed whole (Waits d) b' q' = ⊥
+SettledAs b q c t y u deed whole Ended b' q' = ⊥
+SettledAs b q c t y u deed whole Refused b' q' = TurnedDown b q u whole b' q'
 
-abbrev pub Settled : (b q : List ℕ) → Progress → (t y : ℕ) → Turned → Line → Step → (b' q' : List ℕ) → Type 0
-Settled b q c t y u line r b' q' =
+abbrev pub Settled : (b q : List ℕ) → Progress → (t y : ℕ) → Turned → Deed → Step → (b' q' : List ℕ) → Type 0
+Settled b q c t y u deed r b' q' =
     (whole : List ℕ) → Apart b q (c .start) (c .end) whole → (length (stateIn whole .flight) + u .count ≤ mostInFlight → Turns whole t y u)
-    → SettledAs b q c t y u line whole r b' q'
+    → SettledAs b q c t y u deed whole r b' q'
 
 -- ---- a look for the next event, which is done if one is found
 
 unfoldable pub SteppedAs : (whole : List ℕ) → Progress → Step → (b' q' : List ℕ) → Type 0
-SteppedAs whole c (Did d l) b' q' = (done l ≡ nextAnswer whole) × Underway b' q' d (storeLeft whole)
+SteppedAs whole c (Did d a) b' q' = (done a ≡ nextAnswer whole) × Underway b' q' d (storeLeft whole)
 SteppedAs whole c (Waits d) b' q' = (c .bound < d .bound) × (d .end ≡ c .end) × Underway b' q' d whole
 SteppedAs whole c Ended b' q' = (nextEvent (planIn whole) (stateIn whole) ≡ none) × Underway b' q' c whole
 SteppedAs whole c Refused b' q' = (_≡_ {A = Happened} overfull (nextAnswer whole)) × (whole ≡ storeLeft whole) × Underway b' q' c whole
@@ -98,14 +97,14 @@ Stepped b q c r b' q' = (whole : List ℕ) → Underway b q c whole → SteppedA
 
 -- what a step would have answered
 unfoldable pub answerOf : Went → Happened
-answerOf (WentOn d l) = done l
-answerOf (WentOut d l) = over l
+answerOf (WentOn d a) = done a
+answerOf (WentOut d) = over
 answerOf (WentWrong d) = overfull
 
 -- how far the run is
 unfoldable pub progressOf : Went → Progress
-progressOf (WentOn d l) = d
-progressOf (WentOut d l) = d
+progressOf (WentOn d a) = d
+progressOf (WentOut d) = d
 progressOf (WentWrong d) = d
 
 -- THE TWO WAYS OF FINDING AN EVENT AGREE: what a run answers of the next event is what a step on the whole store answers, and what it leaves

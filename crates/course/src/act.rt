@@ -1,4 +1,4 @@
-// The events. What each does to its node, what it sends and its line is as for a step; here it is written beside the queue.
+// The events. What each does to its node, what it sends and what is told of it is as for a step; here it is written beside the queue.
 use crate::Progress;
 use crate::Step;
 use crate::carry;
@@ -21,8 +21,8 @@ pub fn do_heartbeat(b: &mut [u8], q: &mut [u64], c: Progress) -> Step
     let t = c.bound;
     let x = c.x;
     let u = turn::heartbeat_turn(b, t, x);
-    let line = turn::heartbeat_line(b, t, x, u);
-    settle::settle(b, q, c, t, x as u8, u, line)
+    let deed = turn::heartbeat_deed(b, t, x, u);
+    settle::settle(b, q, c, t, x as u8, u, deed)
 }
 
 // The watch of node x is due, at the tick that the run has come to.
@@ -34,17 +34,18 @@ pub fn do_watch(b: &mut [u8], q: &mut [u64], c: Progress) -> Step
     let t = c.bound;
     let x = c.x;
     let u = turn::watch_turn(b, t, x);
-    let line = turn::watch_line(b, t, x, u);
-    settle::settle(b, q, c, t, x as u8, u, line)
+    let deed = turn::watch_deed(b, t, x, u);
+    settle::settle(b, q, c, t, x as u8, u, deed)
 }
 
 // A crash is next: that of the first C row that is not done.
 pub fn do_crash(b: &mut [u8], c: Progress, t: u32) -> Step
     requires { ⌜ ActsCrash (now b) c t ⌝ }
-    ensures { λ r. ⌜ ((q whole : List ℕ) (k : ℕ) → Underway (now (b .entry)) q c whole → NextIs whole t (crash k) → SteppedAs whole c r (now (b .exit)) q) ⌝ }
+    ensures { λ r. ⌜ ((q whole : List ℕ) (k : ℕ) → Underway (now (b .entry)) q c whole → NextIs whole t (crash k)
+        → SteppedAs whole c r (now (b .exit)) q) ⌝ }
 {
     let row = plan::crash_at(b, plan::crashes_done(b));
-    let line = turn::crash(b, t, row.node);
+    let deed = turn::crash(b, t, row.node);
     let dead = plan::crashed_list(b);
     let d = Progress {
         start: c.start,
@@ -53,7 +54,7 @@ pub fn do_crash(b: &mut [u8], c: Progress, t: u32) -> Step
         bound: c.bound,
         x: 0,
     };
-    Step::Did(d, line)
+    Step::Did(d, deed)
 }
 
 // The first message of the queue is next: it is delivered; to a crashed node it is dropped.
@@ -66,7 +67,7 @@ pub fn do_message(b: &mut [u8], q: &mut [u64], c: Progress, t: u32) -> Step
     let row = queue::row_at(q, start);
     let f = carry::unpack(row, t);
     let u = turn::message_turn(b, c.dead, t, f);
-    let line = turn::message_line(t, f, ring::is_listed(c.dead, f.to), u.node.list);
+    let deed = turn::message_deed(t, f, ring::is_listed(c.dead, f.to), u.node.list);
     let d = Progress {
         start: start + 1,
         end: c.end,
@@ -74,5 +75,5 @@ pub fn do_message(b: &mut [u8], q: &mut [u64], c: Progress, t: u32) -> Step
         bound: c.bound,
         x: 0,
     };
-    settle::settle(b, q, d, t, f.to, u, line)
+    settle::settle(b, q, d, t, f.to, u, deed)
 }

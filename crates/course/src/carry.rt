@@ -78,7 +78,8 @@ pub fn take_out(b: &mut [u8], q: &mut [u64]) -> usize
 // The messages of a queue in order of number, as rows from place 0 on. Answers how many there are.
 fn by_number(q: &mut [u64], start: usize, end: usize) -> usize
     requires { ⌜ ((flight : List InFlight) × Holds (now q) start end flight) ⌝ }
-    ensures { λ r. ⌜ ((flight : List InFlight) → Holds (now (q .entry)) start end flight → Climbing number flight → Listed (now (q .exit)) r flight) ⌝ }
+    ensures { λ r. ⌜ ((flight : List InFlight) → Holds (now (q .entry)) start end flight → Climbing number flight
+        → Listed (now (q .exit)) r flight) ⌝ }
 {
     let n = end - start;
     queue::move_down(q, start, end);

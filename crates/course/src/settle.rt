@@ -3,13 +3,13 @@ use crate::Progress;
 use crate::Step;
 use crate::turn;
 use event::search;
-use logline::Line;
+use model::Deed;
 use node::Node;
 use node::Turned;
 use store::layout;
 ghost use Prim.Native.Nat.{_+_, _≤_};
 ghost use Rattle.queue.specs.Rows.{places};
-ghost use Rattle.node.specs.Node.{mostSent};
+ghost use Rattle.limits.specs.Limits.{mostSent};
 ghost use Rattle.course.specs.Progress.{Settling, Settled, Later};
 
 // How far the run is after a turn that sent `count` messages and left node a.
@@ -37,7 +37,7 @@ fn later(c: Progress, count: usize, a: Node) -> Progress
     }
 }
 
-// Node y takes its turn at tick t, of which the event's line is given, unless too many messages would be in flight.
+// Node y takes its turn at tick t, where the event's deed is given, unless too many messages would be in flight.
 pub fn settle(
     b: &mut [u8],
     q: &mut [u64],
@@ -45,10 +45,10 @@ pub fn settle(
     t: u32,
     y: u8,
     u: Turned,
-    line: Line,
+    deed: Deed,
 ) -> Step
     requires { ⌜ Settling (now b) (now q) c t y u ⌝ }
-    ensures { λ r. ⌜ Settled (now (b .entry)) (now (q .entry)) c t y u line r (now (b .exit)) (now (q .exit)) ⌝ }
+    ensures { λ r. ⌜ Settled (now (b .entry)) (now (q .entry)) c t y u deed r (now (b .exit)) (now (q .exit)) ⌝ }
 {
     let start = c.start;
     let end = c.end;
@@ -56,5 +56,5 @@ pub fn settle(
         return Step::Refused;
     }
     turn::take_turn(b, q, start, end, t, y, u);
-    Step::Did(later(c, u.count, u.node), line)
+    Step::Did(later(c, u.count, u.node), deed)
 }

@@ -7,7 +7,7 @@ use store::nodes;
 use store::plan;
 ghost use mathlib.Core.List.{List};
 ghost use Prim.Native.Nat.{ℕ, _+_, _≤_};
-ghost use Rattle.node.specs.Node.{mostSent};
+ghost use Rattle.limits.specs.Limits.{mostSent};
 ghost use Rattle.queue.specs.Rows.{places};
 ghost use Rattle.course.specs.Progress.{Underway, Going, Stepped, SteppedAs};
 ghost use Rattle.course.specs.Choose.{Quiet, Waiting};
@@ -72,7 +72,8 @@ pub fn step(b: &mut [u8], q: &mut [u64], c: Progress) -> Step
 // The queue with room for what an event sends, moved down where it has none.
 pub fn made_room(q: &mut [u64], c: Progress) -> Progress
     requires { ⌜ ((b whole : List ℕ) × Underway b (now q) c whole) ⌝ }
-    ensures { λ r. ⌜ ((b whole : List ℕ) → Underway b (now (q .entry)) c whole → Underway b (now (q .exit)) r whole × (r .end + mostSent ≤ places)) ⌝ }
+    ensures { λ r. ⌜ ((b whole : List ℕ) → Underway b (now (q .entry)) c whole
+        → Underway b (now (q .exit)) r whole × (r .end + mostSent ≤ places)) ⌝ }
 {
     let start = c.start;
     let end = c.end;

@@ -6,29 +6,31 @@ use mathlib.Core.List.{List, [], _∷_}
 use mathlib.Core.Option.{Option, none, some}
 use Prim.Native.Nat.{ℕ, zero, suc, _^_, _≤_, _<_}
 use native.Mathlib.Omega.{arith}
-use borrow.Author.Tests.{ltb-true, ltb-false, lt-ltb, le-ltb, le-leb, lt-leb, ne-eqb}
+use borrow.Author.Tests.{ltb-true, ltb-false, lt-ltb, le-ltb, le-leb, lt-leb, ne-eqb, not-false}
 use lib.Dec.{eqb, leb, ltb}
 use lib.ListN.{length}
-use Rattle.ring.specs.Limits.{mostNodes, mostInFlight}
+use Rattle.limits.specs.Limits.{mostNodes, mostInFlight, recordSize, storeSize}
 use Rattle.ring.specs.Ring.{tableAnswer}
 use Rattle.text.specs.Put.{put}
-use Rattle.runfile.specs.Plan.{Plan, planText, within as between}
-use Rattle.runfile.specs.File.{Answer as FileAnswer, accepted as acceptedFile, refused as turnedDown, fileOf}
+use Rattle.plans.specs.Plan.{Plan, within as between}
+use Rattle.runfile.specs.Text.{planText}
+use Rattle.runfile.specs.File.{FileAnswer, accepted as acceptedFile, turnedDown, fileOf, FileAnswer as Answer}
 use Rattle.runfile.proofs.Refusals.{refusal-small}
 use Rattle.logline.specs.declared.Line.{Line}
 use Rattle.logline.specs.declared.Read.the-variants.{Accepted as Read}
 use Rattle.logline.specs.declared.Written.the-variants.{Bytes as Put, Refused as Unput}
 use Rattle.logline.specs.Line.{Ranges, upTo, unknown, ranges, within, readOf, lineText, writtenIn, writtenOf, holds, outOf}
 use Rattle.logline.proofs.LineTrip.{read-trip, text-accepted}
-use Rattle.model.specs.Platform.{State, start, Entry, Outcome, did, ended, refused, Answer, spent, finished, overfull as overfullRun}
+use Rattle.model.specs.Platform.{State, start, Entry, Outcome, did, ended, refused, Ending, spent, finished, overfull as overfullRun}
 use Rattle.model.specs.Platform.{nextEvent, apply, fits, tried, try, left, steps, eventCount, runAnswer}
 use Rattle.model.proofs.Calls.{stuck, counted}
-use Rattle.host.specs.Call.{accepted, answer, recordAfter, partAfter, openAnswer, openLeaves}
+use Rattle.limits.specs.Refusals.{accepted}
+use Rattle.host.specs.Call.{answer, recordAfter, partAfter, openAnswer, openLeaves}
 use Rattle.host.specs.Call.{deliverAnswer, deliverLeaves, deliverSends, timersAnswer, timersLeaves, timersSends}
-use Rattle.host.specs.Record.{recordSize, openable, sound}
+use Rattle.host.specs.Record.{openable, sound}
 use Rattle.host.proofs.Range.{opened-in-range, deliver-stays, timers-stay}
 use Rattle.node.specs.Node.{Turn}
-use Rattle.store.specs.Store.{storeSize, encode, planIn, stateIn, storeInRange}
+use Rattle.store.specs.Store.{encode, planIn, stateIn, storeInRange}
 use Rattle.platform.specs.declared.Opened.the-variants.{Ready, Refused as Unopened}
 use Rattle.platform.specs.declared.Stepped.{Stepped}
 use Rattle.platform.specs.declared.Stepped.the-variants.{Did, Done, Refused as Unstepped}
@@ -41,15 +43,11 @@ use Rattle.platform.specs.Calls.{step, ran, runState, run, writeFile, openRefus
 use Rattle.planner.specs.Answers.{stepLetter, stepTick, stepNode, stepOther, stepSize, runEvents, runSpent, writeSize}
 use Rattle.demands.specs.Demands.{place, firstBroken, TurnsDown, fileNumber, openPlaces, overfullBy, overfull, stepPlaces, stopped}
 use Rattle.demands.specs.Demands.{runPlaces, eventsDone, KeepsEarlier, writePlaces}
-use Rattle.demands.specs.Nodes.{Call as NodeCall, deliver, timers, leaves}
+use Rattle.demands.specs.Nodes.{NodeCall, deliver, timers, leaves}
 use Rattle.demands.specs.Demands.{RecordCall, recordAfterAll, recordPlaces, deliverPlaces, timersPlaces}
 use Rattle.demands.specs.Demands.{letterUnknown, outside, linePlaces, lineRefusal, tablePlaces}
 
 -- ---- tests
-
-not-false : (b : Bool) → not b ≡ false → b ≡ true
-not-false true e = refl
-not-false false e = absurd (true≢false e)
 
 -- a < b is that b ≤ a does not hold
 below : (a b : ℕ) → ltb a b ≡ not (leb b a)
@@ -74,7 +72,7 @@ isRefused (did e s') = false
 isRefused ended = false
 isRefused refused = true
 
-unfoldable isOverfull : Answer → Bool
+unfoldable isOverfull : Ending → Bool
 isOverfull spent = false
 isOverfull finished = false
 isOverfull overfullRun = true
@@ -130,13 +128,13 @@ module _ (p : Plan) where
   outcome-left s ended store log h = absurd (h refl)
   outcome-left s refused store log h = (refl, refl)
 
-ran-down : (a : Answer) (n : ℕ) → runRefusal (ran a n) ≡ cond (isOverfull a) 8 0
+ran-down : (a : Ending) (n : ℕ) → runRefusal (ran a n) ≡ cond (isOverfull a) 8 0
 unfolding runRefusal ran isOverfull
 ran-down spent n = refl
 ran-down finished n = refl
 ran-down overfullRun n = refl
 
-ran-done : (a : Answer) (n : ℕ) → eventsDone (ran a n) ≡ n
+ran-done : (a : Ending) (n : ℕ) → eventsDone (ran a n) ≡ n
 unfolding eventsDone ran
 ran-done spent n = refl
 ran-done finished n = refl
@@ -155,11 +153,12 @@ open-down file store = go (fileOf file) refl
     tested : (p : Plan) (same : Bool) → AfterOpen
     tested p same = cond same (record { answer = Ready; store = encode p (start p) }) (record { answer = Unopened 7 0; store = store })
 
-    by : (p : Plan) (same : Bool) → TurnsDown (openRefusal (tested p same .answer)) (place false 0 ∷ place (not same) 7 ∷ []) (tested p same .store ≡ store)
+    by : (p : Plan) (same : Bool)
+        → TurnsDown (openRefusal (tested p same .answer)) (place false 0 ∷ place (not same) 7 ∷ []) (tested p same .store ≡ store)
     by p true = record { first = refl; untouched = λ h. absurd (h refl) }
     by p false = record { first = refl; untouched = λ h. refl }
 
-    go : (a : FileAnswer) → fileOf file ≡ a
+    go : (a : Answer) → fileOf file ≡ a
         → TurnsDown (openRefusal (fileAnswer a store .answer))
         (place (not (eqb (fileNumber a) 0)) (fileNumber a) ∷ place (not (eqb (length store) storeSize)) 7 ∷ [])
         (fileAnswer a store .store ≡ store)
@@ -251,7 +250,8 @@ step-numbers (Did line size) was h = absurd (h refl)
 step-numbers (Done line size) was h = absurd (h refl)
 step-numbers (Unstepped number) was h = (refl, refl, refl, refl, refl)
 
-pub run-numbers : (a : Ran) (was : ℕ) → runRefusal a ≢ 0 → (runSpent a was ≡ was) × (runEvents a was ≡ cond (eqb (runRefusal a) 8) (eventsDone a) was)
+pub run-numbers : (a : Ran) (was : ℕ) → runRefusal a ≢ 0
+    → (runSpent a was ≡ was) × (runEvents a was ≡ cond (eqb (runRefusal a) 8) (eventsDone a) was)
 unfolding runRefusal runSpent runEvents eventsDone
 run-numbers (Finished n) was h = absurd (h refl)
 run-numbers (Spent n) was h = absurd (h refl)

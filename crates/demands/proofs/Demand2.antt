@@ -3,44 +3,44 @@
 use mathlib.Core.Path.{_≡_, refl, sym, ap, _∙_, subst}
 use mathlib.Core.Bool.{Bool, true, false}
 use mathlib.Core.List.{List, [], _∷_, _++_, append-nil}
-use Prim.Native.Nat.{ℕ, zero, suc, _^_, _≤_, _<_}
+use Prim.Native.Nat.{ℕ, suc, _^_, _≤_, _<_}
 use native.Mathlib.Nat.{pow-le-pow-right}
 use native.Mathlib.Omega.{arith}
 use native.Mathlib.Decide.{decLt}
-use lib.Dec.{lit≤, lit<}
+use lib.Dec.{lit<}
 use borrow.Author.Tests.{le-ltb}
-use lib.ListN.{length, getD, take, length-take, List·getD-eq-default}
-use lib.Seq.{getD-take}
-use lib.Pow.{pow-pos}
-use Rattle.ring.specs.Limits.{lineRoom}
-use Rattle.ring.specs.Ring.{listing}
-use Rattle.ring.proofs.Lists.{listing-lt}
+use lib.ListN.{length, getD, List·getD-eq-default}
+use Rattle.limits.specs.Limits.{lineRoom, storeSize, fileRoom}
 use Rattle.text.specs.Put.{put}
 use Rattle.logline.specs.declared.Line.{Line}
 use Rattle.logline.specs.declared.Read.the-variants.{Accepted as Read}
 use Rattle.logline.specs.Line.{lineText, readOf}
-use Rattle.logline.proofs.LineTrip.{text-accepted, written-line}
-use Rattle.runfile.specs.Plan.{Crash, Plan}
+use Rattle.logline.proofs.LineTrip.{text-accepted}
+use Rattle.plans.specs.Plan.{Crash, Plan}
 use Rattle.runfile.specs.File.{accepted, fileOf}
-use Rattle.runfile.proofs.RoundTrip.{written-back, accepted-plan, accepted-order}
+use Rattle.runfile.proofs.RoundTrip.{written-back, accepted-plan}
 use Rattle.node.specs.Node.{alone}
-use Rattle.model.specs.Platform.{State, Event, Entry, crash, message, watch, heartbeat, Outcome, did, ended, refused, alive, withCrashed, crashedList, nodeOf}
-use Rattle.model.specs.Platform.{messageAt, try, left, steps, after, eventCount, runAnswer}
-use Rattle.model.specs.Lines.{messageLine, lineOf, eventLines, lastLine, linesFrom}
-use Rattle.model.specs.Range.{noCrash, Plain, Sound}
+use Rattle.model.specs.Platform.{State, Event, Entry, crash, message, watch, heartbeat, Outcome, did, ended, refused, alive, nodeOf, messageAt, try, left}
+use Rattle.model.specs.Platform.{steps, after}
+use Rattle.model.specs.Lines.{lineOf, eventLines, lastLine, linesFrom, messageDeed, deedOf, deedLines, linesText}
+use Rattle.plans.proofs.Facts.{plan-plain}
+use Rattle.model.proofs.Plans.{plan-accepted}
+use Rattle.plans.specs.Plain.{noCrash, Plain}
+use Rattle.model.specs.Range.{Sound}
 use Rattle.model.proofs.RangesKept.{try-ok, left-range, after-range}
-use Rattle.store.specs.Store.{storeSize, encode, planIn, stateIn, storeInRange}
+use Rattle.store.specs.Store.{encode, planIn, stateIn, storeInRange}
+use Rattle.model.proofs.SettledNode.{crashed-lt}
+use Rattle.model.proofs.Lines.{did-in-ranges, last-in-ranges}
 use Rattle.platform.specs.declared.Wrote.the-variants.{Bytes}
 use Rattle.platform.specs.declared.Stepped.the-variants.{Did, Done}
 use Rattle.platform.specs.declared.Ran.the-variants.{Done as Finished, Spent}
 use Rattle.planner.specs.Answers.{stepLetter, stepTick, stepNode, stepOther, stepSize, runEvents, runSpent, writeSize}
-use Rattle.platform.specs.Calls.{AfterStep, AfterRun, fileRoom, linesText, stepOutcome, step, ran, runState, run, writeFile}
+use Rattle.platform.specs.Calls.{AfterStep, AfterRun, stepOutcome, step, runState, writeFile}
 use Rattle.platform.specs.CallLists.{Call, eventsOf}
-use Rattle.platform.proofs.Stores.{lends, Holds, plain-of, plan-of, state-of, in-range, step-in, run-in, write-in, outcome-store}
+use Rattle.platform.proofs.Stores.{lends, Holds, plan-of, state-of, in-range, step-in, run-in, write-in, outcome-store}
 use Rattle.platform.proofs.CallLists.{after-small, after-holds}
-use Rattle.platform.proofs.Lines.{TakesOf, last-takes, outcome-takes}
 use Rattle.demands.specs.Demands.{storeOf, stepAnswer, NextEvents, StepPuts}
-use Rattle.demands.proofs.Demand3.{good, order, called}
+use Rattle.demands.proofs.Demand3.{good, called}
 
 -- an outcome's log is what one try writes
 outcome-log : (p : Plan) (s : State) (o : Outcome) (store log : List ℕ) → stepOutcome p s o store log .log
@@ -51,14 +51,15 @@ outcome-log p s ended store log = ap (put log 0) (sym (append-nil (lineText (las
 outcome-log p s refused store log = refl
 
 outcome-answer : (p : Plan) (s : State) (o : Outcome) (store log : List ℕ) → stepOutcome p s o store log .answer ≡ stepAnswer p s o
-unfolding stepOutcome stepAnswer linesText eventLines
+unfolding stepOutcome stepAnswer linesText deedLines
 outcome-answer p s (did e s') store log =
     let l : Line = lineOf p s s' (e .tick) (e .event) in
     ap (λ (t : List ℕ). Did l (length t)) (append-nil (lineText l))
 outcome-answer p s ended store log = refl
 outcome-answer p s refused store log = refl
 
-module _ (b : List ℕ) (p : Plan) (s : State) (held : b ≡ encode p s) (inside : storeInRange b ≡ true) (plan : planIn b ≡ p) (state : stateIn b ≡ s) where
+module _ (b : List ℕ) (p : Plan) (s : State) (held : b ≡ encode p s) (inside : storeInRange b ≡ true) (plan : planIn b ≡ p)
+    (state : stateIn b ≡ s) where
   stepped : (log : List ℕ) → lineRoom ≤ length log → step b log ≡ stepOutcome p s (try p s) b log
   stepped log room = step-in b p s inside plan state log ∙ rw (le-ltb (length log) lineRoom room) refl
 
@@ -75,7 +76,8 @@ module _ (b : List ℕ) (p : Plan) (s : State) (held : b ≡ encode p s) (inside
     runAnswers = λ budget. ap (λ (a : AfterRun). a .answer) (run-in b p s inside plan state budget);
   }
 
-pub lent-events : (store : List ℕ) → ((i : ℕ) → getD store i 0 < 256) → storeInRange store ≡ true → NextEvents (planIn store) (stateIn store) store
+pub lent-events : (store : List ℕ) → ((i : ℕ) → getD store i 0 < 256) → storeInRange store ≡ true
+    → NextEvents (planIn store) (stateIn store) store
 lent-events store byte ok = next-of store (planIn store) (stateIn store) ((lends store byte ok) .held .canonical) ok refl refl
 
 module _ (file store : List ℕ) (p : Plan) (ok : fileOf file ≡ accepted p) (size : length store ≡ storeSize) (cs : List Call) where
@@ -89,10 +91,10 @@ module _ (file store : List ℕ) (p : Plan) (ok : fileOf file ≡ accepted p) (s
   held = called file store p ok size cs
 
   holds : Holds p s
-  holds = after-holds p (good file store p ok size) (order file store p ok size) (eventsOf p cs)
+  holds = after-holds p (good file store p ok size) (eventsOf p cs)
 
   inside : storeInRange b ≡ true
-  inside = ap storeInRange held ∙ in-range p s holds (after-small p (good file store p ok size) (order file store p ok size) (eventsOf p cs))
+  inside = ap storeInRange held ∙ in-range p s holds (after-small p (good file store p ok size) (eventsOf p cs))
 
   plan : planIn b ≡ p
   plan = ap planIn held ∙ plan-of p s holds
@@ -119,11 +121,11 @@ list-small p pl s r x = go (decLt x (p .n))
     go (no h) = rw (List·getD-eq-default (s .nodes) (alone x 0) {n = x} (rw (r .nodes) (omega arith))) (lit< tt)
 
 line-list : (p : Plan) → Plain p → (s s' : State) → Sound p s' → (t : ℕ) (e : Event) → (lineOf p s s' t e) .list < 2 ^ 64
-unfolding lineOf messageLine
+unfolding deedOf messageDeed
 line-list p pl s s' r t (crash k) = list-small p pl s' r k
 line-list p pl s s' r t (message i) = go (alive p (s .done) ((messageAt s i) .to))
   where
-    go : (live : Bool) → (messageLine t (messageAt s i) live ((nodeOf s' ((messageAt s i) .to)) .list)) .list < 2 ^ 64
+    go : (live : Bool) → (messageDeed t (messageAt s i) live ((nodeOf s' ((messageAt s i) .to)) .list)) .list < 2 ^ 64
     go true = list-small p pl s' r ((messageAt s i) .to)
     go false = list-small p pl s' r ((messageAt s i) .to)
 line-list p pl s s' r t (watch x) = list-small p pl s' r x
@@ -131,41 +133,26 @@ line-list p pl s s' r t (heartbeat x) = list-small p pl s' r x
 
 pub line-read : (file : List ℕ) (p : Plan) → fileOf file ≡ accepted p → (k : ℕ) (e : Entry) (s' : State) → try p (after p k) ≡ did e s'
     → let l : Line = lineOf p (after p k) s' (e .tick) (e .event) in readOf (lineText l) ≡ Read l
-unfolding TakesOf left
+unfolding left
 line-read file p ok k e s' h =
-    let pl : Plain p = plain-of p (accepted-order file p ok) (accepted-plan file p ok) in
+    let pl : Plain p = plan-plain p (accepted-plan file p ok) in
     let s : State = after p k in
     let r : Sound p s = after-range p pl k in
     let r' : Sound p s' = subst (λ (o : Outcome). Sound p (left s o)) h (left-range p pl s r (try p s) (try-ok p pl s r)) in
-    let takes : TakesOf p s (did e s') = subst (TakesOf p s) h (outcome-takes p pl s r) in
     let l : Line = lineOf p s s' (e .tick) (e .event) in
-    text-accepted l ((written-line l 40 (length (lineText l)) (takes .written 40 (lit≤ tt))) .0) (line-list p pl s s' r' (e .tick) (e .event))
+    text-accepted l (did-in-ranges p pl s r e s' h) (line-list p pl s s' r' (e .tick) (e .event))
 
 -- ---- and so is the last line
 
-with-small : (n : ℕ) (rows : List Crash) (d : ℕ) → d < 2 ^ n → ((i : ℕ) → i < length rows → (getD rows i noCrash) .node < n) → withCrashed d rows < 2 ^ n
-unfolding withCrashed
-with-small n [] d h f = h
-with-small n (r ∷ rs) d h f = with-small n rs (listing d (r .node)) (listing-lt n d (r .node) h (f 0 (omega arith))) (λ i l. f (suc i) (omega arith))
-
-crashed-small : (p : Plan) → Plain p → (done : ℕ) → crashedList p done < 2 ^ p .n
-unfolding crashedList
-crashed-small p pl done = with-small (p .n) (take done (p .crashes)) 0 (pow-pos (p .n)) row
-  where
-    row : (i : ℕ) → i < length (take done (p .crashes)) → (getD (take done (p .crashes)) i noCrash) .node < p .n
-    row i h =
-        let few : i < done = omega (arith, h, length-take done (p .crashes)) in
-        rw (getD-take done (p .crashes) i noCrash few) (pl .node i (omega (arith, h, length-take done (p .crashes))))
-
-pub last-read : (file : List ℕ) (p : Plan) → fileOf file ≡ accepted p → (k : ℕ) → let l : Line = lastLine p (after p k) in readOf (lineText l) ≡ Read l
+pub last-read : (file : List ℕ) (p : Plan) → fileOf file ≡ accepted p → (k : ℕ)
+    → let l : Line = lastLine p (after p k) in readOf (lineText l) ≡ Read l
 unfolding lastLine
 last-read file p ok k =
-    let pl : Plain p = plain-of p (accepted-order file p ok) (accepted-plan file p ok) in
+    let pl : Plain p = plan-plain p (accepted-plan file p ok) in
     let s : State = after p k in
     let l : Line = lastLine p s in
-    let takes = last-takes p pl s (after-range p pl k) in
-    text-accepted l ((written-line l 40 (length (lineText l)) (takes .written 40 (lit≤ tt))) .0)
-    (omega (arith, crashed-small p pl (s .done), pow-le-pow-right {n = 2} (lit< tt) (pl .n≤)))
+    let small = crashed-lt p (plan-accepted p (accepted-plan file p ok)) (s .done) in
+    text-accepted l (last-in-ranges p pl s (after-range p pl k)) (omega (arith, small, pow-le-pow-right {n = 2} (lit< tt) (pl .n≤)))
 
 -- ---- what stands behind the pointers of accepted calls from C
 

@@ -6,41 +6,35 @@ use mathlib.Core.List.{List, List·Memᴰ}
 use mathlib.Core.Option.{Option, none, some}
 use Prim.Native.Nat.{ℕ, zero, suc, _≤_, _<_}
 use native.Mathlib.Omega.{arith}
-use native.Mathlib.Decide.{ℕ-discrete}
 use lib.ListN.{length}
-use Rattle.ring.specs.Limits.{mostTick}
-use Rattle.ring.specs.Ring.{numbers}
+use Rattle.limits.specs.Limits.{mostTick, recordSize, partSize}
 use Rattle.node.specs.declared.Node.{Node}
 use Rattle.node.specs.Node.{R, opening}
-use Rattle.host.specs.Record.{recordSize, encode, decode, apart, sound}
-use Rattle.host.specs.Call.{accepted as taken, partSize, openAnswer, openedRecord, openLeaves}
-use Rattle.host.proofs.Facts.{Openable, InRange, apart-other, apart-off}
+use Rattle.host.specs.Record.{encode, decode, sound}
+use Rattle.limits.specs.Refusals.{accepted as taken}
+use Rattle.host.specs.Call.{openAnswer, openedRecord, openLeaves}
+use Rattle.host.proofs.Facts.{Openable, InRange}
+use Rattle.node.proofs.Ranges.{later-range}
 use Rattle.host.proofs.Codec.{decode-encode, encode-sound}
 use Rattle.host.proofs.Turns.{opening-in-range}
 use Rattle.host.proofs.Accepted.{open-accepted}
-use Rattle.runfile.specs.Plan.{Plan, planTest}
+use Rattle.plans.specs.Plan.{Plan, planTest}
 use Rattle.runfile.specs.File.{accepted, fileOf}
-use Rattle.runfile.proofs.RoundTrip.{accepted-plan, accepted-order}
+use Rattle.runfile.proofs.RoundTrip.{accepted-plan}
 use Rattle.model.specs.Platform.{InFlight, State, Entry, Outcome, did, ended, refused, alive, start, nodeOf, try, left, steps, after}
-use Rattle.model.specs.Range.{Plain, Accepted, NodeRange, LiveRange, Sound}
+use Rattle.plans.specs.Plain.{Plain}
+use Rattle.model.specs.Range.{Accepted, Sound}
 use Rattle.model.proofs.RangesKept.{start-node, after-range}
 use Rattle.model.proofs.Reached.{after-inv}
-use Rattle.model.proofs.Plans as plans
+use Rattle.model.proofs.Plans.{plan-accepted}
+use Rattle.plans.proofs.Tests.{ranges, in-number-order}
 use Rattle.model.proofs.Happened.{Happened, did-happened, after-suc}
-use Rattle.demands.specs.Nodes.{recordOf, Call, callTo, SameEvent, lent, followed, recordAfter, tickOr, ticked, lastTick, Follows, SameAsNodes}
+use Rattle.demands.specs.Nodes.{recordOf, NodeCall, callTo, SameEvent, lent, followed, recordAfter, tickOr, ticked, lastTick, Follows, SameAsNodes}
 use Rattle.demands.proofs.OneEvent.{called-live, last-now, leaves-others, event-same}
 
--- a timer that is on is about another node
-on-apart : (timer other number : ℕ) → ((timer ≡ 0 → ⊥) → other ≡ number → ⊥) → apart timer other number ≡ true
-on-apart timer other number h = go (ℕ-discrete timer 0)
-  where
-    go : Dec (timer ≡ 0) → apart timer other number ≡ true
-    go (yes z) = rw z (apart-off other number)
-    go (no z) = apart-other timer other number (h z)
-
-module _ (p : Plan) (good : planTest p ≡ true) (order : p .order ≡ numbers 0 (p .n)) where
+module _ (p : Plan) (good : planTest p ≡ true) where
   abbrev ac : Accepted p
-  ac = plans.accepted p order good
+  ac = plan-accepted p good
 
   abbrev pl : Plain p
   pl = ac .plain
@@ -63,34 +57,26 @@ module _ (p : Plan) (good : planTest p ≡ true) (order : p .order ≡ numbers 0
 
   openable : (x : ℕ) → x < p .n → Openable x (p .n) (p .h) (p .w)
   openable x h =
-      let most = plans.plan-most p good in
-      record { some = pl .n≥; most = pl .n≤; below = h; h-some = pl .h≥; h-most = most .0; w-some = pl .w≥; w-most = most .1 }
+      let r = ranges p good in
+      record { some = pl .n≥; most = pl .n≤; below = h; h-some = pl .h≥; h-most = r .h-high; w-some = pl .w≥; w-most = r .w-high }
 
   -- a live node's record, with the last event's tick or a later one
-  live-in-range : (s : State) → Sound p s → (x : ℕ) → x < p .n → alive p (s .done) x ≡ true → (last : ℕ) → s .last ≤ last → last ≤ mostTick
+  live-in-range : (s : State) → Sound p s → (x : ℕ) → x < p .n → alive p (s .done) x ≡ true → (last : ℕ) → s .last ≤ last
+      → last ≤ mostTick
       → InRange (recordOf p x last (nodeOf s x))
   unfolding recordOf
-  live-in-range s r x xN a last from to =
-      let f : NodeRange (p .n) (p .h) (p .w) (s .last) (nodeOf s x) = r .fields x xN in
-      let l : LiveRange x (nodeOf s x) = r .live x a in
-      record {
-        openable = openable x xN;
-        last = to;
-        emitter = f .emitter;
-        observer = f .observer;
-        list = f .list;
-        unlisted = l .lists;
-        watch = omega (arith, f .watch);
-        heartbeat = omega (arith, f .heartbeat);
-        observes = on-apart _ _ x (l .observes);
-        sends = on-apart _ _ x (l .sends);
-      }
+  live-in-range s r x xN a last from to = record {
+    openable = openable x xN;
+    last = to;
+    fields = later-range (p .n) (p .h) (p .w) (s .last) last (nodeOf s x) from (r .fields x xN);
+    live = r .live x a;
+  }
 
   -- ---- opening
 
   opened-fields : (x : ℕ) → x < p .n → openedRecord x (p .n) (p .h) (p .w) ≡ recordOf p x 0 (nodeOf (start p) x)
   unfolding openedRecord recordOf
-  opened-fields x h = ap (recordOf p x 0) (sym (start-node p pl x h ∙ ap (λ (o : List ℕ). opening o (p .h) (p .w) x) order))
+  opened-fields x h = ap (recordOf p x 0) (sym (start-node p pl x h ∙ ap (λ (o : List ℕ). opening o (p .h) (p .w) x) (in-number-order p good)))
 
   opens : (x : ℕ) → x < p .n → (bytes : List ℕ) → length bytes ≡ recordSize
       → (openAnswer bytes x (p .n) (p .h) (p .w) ≡ taken) × (openLeaves bytes x (p .n) (p .h) (p .w) ≡ encode (recordOf p x 0 (nodeOf (start p) x)))
@@ -98,31 +84,31 @@ module _ (p : Plan) (good : planTest p ≡ true) (order : p .order ≡ numbers 0
 
   -- ---- one event
 
-  same-at : (k : ℕ) (e : Entry) (s' : State) → try p (after p k) ≡ did e s' → (x : ℕ) (c : Call) → callTo p (after p k) x (e .event) ≡ some c
+  same-at : (k : ℕ) (e : Entry) (s' : State) → try p (after p k) ≡ did e s' → (x : ℕ) (c : NodeCall) → callTo p (after p k) x (e .event) ≡ some c
       → (last : ℕ) → last ≤ e .tick → (b : List ℕ) → sound b ≡ true → decode b ≡ recordOf p x last (nodeOf (after p k) x)
       → (part : List ℕ) → partSize ≤ length part → SameEvent p (after p k) e s' x c b part
   same-at k e s' t x c q last l b ok d part long =
       let h = happened k e s' t in
       subst (λ (z : State). SameEvent p (after p k) e z x c b part) (sym (h .leads))
-      (event-same p pl order (after p k) (range k) (e .tick) (h .late) (h .end) last l b ok part long (reported k) (e .event) (h .chosen) (h .next) x c q d)
+      (event-same p good (after p k) (range k) (e .tick) (h .late) (h .end) last l b ok part long (reported k) (e .event) (h .chosen) (h .next) x c q d)
 
-  range-at : (k : ℕ) (e : Entry) (s' : State) → try p (after p k) ≡ did e s' → (x : ℕ) (c : Call) → callTo p (after p k) x (e .event) ≡ some c
+  range-at : (k : ℕ) (e : Entry) (s' : State) → try p (after p k) ≡ did e s' → (x : ℕ) (c : NodeCall) → callTo p (after p k) x (e .event) ≡ some c
       → (last : ℕ) → after p k .last ≤ last → last ≤ e .tick → InRange (recordOf p x last (nodeOf (after p k) x))
   range-at k e s' t x c q last from to =
       let h = happened k e s' t in
-      let a = called-live p pl order (after p k) (range k) (e .tick) (h .late) (h .end) (e .event) (h .chosen) x c q in
+      let a = called-live p good (after p k) (range k) (e .tick) (h .late) (h .end) (e .event) (h .chosen) x c q in
       live-in-range (after p k) (range k) x (a .0) (a .1) last from (omega (arith, h .end, pl .end≤))
 
   others-at : (k : ℕ) (e : Entry) (s' : State) → try p (after p k) ≡ did e s' → (x : ℕ) → callTo p (after p k) x (e .event) ≡ none
       → nodeOf s' x ≡ nodeOf (after p k) x
   others-at k e s' t x q =
       let h = happened k e s' t in
-      ap (λ (z : State). nodeOf z x) (h .leads) ∙ leaves-others p pl order (after p k) (range k) (e .tick) (h .late) (h .end) (e .event) (h .chosen) x q
+      ap (λ (z : State). nodeOf z x) (h .leads) ∙ leaves-others p good (after p k) (range k) (e .tick) (h .late) (h .end) (e .event) (h .chosen) x q
 
   last-at : (k : ℕ) (e : Entry) (s' : State) → try p (after p k) ≡ did e s' → s' .last ≡ e .tick
   last-at k e s' t =
       let h = happened k e s' t in
-      ap (λ (z : State). z .last) (h .leads) ∙ last-now p pl order (after p k) (range k) (e .tick) (h .late) (h .end) (e .event)
+      ap (λ (z : State). z .last) (h .leads) ∙ last-now p good (after p k) (range k) (e .tick) (h .late) (h .end) (e .event)
 
   -- ---- a whole run
 
@@ -136,8 +122,9 @@ module _ (p : Plan) (good : planTest p ≡ true) (order : p .order ≡ numbers 0
     keeps-sound : (last : ℕ) (s : State) (b : List ℕ) → Keeps x last s b → (sound b ≡ true) × (decode b ≡ recordOf p x last (nodeOf s x))
     keeps-sound last s b w = rw (w .bytes) (encode-sound _ (w .range), decode-encode _ (w .range))
 
-    keeps-call : (k last : ℕ) (b part : List ℕ) → partSize ≤ length part → Keeps x last (after p k) b → (e : Entry) (s' : State) → try p (after p k) ≡ did e s'
-        → (o : Option Call) → callTo p (after p k) x (e .event) ≡ o → Keeps x (tickOr o (e .tick) last) s' (lent o (e .tick) b part)
+    keeps-call : (k last : ℕ) (b part : List ℕ) → partSize ≤ length part → Keeps x last (after p k) b → (e : Entry) (s' : State)
+        → try p (after p k) ≡ did e s'
+        → (o : Option NodeCall) → callTo p (after p k) x (e .event) ≡ o → Keeps x (tickOr o (e .tick) last) s' (lent o (e .tick) b part)
     unfolding tickOr lent
     keeps-call k last b part long w e s' t none q =
         let h = happened k e s' t in
@@ -149,7 +136,7 @@ module _ (p : Plan) (good : planTest p ≡ true) (order : p .order ≡ numbers 0
         }
     keeps-call k last b part long w e s' t (some c) q =
         let h = happened k e s' t in
-        let a = called-live p pl order (after p k) (range k) (e .tick) (h .late) (h .end) (e .event) (h .chosen) x c q in
+        let a = called-live p good (after p k) (range k) (e .tick) (h .late) (h .end) (e .event) (h .chosen) x c q in
         let ok = keeps-sound last (after p k) b w in
         let now : s' .last ≡ e .tick = last-at k e s' t in
         let live : alive p (s' .done) x ≡ true = ap (λ (d : ℕ). alive p d x) (ap (λ (z : State). z .done) (h .leads) ∙ a .2) ∙ a .1 in
@@ -202,4 +189,4 @@ module _ (p : Plan) (good : planTest p ≡ true) (order : p .order ≡ numbers 0
 
 -- WHAT IS REHEARSED IS WHAT THE NODES DO
 pub rehearsed : (file : List ℕ) (p : Plan) → fileOf file ≡ accepted p → SameAsNodes p
-rehearsed file p ok = all-same p (accepted-plan file p ok) (accepted-order file p ok)
+rehearsed file p ok = all-same p (accepted-plan file p ok)

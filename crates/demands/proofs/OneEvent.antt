@@ -1,7 +1,7 @@
 -- One event of the platform is the call on the record of the node whose event it is. Assumes nothing.
 use mathlib.Core.Path.{_≡_, refl, sym, ap, _∙_, subst}
-use mathlib.Core.Logic.{inl, inr, _≢_}
-use mathlib.Core.Bool.{Bool, true, false, true≢false, cond, _&&_}
+use mathlib.Core.Logic.{_≢_}
+use mathlib.Core.Bool.{Bool, true, false, true≢false, cond, _&&_, and-eq-true-iff}
 use mathlib.Core.List.{List, List·Memᴰ}
 use mathlib.Core.Option.{none, some}
 use Prim.Native.Nat.{ℕ, suc, _≤_, _<_}
@@ -10,55 +10,50 @@ use native.Mathlib.Decide.{ℕ-discrete}
 use borrow.Author.Tests.{eq-eqb, eqb-true, eqb-false}
 use lib.Dec.{eqb}
 use lib.ListN.{length}
-use Rattle.ring.specs.Ring.{numbers}
-use Rattle.ring.specs.Limits.{mostTick}
+use Rattle.limits.specs.Limits.{mostTick, partSize}
 use Rattle.node.specs.declared.Node.{Node}
 use Rattle.node.specs.Node.{Turn, R}
 use Rattle.host.specs.declared.Record.{Record}
 use Rattle.host.specs.Record.{encode, decode, sound}
-use Rattle.host.specs.Call.{partSize, moved, delivered}
-use Rattle.host.proofs.Facts.{Kind, heartbeat as kindH, observer as kindO, report as kindR}
+use Rattle.host.specs.Call.{delivered, withTurn}
 use Rattle.host.proofs.Accepted.{Accepted, deliver-accepted, timers-accepted, fired-watch, fired-heartbeat}
-use Rattle.runfile.specs.Plan.{Plan}
+use Rattle.plans.specs.Plan.{Plan, planTest}
+use Rattle.model.proofs.Plans.{plan-accepted}
+use Rattle.plans.proofs.Tests.{in-number-order}
 use Rattle.model.specs.Platform.{InFlight, State, Event, crash, message, watch, heartbeat, alive, nextEvent, nodeOf, messageAt}
 use Rattle.model.specs.Platform.{taken, without, received, apply}
-use Rattle.model.specs.Range.{Plain, Known, FlightRange, Sound}
+use Rattle.plans.specs.Plain.{Plain}
+use Rattle.model.specs.Range.{FlightRange, Sound}
 use Rattle.model.proofs.NextEvent.{Chosen}
 use Rattle.model.proofs.RangesKept.{at-mem, in-n, here, other}
 use Rattle.model.proofs.Happened.{watch-first}
-use Rattle.demands.specs.Nodes.{recordOf, Call, deliver, timers, callTo, answers, leaves, sends, found, SameEvent}
-
-kind-of : (k : ℕ) → Known k → Kind k
-kind-of k (inl e) = rw e kindH
-kind-of k (inr (inl e)) = rw e kindO
-kind-of k (inr (inr e)) = rw e kindR
+use Rattle.demands.specs.Nodes.{recordOf, NodeCall, deliver, timers, callTo, answers, leaves, sends, found, SameEvent}
 
 -- a call that is to a node is one call
-one-call : (b : Bool) (c d : Call) → cond b (some c) none ≡ some d → (b ≡ true) × (c ≡ d)
+one-call : (b : Bool) (c d : NodeCall) → cond b (some c) none ≡ some d → (b ≡ true) × (c ≡ d)
 one-call true c d e = (refl, cc)
 one-call false c d e = let z : _≡_ {A = ℕ} 0 1 = cc in absurd (omega arith)
 
-no-call : (b : Bool) (c : Call) → cond b (some c) none ≡ none → b ≡ false
+no-call : (b : Bool) (c : NodeCall) → cond b (some c) none ≡ none → b ≡ false
 no-call true c e = let z : _≡_ {A = ℕ} 0 1 = cc in absurd (omega arith)
 no-call false c e = refl
 
-both : (a b : Bool) → (a && b) ≡ true → (a ≡ true) × (b ≡ true)
-both true b e = (refl, e)
-both false b e = absurd (true≢false (sym e))
-
 -- a state in range, and the tick of an event
-module _ (p : Plan) (pl : Plain p) (order : p .order ≡ numbers 0 (p .n)) (s : State) (r : Sound p s) (t : ℕ) (late : s .last ≤ t)
+module _ (p : Plan) (good : planTest p ≡ true) (s : State) (r : Sound p s) (t : ℕ) (late : s .last ≤ t)
     (end : t ≤ p .end) where
+  abbrev pl : Plain p
+  pl = plan-accepted p good .plain
+
   -- ---- whose call it is
 
   -- an event that is a call to x: x is live, and stays so
-  pub called-live : (ev : Event) → Chosen p pl s t ev → (x : ℕ) (c : Call) → callTo p s x ev ≡ some c
+  pub called-live : (ev : Event) → Chosen p pl s t ev → (x : ℕ) (c : NodeCall) → callTo p s x ev ≡ some c
       → (x < p .n) × (alive p (s .done) x ≡ true) × ((apply p s t ev) .done ≡ s .done)
   unfolding callTo Chosen apply taken
   called-live (crash k) ch x c q = let z : _≡_ {A = ℕ} 0 1 = cc in absurd (omega arith)
   called-live (message i) ch x c q =
       let o = one-call _ _ c q in
-      let a = both (eqb ((messageAt s i) .to) x) _ (o .0) in
+      let a = and-eq-true-iff (eqb ((messageAt s i) .to) x) _ .0 (o .0) in
       (rw (← eqb-true ((messageAt s i) .to) x (a .0)) ((r .flying (messageAt s i) (at-mem (s .flight) i (ch .0))) .to), a .1, refl)
   called-live (watch y) ch x c q = let e : y ≡ x = eqb-true y x ((one-call _ _ c q) .0) in rw (← e) (in-n p pl s r y (ch .0), ch .1, refl)
   called-live (heartbeat y) ch x c q = let e : y ≡ x = eqb-true y x ((one-call _ _ c q) .0) in rw (← e) (in-n p pl s r y (ch .0), ch .1, refl)
@@ -94,10 +89,10 @@ module _ (p : Plan) (pl : Plain p) (order : p .order ≡ numbers 0 (p .n)) (s : 
   ends : t ≤ mostTick
   ends = omega (arith, pl .end≤)
 
-  same : (x : ℕ) → x < p .n → (last : ℕ) (ev : Event) (u : Turn) (c : Call) (b part : List ℕ)
+  same : (x : ℕ) → x < p .n → (last : ℕ) (ev : Event) (u : Turn) (c : NodeCall) (b part : List ℕ)
       → Accepted (recordOf p x last (nodeOf s x)) t u part (answers c t b part) (leaves c t b part) (sends c t b part)
       → SameEvent p s (record { tick = t; event = ev }) (taken p s t x (found s ev) u) x c b part
-  unfolding recordOf moved taken
+  unfolding recordOf withTurn taken
   same x xN last ev u c b part a = record {
     accepts = a .answers;
     holds = a .leaves ∙ ap (λ (n : Node). encode (recordOf p x t n)) (sym (here p pl s r t late end x xN (found s ev) u));
@@ -108,7 +103,7 @@ module _ (p : Plan) (pl : Plain p) (order : p .order ≡ numbers 0 (p .n)) (s : 
   }
 
   module _ (last : ℕ) (l : last ≤ t) (b : List ℕ) (ok : sound b ≡ true) (part : List ℕ) (long : partSize ≤ length part) where
-    abbrev delivery : ℕ → Call
+    abbrev delivery : ℕ → NodeCall
     delivery i = deliver ((messageAt s i) .kind) ((messageAt s i) .from) ((messageAt s i) .subject)
 
     message-same : (i : ℕ) → Chosen p pl s t (message i)
@@ -123,11 +118,11 @@ module _ (p : Plan) (pl : Plain p) (order : p .order ≡ numbers 0 (p .n)) (s : 
         let k : Record = recordOf p (m .to) last (nodeOf s (m .to)) in
         let about : m .kind ≡ R → (m .subject < p .n) × (m .subject ≡ m .to → ⊥) =
         λ q. (f .subject, λ e. true≢false (sym a ∙ ap (alive p (s .done)) (sym e) ∙ reported m has q)) in
-        let u : delivered k t (m .kind) (m .from) (m .subject) ≡ received p s t m = rw (a, order) in
-        subst (λ (v : Turn). SameEvent p s (record { tick = t; event = message i }) (taken p s t (m .to) (without i (s .flight)) v) (m .to) (delivery i) b part)
+        let u : delivered k t (m .kind) (m .from) (m .subject) ≡ received p s t m = rw (a, in-number-order p good) in
+        let after : Turn → State = taken p s t (m .to) (without i (s .flight)) in
+        subst (λ (v : Turn). SameEvent p s (record { tick = t; event = message i }) (after v) (m .to) (delivery i) b part)
         u (same (m .to) (f .to) last (message i) (delivered k t (m .kind) (m .from) (m .subject)) (delivery i) b part
-        (deliver-accepted b k ok d t l ends part long (m .kind) (m .from) (m .subject) (kind-of (m .kind) (f .kind)) (f .from) (f .apart)
-        about (f .to)))
+        (deliver-accepted b k ok d t l ends part long (m .kind) (m .from) (m .subject) (f .kind) (f .from) (f .apart) about))
 
     watch-same : (x : ℕ) → Chosen p pl s t (watch x) → decode b ≡ recordOf p x last (nodeOf s x)
         → SameEvent p s (record { tick = t; event = watch x }) (apply p s t (watch x)) x timers b part
@@ -135,7 +130,7 @@ module _ (p : Plan) (pl : Plain p) (order : p .order ≡ numbers 0 (p .n)) (s : 
     watch-same x ch d =
         let k : Record = recordOf p x last (nodeOf s x) in
         subst (λ (v : Turn). SameEvent p s (record { tick = t; event = watch x }) (taken p s t x (s .flight) v) x timers b part)
-        (fired-watch k t (ch .2) ∙ rw order)
+        (fired-watch k t (ch .2) ∙ rw (in-number-order p good))
         (same x (in-n p pl s r x (ch .0)) last (watch x) _ timers b part (timers-accepted b k ok d t l ends part long))
 
     heartbeat-same : (x : ℕ) → Chosen p pl s t (heartbeat x) → nextEvent p s ≡ some (record { tick = t; event = heartbeat x })
@@ -153,13 +148,13 @@ module _ (p : Plan) (pl : Plain p) (order : p .order ≡ numbers 0 (p .n)) (s : 
     -- any event, to any node
     pub event-same : ((m : InFlight) → List·Memᴰ m (s .flight) → m .kind ≡ R → alive p (s .done) (m .subject) ≡ false)
         → (ev : Event) → Chosen p pl s t ev → nextEvent p s ≡ some (record { tick = t; event = ev })
-        → (x : ℕ) (c : Call) → callTo p s x ev ≡ some c → decode b ≡ recordOf p x last (nodeOf s x)
+        → (x : ℕ) (c : NodeCall) → callTo p s x ev ≡ some c → decode b ≡ recordOf p x last (nodeOf s x)
         → SameEvent p s (record { tick = t; event = ev }) (apply p s t ev) x c b part
     unfolding callTo
     event-same reported (crash k) ch n x c q d = let z : _≡_ {A = ℕ} 0 1 = cc in absurd (omega arith)
     event-same reported (message i) ch n x c q d =
         let o = one-call _ (delivery i) c q in
-        let a = both (eqb ((messageAt s i) .to) x) _ (o .0) in
+        let a = and-eq-true-iff (eqb ((messageAt s i) .to) x) _ .0 (o .0) in
         let e : (messageAt s i) .to ≡ x = eqb-true ((messageAt s i) .to) x (a .0) in
         rw (← o .1, ← e) (message-same i ch reported (rw e (a .1)) (rw e d))
     event-same reported (watch y) ch n x c q d =

@@ -1,5 +1,5 @@
 -- THE THEOREMS: the customer's three demands. The statements stand in specs/Demands.antt. Assumes nothing.
-use Rattle.runfile.proofs.RoundTrip.{written-back, accepted-plan, accepted-order, read-back}
+use Rattle.runfile.proofs.RoundTrip.{written-back, accepted-plan, read-back}
 use Rattle.runfile.proofs.Refusals.{refusal-small}
 use Rattle.logline.proofs.LineTrip.{refused-number, written-of-read, read-of-written}
 use Rattle.logline.proofs.ColumnTrip.{five-columns}
@@ -19,7 +19,7 @@ demand1 = record {
   fileTaken = read-back;
   fileLength = file-length;
   fileNumber = refusal-small;
-  fileOnly = λ file p ok. (written-back file p ok, accepted-plan file p ok, accepted-order file p ok);
+  fileOnly = λ file p ok. (written-back file p ok, accepted-plan file p ok);
   opening = open-down;
   stepping = step-down;
   running = run-down;

@@ -10,12 +10,15 @@ use lib.ListN.{length, replicate}
 use Rattle.fields.specs.Fields.{bytes, value, fieldAt, zeros}
 use Rattle.ring.specs.Ring.{keep, numbers, listed, listing, unlisted, round, place, ahead, back, next, count, powers, jumps, targets}
 use Rattle.node.specs.declared.Node.{Node}
-use Rattle.node.specs.Node.{reports, opening, onHeartbeat, onObserver, onReport, onHeartbeatDue, onWatchDue, onMessage}
-use Rattle.host.specs.Record.{numbersBytes, neighboursBytes, ticksBytes, encode, decode, openable, recordSize}
-use Rattle.host.specs.Record.{neighboursInRange, apart, timersInRange, inRange, sound}
-use Rattle.host.specs.Call.{badRecord, accepted as taken, partSize, answer, tickTaken, timersAnswer}
-use Rattle.runfile.specs.Plan.{Plan, planText, within, startRanges, longEnough, rising, hits, noneTwice, crashOrder, delayOrder}
-use Rattle.runfile.specs.Plan.{fewDelays, every, startTest, crashTest, delayTest, planTest}
+use Rattle.node.specs.Node.{reports, opening, onHeartbeat, onObserver, onReport, onHeartbeatDue, onMessage, leaving}
+use Rattle.node.specs.Range.{nodeTest, apart, liveTest}
+use Rattle.host.specs.Record.{numbersBytes, neighboursBytes, ticksBytes, encode, decode, openable, inRange, sound}
+use Rattle.limits.specs.Limits.{recordSize, partSize}
+use Rattle.limits.specs.Refusals.{badRecord, accepted as taken}
+use Rattle.host.specs.Call.{answer, tickTaken, timersAnswer}
+use Rattle.plans.specs.Plan.{Plan, within, startRanges, longEnough, rising, hits, noneTwice, crashOrder, delayOrder, fewDelays, every, startTest, crashTest}
+use Rattle.plans.specs.Plan.{delayTest, planTest, sameNumbers, orderTest}
+use Rattle.runfile.specs.Text.{planText}
 use Rattle.runfile.specs.File.{accepted, fileOf}
 use Rattle.runfile.proofs.RoundTrip.{read-back}
 use Rattle.model.specs.Platform.{heartbeat, alive, start, crashEntries, messageEntries, timerEntry, timerEntries, pending, earlier, first}
@@ -28,8 +31,9 @@ unfoldable pub two : Plan
 two = record { n = 2; h = 1; w = 2; d = 1; end = 20; order = numbers 0 2; crashes = []; delays = [] }
 
 pub is-accepted : fileOf (planText two) ≡ accepted two
-unfolding two planTest startTest startRanges within longEnough crashTest every crashOrder rising noneTwice delayTest delayOrder fewDelays
-is-accepted = read-back two refl refl
+unfolding two planTest startTest startRanges within longEnough orderTest sameNumbers numbers crashTest every crashOrder rising noneTwice
+    delayTest delayOrder fewDelays
+is-accepted = read-back two refl
 
 -- node 0 after eight events
 unfoldable pub node : Node
@@ -39,14 +43,14 @@ pub ninth : (nodeOf (after two 8) 0 ≡ node)
     × (nextEvent two (after two 8) ≡ some (record { tick = 3; event = heartbeat 0 }))
     × (lastTick two 0 8 ≡ 3)
 unfolding two node keep numbers listed listing unlisted round place ahead back next count powers jumps targets reports opening
-    onHeartbeat onObserver onReport onHeartbeatDue onWatchDue onMessage hits alive start crashEntries messageEntries timerEntry
+    onHeartbeat onObserver onReport onHeartbeatDue leaving onMessage hits alive start crashEntries messageEntries timerEntry
     timerEntries pending earlier first upTo nextEvent delayIn delayOf numbered turned without received apply fits tried try left steps after
     callTo tickOr ticked lastTick
 ninth = (refl, refl, refl)
 
 out-of-range : timersAnswer (encode (recordOf two 0 0 node)) 3 (replicate partSize 0) ≡ badRecord
 unfolding two node recordOf bytes value fieldAt zeros numbersBytes neighboursBytes ticksBytes encode decode openable
-    neighboursInRange apart timersInRange inRange sound answer timersAnswer listed
+    nodeTest apart liveTest inRange sound answer timersAnswer listed
 out-of-range = refl
 
 pub early-tick-refused : timersAnswer (encode (recordOf two 0 0 (nodeOf (after two 8) 0))) 3 (replicate partSize 0) ≡ badRecord
@@ -62,5 +66,5 @@ followed-so bytes size parts long =
 -- and the call of the ninth event takes it
 pub late-tick-taken : timersAnswer (encode (recordOf two 0 3 node)) 3 (replicate partSize 0) ≡ taken
 unfolding two node recordOf bytes value fieldAt zeros numbersBytes neighboursBytes ticksBytes encode decode openable
-    neighboursInRange apart timersInRange inRange sound answer tickTaken timersAnswer listed
+    nodeTest apart liveTest inRange sound answer tickTaken timersAnswer listed
 late-tick-taken = refl

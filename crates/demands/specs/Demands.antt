@@ -8,25 +8,26 @@ use mathlib.Core.Option.{Option, none, some}
 use Prim.Native.Nat.{ℕ, _+_, _/_, _%_, _^_, _≤_, _<_}
 use lib.Dec.{eqb, leb, ltb}
 use lib.ListN.{length, getD, take}
-use Rattle.ring.specs.Limits.{mostNodes, mostInFlight, lineRoom}
-use Rattle.ring.specs.Ring.{numbers, tableAnswer}
+use Rattle.limits.specs.Limits.{mostNodes, mostInFlight, lineRoom, recordSize, storeSize, fileRoom}
+use Rattle.ring.specs.Ring.{tableAnswer}
 use Rattle.text.specs.Put.{put}
 use Rattle.text.specs.Number.{decimal}
 use Rattle.text.specs.Hex.{hexOf}
-use Rattle.runfile.specs.Plan.{Plan, planTest, planText}
-use Rattle.runfile.specs.File.{Answer, accepted, refused as turnedDown, fileOf}
+use Rattle.plans.specs.Plan.{Plan, planTest}
+use Rattle.runfile.specs.Text.{planText}
+use Rattle.runfile.specs.File.{FileAnswer as Answer, accepted, turnedDown, fileOf}
 use Rattle.logline.specs.declared.Line.{Line}
 use Rattle.logline.specs.declared.Read.the-variants.{Accepted as LineRead, Refused as LineUnread}
 use Rattle.logline.specs.declared.Written.{Written}
 use Rattle.logline.specs.declared.Written.the-variants.{Bytes as LineBytes, Refused as LineRefused}
 use Rattle.logline.specs.Line.{Ranges, upTo, unknown, ranges, within, readOf, fields as columnsOf, lineText, writtenOf, outOf}
 use Rattle.model.specs.Platform.{State, Entry, nextEvent, apply, Outcome, did, ended, refused, try, steps, eventCount, runAnswer, firstEvents, after}
-use Rattle.model.specs.Lines.{lineOf, lastLine, linesFrom}
+use Rattle.model.specs.Lines.{lineOf, lastLine, linesText, linesFrom}
 use Rattle.model.specs.Claims.{CrashedAre, Safe, LogRoundedUp, K, Settles}
-use Rattle.host.specs.Record.{recordSize, decode, openable, sound}
-use Rattle.host.specs.Call.{tickTaken, messageTaken, partSize, openAnswer, openLeaves, deliverAnswer, deliverLeaves, deliverSends}
+use Rattle.host.specs.Record.{decode, openable, sound}
+use Rattle.host.specs.Call.{tickTaken, messageTaken, openAnswer, openLeaves, deliverAnswer, deliverLeaves, deliverSends}
 use Rattle.host.specs.Call.{timersAnswer, timersLeaves, timersSends}
-use Rattle.store.specs.Store.{storeSize, encode, planIn, stateIn, storeInRange}
+use Rattle.store.specs.Store.{encode, planIn, stateIn, storeInRange}
 use Rattle.platform.specs.declared.Opened.the-variants.{Ready, Refused as Unopened}
 use Rattle.platform.specs.declared.Stepped.{Stepped}
 use Rattle.platform.specs.declared.Stepped.the-variants.{Did, Done, Refused as Unstepped}
@@ -34,11 +35,11 @@ use Rattle.platform.specs.declared.Ran.{Ran}
 use Rattle.platform.specs.declared.Ran.the-variants.{Done as Finished, Spent, Refused as Unrun}
 use Rattle.platform.specs.declared.Wrote.{Wrote}
 use Rattle.platform.specs.declared.Wrote.the-variants.{Bytes}
-use Rattle.platform.specs.Calls.{fileRoom, linesText, openFile, step, ran, run, writeFile, openRefusal, stepRefusal, runRefusal, writeRefusal}
+use Rattle.platform.specs.Calls.{openFile, step, ran, run, writeFile, openRefusal, stepRefusal, runRefusal, writeRefusal}
 use Rattle.platform.specs.CallLists.{Call, storeAfterAll, NoneAnswers, eventsOf}
 use Rattle.rehearsal.specs.Part.{WholeOutput}
 use Rattle.planner.specs.Answers.{numberAndLine, stepLetter, stepTick, stepNode, stepOther, stepSize, runEvents, runSpent, writeSize}
-use Rattle.demands.specs.Nodes.{Call as NodeCall, leaves, SameAsNodes}
+use Rattle.demands.specs.Nodes.{NodeCall, leaves, SameAsNodes}
 
 -- ---- DEMAND 1: 'Refused by number, with nothing lent to the call written .. All else is accepted, and every call returns, with no duty on
 -- the caller beforehand'. That a call returns whatever it is lent is in its contract, which asks for nothing.
@@ -149,11 +150,11 @@ tablePlaces n d = place (not (leb 1 n && leb n mostNodes)) 3 ∷ place (not (ltb
 
 pub record Demand1 : Type 0 where
   -- a run file is accepted exactly where it is the text of a plan that the rules allow
-  pub fileTaken : (p : Plan) → planTest p ≡ true → p .order ≡ numbers 0 (p .n) → fileOf (planText p) ≡ accepted p
+  pub fileTaken : (p : Plan) → planTest p ≡ true → fileOf (planText p) ≡ accepted p
   -- 'run file, length: 0 or above 65,536 bytes' is refused by 1, and any other bad file by 2 to 6 and a line of its own
   pub fileLength : (file : List ℕ) → (leb 1 (length file) && leb (length file) 65536) ≡ false → fileOf file ≡ turnedDown 1 0
   pub fileNumber : (file : List ℕ) (number line : ℕ) → fileOf file ≡ turnedDown number line → (1 ≤ number) × (number ≤ 6) × (line ≤ 65536)
-  pub fileOnly : (file : List ℕ) (p : Plan) → fileOf file ≡ accepted p → (planText p ≡ file) × (planTest p ≡ true) × (p .order ≡ numbers 0 (p .n))
+  pub fileOnly : (file : List ℕ) (p : Plan) → fileOf file ≡ accepted p → (planText p ≡ file) × (planTest p ≡ true)
   -- the platform's calls
   pub opening : (file store : List ℕ) → TurnsDown (openRefusal (openFile file store .answer)) (openPlaces file store) (openFile file store .store ≡ store)
   pub stepping : (store log : List ℕ)
@@ -162,13 +163,15 @@ pub record Demand1 : Type 0 where
   pub badStore : (store : List ℕ) (budget : ℕ) → storeInRange store ≡ false → run store budget .store ≡ store
   pub writing : (store out : List ℕ) → TurnsDown (writeRefusal (writeFile store out .answer)) (writePlaces store out) (writeFile store out .out ≡ out)
   -- for files the line is answered too, in C both in one number
-  pub openingLine : (file store : List ℕ) (number line : ℕ) → fileOf file ≡ turnedDown number line → openFile file store .answer ≡ Unopened number line
+  pub openingLine : (file store : List ℕ) (number line : ℕ) → fileOf file ≡ turnedDown number line
+      → openFile file store .answer ≡ Unopened number line
   pub openingNumber : (file store : List ℕ) (number line : ℕ) → openFile file store .answer ≡ Unopened number line
       → (1 ≤ number) × (numberAndLine (openFile file store .answer) % 256 ≡ number) × (numberAndLine (openFile file store .answer) / 256 ≡ line)
   -- the numbers behind the pointers of the calls from C stay as they were, but for a run's earlier events
   pub stepNumbers : (a : Stepped) (was : ℕ) → stepRefusal a ≢ 0
       → (stepLetter a was ≡ was) × (stepTick a was ≡ was) × (stepNode a was ≡ was) × (stepOther a was ≡ was) × (stepSize a was ≡ was)
-  pub runNumbers : (a : Ran) (was : ℕ) → runRefusal a ≢ 0 → (runSpent a was ≡ was) × (runEvents a was ≡ cond (eqb (runRefusal a) 8) (eventsDone a) was)
+  pub runNumbers : (a : Ran) (was : ℕ) → runRefusal a ≢ 0
+      → (runSpent a was ≡ was) × (runEvents a was ≡ cond (eqb (runRefusal a) 8) (eventsDone a) was)
   pub writeNumbers : (a : Wrote) (was : ℕ) → writeRefusal a ≢ 0 → writeSize a was ≡ was
   -- a host's calls
   pub nodeOpen : (s : List ℕ) (number nodes h w : ℕ)
@@ -216,7 +219,8 @@ pub record NextEvents (p : Plan) (s : State) (store : List ℕ) : Type 0 where
 -- behind the pointers of an accepted step from C stand its line's letter, tick, node and other and the line's length
 abbrev pub StepPuts : Stepped → Line → ℕ → ℕ → Type 0
 StepPuts a l size was =
-    (stepLetter a was ≡ l .letter) × (stepTick a was ≡ l .tick) × (stepNode a was ≡ l .node) × (stepOther a was ≡ l .other) × (stepSize a was ≡ size)
+    (stepLetter a was ≡ l .letter) × (stepTick a was ≡ l .tick) × (stepNode a was ≡ l .node) × (stepOther a was ≡ l .other)
+    × (stepSize a was ≡ size)
 
 pub record Demand2 : Type 0 where
   -- 'We choose time-outs by rehearsal, and one that differs from the nodes chooses wrongly': what is rehearsed is what the nodes do
@@ -225,7 +229,8 @@ pub record Demand2 : Type 0 where
   pub events : (file store : List ℕ) (p : Plan) → fileOf file ≡ accepted p → length store ≡ storeSize
       → (cs : List Call) → NextEvents p (after p (eventsOf p cs)) (storeOf file store cs)
   -- of every lent store in range, also one that no file leads to
-  pub lentEvents : (store : List ℕ) → ((i : ℕ) → getD store i 0 < 256) → storeInRange store ≡ true → NextEvents (planIn store) (stateIn store) store
+  pub lentEvents : (store : List ℕ) → ((i : ℕ) → getD store i 0 < 256) → storeInRange store ≡ true
+      → NextEvents (planIn store) (stateIn store) store
   -- what an accepted call from C puts behind its pointers
   pub stepPuts : (l : Line) (size was : ℕ) → StepPuts (Did l size) l size was × StepPuts (Done l size) l size was
   pub runPuts : (n was : ℕ) → ((runEvents (Finished n) was ≡ n) × (runSpent (Finished n) was ≡ 0))
@@ -234,7 +239,8 @@ pub record Demand2 : Type 0 where
   -- every event's line, and the last line, is one that the log reader takes, and such a line has five columns
   pub lines : (file : List ℕ) (p : Plan) → fileOf file ≡ accepted p → (k : ℕ) (e : Entry) (s' : State) → try p (after p k) ≡ did e s'
       → let l : Line = lineOf p (after p k) s' (e .tick) (e .event) in readOf (lineText l) ≡ LineRead l
-  pub lastLines : (file : List ℕ) (p : Plan) → fileOf file ≡ accepted p → (k : ℕ) → let l : Line = lastLine p (after p k) in readOf (lineText l) ≡ LineRead l
+  pub lastLines : (file : List ℕ) (p : Plan) → fileOf file ≡ accepted p → (k : ℕ)
+      → let l : Line = lastLine p (after p k) in readOf (lineText l) ≡ LineRead l
   pub columns : (text : List ℕ) (l : Line) → readOf text ≡ LineRead l
       → columnsOf text ≡ (l .letter ∷ []) ∷ decimal (l .tick) ∷ decimal (l .node) ∷ decimal (l .other) ∷ hexOf 16 (l .list) ∷ []
   -- the rehearsal program: all that it writes of an input is the refusal's number and line, or the whole log

@@ -11,12 +11,13 @@ use lib.Dec.{eqb}
 use lib.ListN.{length}
 use Rattle.node.specs.declared.Message.{Message}
 use Rattle.node.specs.declared.Node.{Node}
-use Rattle.node.specs.Node.{mostSent}
+use Rattle.limits.specs.Limits.{mostSent, recordSize, partSize}
 use Rattle.host.specs.declared.Record.{Record}
-use Rattle.host.specs.Record.{recordSize, encode, decode, sound}
-use Rattle.host.specs.Call.{accepted, partSize, putMessages, openAnswer, openLeaves}
+use Rattle.host.specs.Record.{encode, decode, sound}
+use Rattle.limits.specs.Refusals.{accepted}
+use Rattle.host.specs.Call.{putMessages, openAnswer, openLeaves}
 use Rattle.host.specs.Call.{deliverAnswer, deliverLeaves, deliverSends, timersAnswer, timersLeaves, timersSends}
-use Rattle.runfile.specs.Plan.{Plan}
+use Rattle.plans.specs.Plan.{Plan}
 use Rattle.model.specs.Platform.{InFlight, State, Event, Entry, Outcome, crash, message, watch, heartbeat, did, ended, refused}
 use Rattle.model.specs.Platform.{alive, start, nodeOf, messageAt, numbered, without, try, after}
 
@@ -29,13 +30,13 @@ recordOf p x last n = record { number = x; nodes = p .n; h = p .h; w = p .w; las
 -- ---- the call of an event
 
 -- a message delivered, by its kind, its sender and its subject; or the timers
-pub data Call : Type 0 where
-  deliver : ℕ → ℕ → ℕ → Call
-  timers : Call
+pub data NodeCall : Type 0 where
+  deliver : ℕ → ℕ → ℕ → NodeCall
+  timers : NodeCall
 
 -- the call that an event of state s is to node x: a message that x gets while it is live, its watch, its heartbeat. Another
 -- node's event, a crash and a message dropped are none to x
-unfoldable pub callTo : Plan → State → ℕ → Event → Option Call
+unfoldable pub callTo : Plan → State → ℕ → Event → Option NodeCall
 callTo p s x (crash k) = none
 callTo p s x (message i) =
     let m : InFlight = messageAt s i in
@@ -44,17 +45,17 @@ callTo p s x (watch y) = cond (eqb y x) (some timers) none
 callTo p s x (heartbeat y) = cond (eqb y x) (some timers) none
 
 -- what `kelbraut_node_deliver` or `kelbraut_node_timers` answers at a tick, where the record b and a message part are lent to it
-unfoldable pub answers : Call → ℕ → List ℕ → List ℕ → ℕ
+unfoldable pub answers : NodeCall → ℕ → List ℕ → List ℕ → ℕ
 answers (deliver kind sender subject) tick b part = deliverAnswer b tick kind sender subject part
 answers timers tick b part = timersAnswer b tick part
 
 -- the record that it leaves
-unfoldable pub leaves : Call → ℕ → List ℕ → List ℕ → List ℕ
+unfoldable pub leaves : NodeCall → ℕ → List ℕ → List ℕ → List ℕ
 leaves (deliver kind sender subject) tick b part = deliverLeaves b tick kind sender subject part
 leaves timers tick b part = timersLeaves b tick part
 
 -- the message part that it leaves
-unfoldable pub sends : Call → ℕ → List ℕ → List ℕ → List ℕ
+unfoldable pub sends : NodeCall → ℕ → List ℕ → List ℕ → List ℕ
 sends (deliver kind sender subject) tick b part = deliverSends b tick kind sender subject part
 sends timers tick b part = timersSends b tick part
 
@@ -68,7 +69,7 @@ found s (watch x) = s .flight
 found s (heartbeat x) = s .flight
 
 -- the event e leads from s to s'; it is the call c to node x, whose record b and a message part are lent
-pub record SameEvent (p : Plan) (s : State) (e : Entry) (s' : State) (x : ℕ) (c : Call) (b part : List ℕ) : Type 0 where
+pub record SameEvent (p : Plan) (s : State) (e : Entry) (s' : State) (x : ℕ) (c : NodeCall) (b part : List ℕ) : Type 0 where
   -- the call is accepted
   pub accepts : answers c (e .tick) b part ≡ accepted
   -- and leaves the record that holds x's fields after the event; its last tick is the event's
@@ -83,7 +84,7 @@ pub record SameEvent (p : Plan) (s : State) (e : Entry) (s' : State) (x : ℕ) (
 -- ---- a whole run
 
 -- the record b of node x after one more try of the platform: lent to the call, where the event is one to x, else left
-unfoldable pub lent : Option Call → ℕ → List ℕ → List ℕ → List ℕ
+unfoldable pub lent : Option NodeCall → ℕ → List ℕ → List ℕ → List ℕ
 lent none tick b part = b
 lent (some c) tick b part = leaves c tick b part
 
@@ -99,7 +100,7 @@ recordAfter p x bytes parts zero = openLeaves bytes x (p .n) (p .h) (p .w)
 recordAfter p x bytes parts (suc k) = followed p (after p k) x (try p (after p k)) (recordAfter p x bytes parts k) (parts k)
 
 -- the tick of the last of the first k events that was a call to x: "the last tick, 0 at opening and then the tick of each accepted call"
-unfoldable pub tickOr : Option Call → ℕ → ℕ → ℕ
+unfoldable pub tickOr : Option NodeCall → ℕ → ℕ → ℕ
 tickOr none tick last = last
 tickOr (some c) tick last = tick
 
@@ -116,7 +117,7 @@ lastTick p x (suc k) = ticked p (after p k) x (try p (after p k)) (lastTick p x 
 -- the first k events of the file that record holds x's fields
 pub record Follows (p : Plan) (x : ℕ) (bytes : List ℕ) (parts : ℕ → List ℕ) : Type 0 where
   pub opens : openAnswer bytes x (p .n) (p .h) (p .w) ≡ accepted
-  pub same : (k : ℕ) (e : Entry) (s' : State) → try p (after p k) ≡ did e s' → (c : Call) → callTo p (after p k) x (e .event) ≡ some c
+  pub same : (k : ℕ) (e : Entry) (s' : State) → try p (after p k) ≡ did e s' → (c : NodeCall) → callTo p (after p k) x (e .event) ≡ some c
       → SameEvent p (after p k) e s' x c (recordAfter p x bytes parts k) (parts k)
   pub holds : (k : ℕ) → recordAfter p x bytes parts k ≡ encode (recordOf p x (lastTick p x k) (nodeOf (after p k) x))
 
@@ -132,12 +133,12 @@ pub record SameAsNodes (p : Plan) : Type 0 where
       × (openLeaves bytes x (p .n) (p .h) (p .w) ≡ encode (recordOf p x 0 (nodeOf (start p) x)))
   -- every event of node x, and every record in range that holds x's fields, with a last tick not after the event's
   pub event : (k : ℕ) (e : Entry) (s' : State) → try p (after p k) ≡ did e s'
-      → (x : ℕ) (c : Call) → callTo p (after p k) x (e .event) ≡ some c
+      → (x : ℕ) (c : NodeCall) → callTo p (after p k) x (e .event) ≡ some c
       → (last : ℕ) → last ≤ e .tick → (b : List ℕ) → sound b ≡ true → decode b ≡ recordOf p x last (nodeOf (after p k) x)
       → (part : List ℕ) → partSize ≤ length part → SameEvent p (after p k) e s' x c b part
   -- a last tick from the last event's up to this one's gives such a record
   pub inRange : (k : ℕ) (e : Entry) (s' : State) → try p (after p k) ≡ did e s'
-      → (x : ℕ) (c : Call) → callTo p (after p k) x (e .event) ≡ some c
+      → (x : ℕ) (c : NodeCall) → callTo p (after p k) x (e .event) ≡ some c
       → (last : ℕ) → (after p k) .last ≤ last → last ≤ e .tick
       → (sound (encode (recordOf p x last (nodeOf (after p k) x))) ≡ true)
       × (decode (encode (recordOf p x last (nodeOf (after p k) x))) ≡ recordOf p x last (nodeOf (after p k) x))

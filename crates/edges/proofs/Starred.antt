@@ -1,19 +1,29 @@
 -- Document 01's starred edges hold: each definition computes to what the table says. Assumes nothing.
 use mathlib.Core.Path.{refl}
 use Rattle.ring.specs.Ring.{keep, numbers, listed, listing, unlisted, place, round, ahead, back, next, count, powers, jumps, targets}
-use Rattle.node.specs.Node.{reports, opening as nodeOpening, onHeartbeat, onObserver, onReport, onHeartbeatDue, onWatchDue, onMessage}
+use Rattle.node.specs.Node.{reports, opening as nodeOpening, onHeartbeat, onObserver, onReport, onHeartbeatDue, leaving, onMessage}
 use Rattle.text.specs.Number.{digit, decimal}
 use Rattle.text.specs.Hex.{hexByte}
-use Rattle.text.specs.Field.{fieldAt, ends}
-use Rattle.runfile.specs.Plan.{within, startRanges, longEnough, crashRange, delayRange, risingFrom, rising, later, hits, noneTwice, crashOrder, above, delayOrder, fewDelays}
-use Rattle.runfile.specs.File.{onto, lines, opening, fieldThen, pairOf, crashOf, delayOf, startOf, formOf, rowOf, orElse, withCrash, withDelay, startLine, early, crashLine, delayLine, firstLine, laterLine, stepThen, laterLines, allLines, fileOf}
+use Rattle.text.specs.Field.{ends, onto, numberFieldAt}
+use Rattle.runfile.specs.File.{lines, fieldThen, pairOf, crashOf, delayOf, startOf, formOf, rowOf, orElse, startLine, early, crashLine, delayLine, firstLine}
+use Rattle.runfile.specs.File.{laterLine, stepThen, laterLines, allLines, fileOf}
+use Rattle.plans.specs.Plan.{within, startRanges, longEnough, crashRange, delayRange, risingFrom, rising, later, hits, noneTwice, crashOrder, above}
+use Rattle.plans.specs.Plan.{delayOrder}
+use Rattle.plans.specs.Plan.{fewDelays, startPlan as opening, withCrash, withDelay}
 use Rattle.logline.specs.Line.{lineText}
-use Rattle.model.specs.Platform.{alive, survivors, withCrashed, crashedList, start, crashEntries, messageEntries, timerEntry, timerEntries, pending, earlier, first, upTo, nextEvent, delayIn, numbered, taken, without, received, apply, fits, tried, try, delayOf as messageDelay}
-use Rattle.model.specs.Lines.{otherOf, messageLine, lineOf, eventLines, lastLine, linesFrom, log}
-use Rattle.edges.specs.Edges.{dead, targetsOf, backFrom, bytes, judged, logText, written, logOf, Edges}
+use Rattle.model.specs.Platform.{alive, survivors, withCrashed, crashedList, start, crashEntries, messageEntries, timerEntry, timerEntries, pending, earlier}
+use Rattle.model.specs.Platform.{first, upTo, nextEvent, delayIn, numbered, taken, without, received, apply, fits, tried, try, delayOf as messageDelay}
+use Rattle.model.specs.Lines.{otherOf, lastLine, linesFrom, log, messageDeed, deedOf, deedLines}
+use Rattle.edges.specs.Edges.{dead, targetsOf, backFrom, bytes, judged, logText, written, logOf, workedLog, Edges}
 
 pub edges : Edges
-unfolding keep numbers listed listing unlisted place round ahead back next count powers jumps targets dead targetsOf backFrom reports nodeOpening onHeartbeat onObserver onReport onHeartbeatDue onWatchDue onMessage digit decimal hexByte fieldAt ends within startRanges longEnough crashRange delayRange risingFrom rising later hits noneTwice crashOrder above delayOrder fewDelays onto lines opening fieldThen pairOf crashOf delayOf startOf formOf rowOf orElse withCrash withDelay startLine early crashLine delayLine firstLine laterLine stepThen laterLines allLines fileOf lineText alive survivors withCrashed crashedList start crashEntries messageEntries timerEntry timerEntries pending earlier first upTo nextEvent delayIn messageDelay numbered taken without received apply fits tried try otherOf messageLine lineOf eventLines lastLine linesFrom log bytes judged logText written logOf
+unfolding keep numbers listed listing unlisted place round ahead back next count powers jumps targets dead targetsOf backFrom reports nodeOpening
+    onHeartbeat onObserver onReport onHeartbeatDue leaving onMessage digit decimal hexByte numberFieldAt ends within startRanges longEnough crashRange
+    delayRange risingFrom rising later hits noneTwice crashOrder above delayOrder fewDelays onto lines opening fieldThen pairOf crashOf delayOf
+    startOf formOf rowOf orElse withCrash withDelay startLine early crashLine delayLine firstLine laterLine stepThen laterLines allLines fileOf
+    lineText alive survivors withCrashed crashedList start crashEntries messageEntries timerEntry timerEntries pending earlier first upTo nextEvent
+    delayIn messageDelay numbered taken without received apply fits tried try otherOf lastLine linesFrom log bytes judged logText written logOf
+    workedLog messageDeed deedOf deedLines
 edges = record {
   worked-log = refl;
   lone-log = refl;

@@ -6,7 +6,8 @@ use Prim.Native.Nat.{ℕ}
 use Prim.Native.Char.{Char, code}
 use Prim.Native.String.{String, [] as empty, _∷_ as before}
 use Rattle.ring.specs.Ring.{numbers, listing, place, back, powers, targets}
-use Rattle.runfile.specs.File.{Answer, accepted, refused, fileOf, opening, withDelay}
+use Rattle.runfile.specs.File.{FileAnswer as Answer, accepted, turnedDown as refused, fileOf}
+use Rattle.plans.specs.Plan.{startPlan as opening, withDelay}
 use Rattle.logline.specs.declared.Line.{Line}
 use Rattle.logline.specs.Line.{lineText}
 use Rattle.model.specs.Lines.{log}
@@ -45,9 +46,22 @@ written (refused number line) = []
 unfoldable pub logOf : String → List ℕ
 logOf file = written (judged file)
 
+-- the log above the starred edges
+unfoldable pub workedLog : List ℕ
+workedLog =
+    bytes "S,2,0,1,0000000000000000\n"
+    ++ bytes "S,2,1,0,0000000000000000\n"
+    ++ bytes "C,3,1,1,0000000000000000\n"
+    ++ bytes "X,3,1,0,0000000000000000\n"
+    ++ bytes "H,3,0,1,0000000000000000\n"
+    ++ bytes "S,4,0,1,0000000000000000\n"
+    ++ bytes "X,5,1,0,0000000000000000\n"
+    ++ bytes "W,6,0,1,0000000000000002\n"
+    ++ bytes "E,6,1,0,0000000000000002\n"
+
 pub record Edges : Type 0 where
   -- "the log above"
-  pub worked-log : logOf "P,2,2,3,1,6\nC,3,1\n" ≡ bytes "S,2,0,1,0000000000000000\nS,2,1,0,0000000000000000\nC,3,1,1,0000000000000000\nX,3,1,0,0000000000000000\nH,3,0,1,0000000000000000\nS,4,0,1,0000000000000000\nX,5,1,0,0000000000000000\nW,6,0,1,0000000000000002\nE,6,1,0,0000000000000002\n"
+  pub worked-log : logOf "P,2,2,3,1,6\nC,3,1\n" ≡ workedLog
   -- "P,1,1,2,1,5 logs only `E,5,1,0,0000000000000000`"
   pub lone-log : logOf "P,1,1,2,1,5\n" ≡ bytes "E,5,1,0,0000000000000000\n"
   -- "H 2, D 1: W 3 passes"

@@ -2,7 +2,7 @@
 -- nothing.
 use Prim.Native.Nat.{ℕ, zero, suc, _+_, _-_, _≤_, _<_}
 use mathlib.Core.Path.{_≡_, refl, sym, ap, ap₂, subst, _∙_}
-use mathlib.Core.Logic.{inl, inr, _≢_}
+use mathlib.Core.Logic.{_≢_}
 use mathlib.Core.Bool.{Bool, true, false, cond, not}
 use mathlib.Core.List.{List, [], _∷_, _++_, List·Memᴰ, List·Memᴰ·not-nil, List·Memᴰ·head, List·Memᴰ·tail}
 use mathlib.Core.Option.{Option, none, some}
@@ -15,19 +15,23 @@ use Rattle.ring.specs.Ring.{listed}
 use Rattle.node.specs.declared.Node.{Node}
 use Rattle.node.specs.declared.Message.{Message}
 use Rattle.node.specs.declared.Turned.{Turned}
-use Rattle.ring.specs.Limits.{mostNodes, mostTick, mostInFlight}
-use Rattle.node.specs.Node.{Turn, R, mostSent, silent, places, turned, onMessage, onWatchDue, onHeartbeatDue}
-use Rattle.logline.specs.declared.Line.{Line}
-use Rattle.runfile.specs.Plan.{Plan, planTest}
-use Rattle.model.specs.Platform.{InFlight, State, Event, Entry, crash, message, watch, heartbeat, alive, survivors, crashedList, nextEvent}
-use Rattle.model.specs.Platform.{nodeOf, messageAt, taken, without, received, apply, tried, try, left}
-use Rattle.model.specs.Range.{Known, NodeRange, FlightRange, Plain, Sound}
-use Rattle.logline.specs.Line.{letterC as C, letterX as X, letterW as W, letterS as S, letterE as E}
-use Rattle.model.specs.Lines.{line, otherOf, messageLine, lineOf, lastLine}
+use Rattle.limits.specs.Limits.{mostNodes, mostTick, mostInFlight, mostSent}
+use Rattle.node.specs.Node.{Turn, R, silent, places, turned, onMessage, onWatchDue, onHeartbeatDue}
+use Rattle.model.specs.declared.Deed.{Deed}
+use Rattle.plans.specs.Plan.{Plan, planTest}
+use Rattle.model.specs.Platform.{InFlight, State, Event, Entry, crash, message, watch, heartbeat, alive, crashedList, nextEvent, nodeOf, messageAt, taken}
+use Rattle.model.specs.Platform.{without, received, apply, tried, try, left, Outcome, did, ended, refused}
+use Rattle.node.specs.Range.{NodeRange}
+use Rattle.node.proofs.Tests.{kind-fits}
+use Rattle.node.proofs.Sends.{Sendable}
+use Rattle.node.proofs.Ranges.{Took}
+use Rattle.model.specs.Range.{FlightRange, Sound}
+use Rattle.plans.specs.Plain.{Plain}
+use Rattle.logline.specs.Line.{letterC as C, letterX as X, letterW as W, letterS as S}
+use Rattle.model.specs.Lines.{otherOf, deed, messageDeed, deedOf}
 use Rattle.model.proofs.NextEvent.{Chosen}
 use Rattle.model.proofs.SettledNode.{crashed-listed}
-use Rattle.model.proofs.RulesInRange.{Sendable, Standing, Took, watch-took, beat-took}
-use Rattle.model.proofs.RangesKept.{at-mem, standing, received-took, not-early}
+use Rattle.model.proofs.RangesKept.{at-mem, received-took, watch-taken, beat-taken, not-early}
 use Rattle.store.specs.declared.Flight.{Flight}
 use Rattle.store.specs.Store.{encode, planIn, stateIn}
 use Rattle.store.specs.Inside.{SmallNode, Fits, Held, flying, withTick, crashed, withoutMessage, messageOf}
@@ -37,11 +41,11 @@ use Rattle.event.specs.declared.Happened.{Happened}
 use Rattle.event.specs.declared.Happened.the-variants.{Did, Ended, Refused}
 use Rattle.event.specs.declared.Next.{Next}
 use Rattle.event.specs.declared.Next.the-variants.{Crash, Message as Delivery, Watch, Heartbeat, Nothing}
-use Rattle.event.specs.Event.{SmallMessage, Turns, entry, nextAt, nextOf, happened, NextIs, nextAnswer, storeLeft, turnOf, turnLeft}
+use Rattle.event.specs.Event.{SmallMessage, Turns, entry, nextAt, nextOf, happened, NextIs, nextOutcome, nextAnswer, storeLeft, turnOf, turnLeft}
 use Rattle.event.specs.Ready.{Ready}
-use Rattle.event.proofs.Fitting.{ranges}
+use Rattle.plans.proofs.Tests.{ranges}
 use Rattle.event.proofs.Readiness.{mostReached, ready-accepted, ready-sound, ready-next}
-use Rattle.event.proofs.Turning.{node-taken, chosen-of, try-did, turn-refused, turn-did, refused-answer, did-answer, watch-few, received-few, beat-few}
+use Rattle.event.proofs.Turning.{node-taken, chosen-of, try-did, turn-refused, turn-did, refused-answer, did-answer, received-few}
 
 -- ---- a turn whose numbers fit
 
@@ -56,11 +60,6 @@ small-node p good t tick a r =
       list = omega (arith, r .list, pow-le-pow-right {n = 2} (lit< tt) (l .n-high));
     }
 
-small-kind : (k : ℕ) → Known k → k < 256
-small-kind k (inl e) = omega arith
-small-kind k (inr (inl e)) = omega arith
-small-kind k (inr (inr e)) = omega arith
-
 getD-in : (ms ys : List Message) (z : Message) (j : ℕ) → j < length ms → List·Memᴰ (getD (ms ++ ys) j z) ms
 getD-in [] ys z j h = absurd (omega arith)
 getD-in (m ∷ ms) ys z zero h = List·Memᴰ·head refl
@@ -71,8 +70,10 @@ unfolding places
 length-places ms h = rw (length-append, length-replicate) (omega arith)
 
 -- a turn of the rules, of which the code has u
-turns-of : (b : List ℕ) (t x : ℕ) (u : Turned) (v : Turn) → u ≡ turned v → Held b → planTest (planIn b) ≡ true → t ≤ mostTick → x < planIn b .n → length (v .sends) ≤ mostSent
-    → length (stateIn b .flight) + u .count ≤ mostInFlight → stateIn b .next ≤ mostReached → SmallNode (v .node) → ((m : Message) → List·Memᴰ m (v .sends) → SmallMessage m) → Turns b t x u
+turns-of : (b : List ℕ) (t x : ℕ) (u : Turned) (v : Turn) → u ≡ turned v → Held b → planTest (planIn b) ≡ true → t ≤ mostTick
+    → x < planIn b .n → length (v .sends) ≤ mostSent → length (stateIn b .flight) + u .count ≤ mostInFlight → stateIn b .next ≤ mostReached
+    → SmallNode (v .node)
+    → ((m : Message) → List·Memᴰ m (v .sends) → SmallMessage m) → Turns b t x u
 unfolding turned places
 turns-of b t x u v is held plan tick place few room next node small =
     let k : u .count ≡ length (v .sends) = ap (λ (w : Turned). w .count) is in
@@ -117,13 +118,17 @@ module _ (b : List ℕ) (r : Ready b) (t : ℕ) (ev : Event) (next : NextIs b t 
   ring-few : length (planIn b .order) ≤ mostNodes
   ring-few = rw (pl .order .size) (pl .n≤)
 
-  took-node : (x : ℕ) (v : Turn) → Took (planIn b .n) (planIn b .order) (pl .order) (planIn b .h) (planIn b .w) t x v → SmallNode (v .node)
-  took-node x v k = small-node (planIn b) (r .plan) t event-tick (v .node) (k .node .fields)
+  -- a turn that node x may take
+  abbrev Takes : ℕ → Turn → Type 0
+  Takes x v = Took (planIn b .n) (planIn b .h) (planIn b .w) (stateIn b .last) t x (nodeOf (stateIn b) x) v
 
-  took-message : (x : ℕ) (v : Turn) → Took (planIn b .n) (planIn b .order) (pl .order) (planIn b .h) (planIn b .w) t x v → (m : Message) → List·Memᴰ m (v .sends) → SmallMessage m
+  took-node : (x : ℕ) (v : Turn) → Takes x v → SmallNode (v .node)
+  took-node x v k = small-node (planIn b) (r .plan) t event-tick (v .node) (k .fields not-past)
+
+  took-message : (x : ℕ) (v : Turn) → Takes x v → (m : Message) → List·Memᴰ m (v .sends) → SmallMessage m
   took-message x v k m h =
-      let q : Sendable (planIn b .n) (planIn b .order) (pl .order) x m = k .sends m h in
-      record { kind = small-kind (m .kind) (q .kind); to = omega (arith, q .to, pl .n≤); subject = omega (arith, q .subject, pl .n≤) }
+      let q : Sendable (planIn b .n) x m = k .sends m h in
+      record { kind = kind-fits (m .kind) (q .kind); to = omega (arith, q .to, pl .n≤); subject = omega (arith, q .subject, pl .n≤) }
 
 -- ---- a watch
 
@@ -132,40 +137,41 @@ module _ (b : List ℕ) (r : Ready b) (t x : ℕ) (next : NextIs b t (watch x)) 
   unfolding Chosen
   watch-place = rw (ready-sound b r .nodes) at (chosen b r t (watch x) next .0)
 
-  watch-taken : Took (planIn b .n) (planIn b .order) (pl b r t (watch x) next .order) (planIn b .h) (planIn b .w) t x (onWatchDue (planIn b .order) (planIn b .w) t x (nodeOf (stateIn b) x))
+  watch-takes : Takes b r t (watch x) next x (onWatchDue (planIn b .order) (planIn b .w) t x (nodeOf (stateIn b) x))
   unfolding Chosen
-  watch-taken =
+  watch-takes =
       let ch = chosen b r t (watch x) next in
-      let q = ready-accepted b r .plain in
-      let st : Standing (planIn b .n) (planIn b .order) (q .order) (planIn b .h) (planIn b .w) t x (nodeOf (stateIn b) x) = standing (planIn b) q (stateIn b) (ready-sound b r) t (not-past b r t (watch x) next) (at-end b r t (watch x) next) x watch-place (ch .1) (suc t) (suc t) (ch .3) in
-      watch-took (planIn b .n) (planIn b .order) (q .order) (planIn b .h) (planIn b .w) t x watch-place (nodeOf (stateIn b) x) st (q .n≤) (st .apart .observes (λ z. on (nodeOf (stateIn b) x .watch) z (ch .2)))
-    where
-      on : (v : ℕ) → v ≡ 0 → v ≡ suc t → ⊥
-      on v a e = omega arith
+      watch-taken (planIn b) (ready-accepted b r .plain) (stateIn b) (ready-sound b r) t (not-past b r t (watch x) next) (at-end b r t (watch x) next)
+      x watch-place (ch .1) (ch .2)
 
   module _ (u : Turned) (is : u ≡ turned (onWatchDue (planIn b .order) (planIn b .w) t x (nodeOf (stateIn b) x))) where
     pub watch-count : u .count ≤ mostSent
     unfolding turned
-    watch-count = rw is (watch-few (planIn b .order) (ring-few b r t (watch x) next) (planIn b .w) t x (nodeOf (stateIn b) x))
+    watch-count = rw is (watch-takes .few)
 
     pub watch-turns : length (stateIn b .flight) + u .count ≤ mostInFlight → Turns b t x u
-    watch-turns h = turns-of b t x u _ is (r .held) (r .plan) (event-tick b r t (watch x) next) watch-place (watch-few (planIn b .order) (ring-few b r t (watch x) next) (planIn b .w) t x (nodeOf (stateIn b) x)) h (ready-next b r) (took-node b r t (watch x) next x _ watch-taken) (took-message b r t (watch x) next x _ watch-taken)
+    watch-turns h =
+        turns-of b t x u _ is (r .held) (r .plan) (event-tick b r t (watch x) next) watch-place (watch-takes .few) h (ready-next b r)
+        (took-node b r t (watch x) next x _ watch-takes) (took-message b r t (watch x) next x _ watch-takes)
 
-    watch-by : apply (planIn b) (stateIn b) t (watch x) ≡ taken (planIn b) (stateIn b) t x (stateIn b .flight) (onWatchDue (planIn b .order) (planIn b .w) t x (nodeOf (stateIn b) x))
+    watch-by : apply (planIn b) (stateIn b) t (watch x) ≡ taken (planIn b) (stateIn b) t x (stateIn b .flight)
+        (onWatchDue (planIn b .order) (planIn b .w) t x (nodeOf (stateIn b) x))
     unfolding apply
     watch-by = refl
 
     pub watch-refused : mostInFlight < length (stateIn b .flight) + u .count → (_≡_ {A = Happened} Refused (nextAnswer b)) × (b ≡ storeLeft b)
-    watch-refused h = refused-answer (planIn b) (stateIn b) b (r .held .canonical) (turn-refused (planIn b) (stateIn b) t (watch x) next x (stateIn b .flight) u _ is watch-by h)
+    watch-refused h =
+        refused-answer (planIn b) (stateIn b) b (r .held .canonical) (turn-refused (planIn b) (stateIn b) t (watch x) next x
+        (stateIn b .flight) u _ is watch-by h)
 
-    pub watch-done : (l : Line) → l ≡ line W t x (nodeOf (stateIn b) x .emitter) (u .node .list) → length (stateIn b .flight) + u .count ≤ mostInFlight
-        → (Did l ≡ nextAnswer b) × (turnLeft b t x u ≡ storeLeft b)
-    unfolding lineOf turnOf
-    watch-done l le h =
+    pub watch-done : (a : Deed) → a ≡ deed W t x (nodeOf (stateIn b) x .emitter) (u .node .list) → length (stateIn b .flight) + u .count ≤ mostInFlight
+        → (Did a ≡ nextAnswer b) × (turnLeft b t x u ≡ storeLeft b)
+    unfolding deedOf turnOf
+    watch-done a ae h =
         let after = node-taken (planIn b) t x (stateIn b) (stateIn b .flight) (turnOf u) (rw (ready-sound b r .nodes) watch-place) in
-        did-answer (planIn b) (stateIn b) (turnLeft b t x u) l _ _
+        did-answer (planIn b) (stateIn b) (turnLeft b t x u) a _ _
         (turn-did (planIn b) (stateIn b) t (watch x) next x (stateIn b .flight) u _ is watch-by h) refl
-        (le ∙ ap (λ (n : Node). line W t x (nodeOf (stateIn b) x .emitter) (n .list)) (sym after))
+        (ae ∙ ap (λ (n : Node). deed W t x (nodeOf (stateIn b) x .emitter) (n .list)) (sym after))
 
 -- ---- a heartbeat
 
@@ -174,40 +180,41 @@ module _ (b : List ℕ) (r : Ready b) (t x : ℕ) (next : NextIs b t (heartbeat 
   unfolding Chosen
   beat-place = rw (ready-sound b r .nodes) at (chosen b r t (heartbeat x) next .0)
 
-  beat-taken : Took (planIn b .n) (planIn b .order) (pl b r t (heartbeat x) next .order) (planIn b .h) (planIn b .w) t x (onHeartbeatDue (planIn b .h) t (nodeOf (stateIn b) x))
+  beat-takes : Takes b r t (heartbeat x) next x (onHeartbeatDue (planIn b .h) t (nodeOf (stateIn b) x))
   unfolding Chosen
-  beat-taken =
+  beat-takes =
       let ch = chosen b r t (heartbeat x) next in
-      let q = ready-accepted b r .plain in
-      let st : Standing (planIn b .n) (planIn b .order) (q .order) (planIn b .h) (planIn b .w) t x (nodeOf (stateIn b) x) = standing (planIn b) q (stateIn b) (ready-sound b r) t (not-past b r t (heartbeat x) next) (at-end b r t (heartbeat x) next) x beat-place (ch .1) (suc t) (suc t) (ch .3) in
-      beat-took (planIn b .n) (planIn b .order) (q .order) (planIn b .h) (planIn b .w) t x beat-place (nodeOf (stateIn b) x) st (q .n≤) (λ z. on (nodeOf (stateIn b) x .heartbeat) z (ch .2))
-    where
-      on : (v : ℕ) → v ≡ 0 → v ≡ suc t → ⊥
-      on v a e = omega arith
+      beat-taken (planIn b) (ready-accepted b r .plain) (stateIn b) (ready-sound b r) t (not-past b r t (heartbeat x) next)
+      (at-end b r t (heartbeat x) next) x beat-place (ch .1) (ch .2)
 
   module _ (u : Turned) (is : u ≡ turned (onHeartbeatDue (planIn b .h) t (nodeOf (stateIn b) x))) where
     pub beat-count : u .count ≤ mostSent
     unfolding turned
-    beat-count = rw is (beat-few (planIn b .h) t (nodeOf (stateIn b) x))
+    beat-count = rw is (beat-takes .few)
 
     pub beat-turns : length (stateIn b .flight) + u .count ≤ mostInFlight → Turns b t x u
-    beat-turns h = turns-of b t x u _ is (r .held) (r .plan) (event-tick b r t (heartbeat x) next) beat-place (beat-few (planIn b .h) t (nodeOf (stateIn b) x)) h (ready-next b r) (took-node b r t (heartbeat x) next x _ beat-taken) (took-message b r t (heartbeat x) next x _ beat-taken)
+    beat-turns h =
+        turns-of b t x u _ is (r .held) (r .plan) (event-tick b r t (heartbeat x) next) beat-place (beat-takes .few) h (ready-next b r)
+        (took-node b r t (heartbeat x) next x _ beat-takes) (took-message b r t (heartbeat x) next x _ beat-takes)
 
-    beat-by : apply (planIn b) (stateIn b) t (heartbeat x) ≡ taken (planIn b) (stateIn b) t x (stateIn b .flight) (onHeartbeatDue (planIn b .h) t (nodeOf (stateIn b) x))
+    beat-by : apply (planIn b) (stateIn b) t (heartbeat x) ≡ taken (planIn b) (stateIn b) t x (stateIn b .flight)
+        (onHeartbeatDue (planIn b .h) t (nodeOf (stateIn b) x))
     unfolding apply
     beat-by = refl
 
     pub beat-refused : mostInFlight < length (stateIn b .flight) + u .count → (_≡_ {A = Happened} Refused (nextAnswer b)) × (b ≡ storeLeft b)
-    beat-refused h = refused-answer (planIn b) (stateIn b) b (r .held .canonical) (turn-refused (planIn b) (stateIn b) t (heartbeat x) next x (stateIn b .flight) u _ is beat-by h)
+    beat-refused h =
+        refused-answer (planIn b) (stateIn b) b (r .held .canonical) (turn-refused (planIn b) (stateIn b) t (heartbeat x) next x
+        (stateIn b .flight) u _ is beat-by h)
 
-    pub beat-done : (l : Line) → l ≡ line S t x (nodeOf (stateIn b) x .observer) (u .node .list) → length (stateIn b .flight) + u .count ≤ mostInFlight
-        → (Did l ≡ nextAnswer b) × (turnLeft b t x u ≡ storeLeft b)
-    unfolding lineOf turnOf
-    beat-done l le h =
+    pub beat-done : (a : Deed) → a ≡ deed S t x (nodeOf (stateIn b) x .observer) (u .node .list) → length (stateIn b .flight) + u .count ≤ mostInFlight
+        → (Did a ≡ nextAnswer b) × (turnLeft b t x u ≡ storeLeft b)
+    unfolding deedOf turnOf
+    beat-done a ae h =
         let after = node-taken (planIn b) t x (stateIn b) (stateIn b .flight) (turnOf u) (rw (ready-sound b r .nodes) beat-place) in
-        did-answer (planIn b) (stateIn b) (turnLeft b t x u) l _ _
+        did-answer (planIn b) (stateIn b) (turnLeft b t x u) a _ _
         (turn-did (planIn b) (stateIn b) t (heartbeat x) next x (stateIn b .flight) u _ is beat-by h) refl
-        (le ∙ ap (λ (n : Node). line S t x (nodeOf (stateIn b) x .observer) (n .list)) (sym after))
+        (ae ∙ ap (λ (n : Node). deed S t x (nodeOf (stateIn b) x .observer) (n .list)) (sym after))
 
 -- ---- a crash
 
@@ -216,10 +223,12 @@ module _ (b : List ℕ) (r : Ready b) (t k : ℕ) (next : NextIs b t (crash k)) 
   unfolding Chosen
   crash-place = let ch = chosen b r t (crash k) next in rw (← ch .2) (ready-accepted b r .plain .node (stateIn b .done) (ch .0))
 
-  pub crash-done : (b' : List ℕ) (l : Line) → l ≡ line C t k k (nodeOf (stateIn b) k .list) → b' ≡ encode (planIn b) (crashed (withTick (stateIn b) t))
-      → (Did l ≡ nextAnswer b) × (b' ≡ storeLeft b)
-  unfolding lineOf apply withTick crashed
-  crash-done b' l le q = did-answer (planIn b) (stateIn b) b' l _ _ (try-did (planIn b) (stateIn b) t (crash k) next (ready-sound b r .few)) q le
+  pub crash-done : (b' : List ℕ) (a : Deed) → a ≡ deed C t k k (nodeOf (stateIn b) k .list)
+      → b' ≡ encode (planIn b) (crashed (withTick (stateIn b) t))
+      → (Did a ≡ nextAnswer b) × (b' ≡ storeLeft b)
+  unfolding deedOf apply withTick crashed
+  crash-done b' a ae q =
+      did-answer (planIn b) (stateIn b) b' a _ _ (try-did (planIn b) (stateIn b) t (crash k) next (ready-sound b r .few)) q ae
 
 -- ---- a message
 
@@ -261,14 +270,16 @@ module _ (b : List ℕ) (r : Ready b) (t i : ℕ) (next : NextIs b t (message i)
       listed-is = sym (le ∙ ap₂ listed de same-to)
 
       not-dropped : not l ≡ alive (planIn b) (stateIn b .done) (M .to)
-      not-dropped = go l (alive (planIn b) (stateIn b .done) (M .to)) (sym listed-is ∙ crashed-listed (planIn b) (ready-accepted b r) (stateIn b .done) (M .to))
+      not-dropped =
+          go l (alive (planIn b) (stateIn b .done) (M .to)) (sym listed-is ∙ crashed-listed (planIn b) (ready-accepted b r) (stateIn b .done) (M .to))
         where
           go : (x y : Bool) → x ≡ not y → not x ≡ y
           go x true e = rw e
           go x false e = rw e
 
     -- the turn
-    received-small : SmallNode ((received (planIn b) (stateIn b) t M) .node) × ((m : Message) → List·Memᴰ m ((received (planIn b) (stateIn b) t M) .sends) → SmallMessage m)
+    received-small : SmallNode ((received (planIn b) (stateIn b) t M) .node)
+        × ((m : Message) → List·Memᴰ m ((received (planIn b) (stateIn b) t M) .sends) → SmallMessage m)
     unfolding received Chosen
     received-small = go (alive (planIn b) (stateIn b .done) (M .to)) refl
       where
@@ -276,14 +287,20 @@ module _ (b : List ℕ) (r : Ready b) (t i : ℕ) (next : NextIs b t (message i)
         q = ready-accepted b r .plain
 
         go : (c : Bool) → alive (planIn b) (stateIn b .done) (M .to) ≡ c
-            → SmallNode ((cond c (onMessage (planIn b .order) (planIn b .w) t (M .to) (M .kind) (M .from) (M .subject) (nodeOf (stateIn b) (M .to))) (silent (nodeOf (stateIn b) (M .to)))) .node)
-            × ((m : Message) → List·Memᴰ m ((cond c (onMessage (planIn b .order) (planIn b .w) t (M .to) (M .kind) (M .from) (M .subject) (nodeOf (stateIn b) (M .to))) (silent (nodeOf (stateIn b) (M .to)))) .sends) → SmallMessage m)
+            → SmallNode ((cond c (onMessage (planIn b .order) (planIn b .w) t (M .to) (M .kind) (M .from) (M .subject) (nodeOf (stateIn b) (M .to)))
+            (silent (nodeOf (stateIn b) (M .to)))) .node)
+            × ((m : Message) → List·Memᴰ m
+            ((cond c (onMessage (planIn b .order) (planIn b .w) t (M .to) (M .kind) (M .from) (M .subject) (nodeOf (stateIn b) (M .to)))
+            (silent (nodeOf (stateIn b) (M .to)))) .sends) → SmallMessage m)
         go true e =
-            let k : Took (planIn b .n) (planIn b .order) (ready-accepted b r .plain .order) (planIn b .h) (planIn b .w) t (M .to) (onMessage (planIn b .order) (planIn b .w) t (M .to) (M .kind) (M .from) (M .subject) (nodeOf (stateIn b) (M .to))) =
-            received-took (planIn b) (ready-accepted b r .plain) (stateIn b) (ready-sound b r) t (not-past b r t (message i) next) (at-end b r t (message i) next) M (at-mem (stateIn b .flight) i message-here) e (suc t) t (chosen b r t (message i) next .2) in
+            let f = flight-range in
+            let k =
+            received-took (planIn b) q (stateIn b) (ready-sound b r) t (not-past b r t (message i) next) (at-end b r t (message i) next) (M .to) (f .to) e
+            (M .kind) (M .from) (M .subject) (f .kind) (f .from) (f .apart) (f .subject) in
             (took-node b r t (message i) next (M .to) _ k, took-message b r t (message i) next (M .to) _ k)
         go false e = (
-          small-node (planIn b) (r .plan) (stateIn b .last) (omega (arith, not-past b r t (message i) next, event-tick b r t (message i) next)) (nodeOf (stateIn b) (M .to)) (ready-sound b r .fields (M .to) (flight-range .to)),
+          small-node (planIn b) (r .plan) (stateIn b .last) (omega (arith, not-past b r t (message i) next, event-tick b r t (message i) next))
+              (nodeOf (stateIn b) (M .to)) (ready-sound b r .fields (M .to) (flight-range .to)),
           λ m h. absurd (List·Memᴰ·not-nil h),
         )
 
@@ -295,14 +312,19 @@ module _ (b : List ℕ) (r : Ready b) (t i : ℕ) (next : NextIs b t (message i)
       unfolding turned
       message-count = rw is few
 
-      message-by : apply (planIn b) (stateIn b) t (message i) ≡ taken (planIn b) (stateIn b) t (M .to) (without i (stateIn b .flight)) (received (planIn b) (stateIn b) t M)
+      message-by : apply (planIn b) (stateIn b) t (message i) ≡ taken (planIn b) (stateIn b) t (M .to) (without i (stateIn b .flight))
+          (received (planIn b) (stateIn b) t M)
       unfolding apply
       message-by = refl
 
       pub message-refused : mostInFlight < length (stateIn b .flight) - 1 + u .count → (_≡_ {A = Happened} Refused (nextAnswer b)) × (b ≡ storeLeft b)
-      message-refused h = refused-answer (planIn b) (stateIn b) b (r .held .canonical) (turn-refused (planIn b) (stateIn b) t (message i) next (M .to) (without i (stateIn b .flight)) u _ is message-by (omega (arith, h, length-less i (stateIn b .flight) message-here)))
+      message-refused h =
+          refused-answer (planIn b) (stateIn b) b (r .held .canonical)
+          (turn-refused (planIn b) (stateIn b) t (message i) next (M .to) (without i (stateIn b .flight)) u _ is message-by
+          (omega (arith, h, length-less i (stateIn b .flight) message-here)))
 
-      module _ (room : length (stateIn b .flight) - 1 + u .count ≤ mostInFlight) (c : List ℕ) (e : c ≡ encode (planIn b) (withoutMessage (stateIn b) i)) where
+      module _ (room : length (stateIn b .flight) - 1 + u .count ≤ mostInFlight) (c : List ℕ)
+          (e : c ≡ encode (planIn b) (withoutMessage (stateIn b) i)) where
         rest-fits : Fits (planIn b) (withoutMessage (stateIn b) i)
         rest-fits = take-fits (planIn b) (stateIn b) (r .held .fits) i message-here
 
@@ -317,23 +339,28 @@ module _ (b : List ℕ) (r : Ready b) (t i : ℕ) (next : NextIs b t (message i)
 
         pub message-turns : Turns c t (f .to) u
         unfolding withoutMessage
-        message-turns = turns-of c t (f .to) u _ is (rw e (held-encode (planIn b) (withoutMessage (stateIn b) i) rest-fits)) (ap planTest rest-plan ∙ r .plan) (event-tick b r t (message i) next) (rw rest-plan message-place) few (rw rest-state rest-room) (rw rest-state (ready-next b r)) (received-small .0) (received-small .1)
+        message-turns =
+            turns-of c t (f .to) u _ is (rw e (held-encode (planIn b) (withoutMessage (stateIn b) i) rest-fits)) (ap planTest rest-plan ∙ r .plan)
+            (event-tick b r t (message i) next) (rw rest-plan message-place) few (rw rest-state rest-room) (rw rest-state (ready-next b r)) (received-small .0)
+            (received-small .1)
 
-      -- the line, whose receiver is dead where the list of crashed nodes has it
+      -- what it did; its receiver is dead where the list of crashed nodes has it
       pub message-done : (dead : ℕ) (l : Bool) → dead ≡ crashedList (planIn b) (stateIn b .done) → l ≡ listed dead (f .to)
-          → (x : Line) → x ≡ messageLine t (messageOf f) (not l) (u .node .list) → length (without i (stateIn b .flight)) + u .count ≤ mostInFlight
-          → (Did x ≡ nextAnswer b) × (encode (planIn b) (taken (planIn b) (stateIn b) t (M .to) (without i (stateIn b .flight)) (turnOf u)) ≡ storeLeft b)
-      unfolding lineOf turnOf
-      message-done dead l de le x xe room =
+          → (a : Deed) → a ≡ messageDeed t (messageOf f) (not l) (u .node .list) → length (without i (stateIn b .flight)) + u .count ≤ mostInFlight
+          → (Did a ≡ nextAnswer b)
+          × (encode (planIn b) (taken (planIn b) (stateIn b) t (M .to) (without i (stateIn b .flight)) (turnOf u)) ≡ storeLeft b)
+      unfolding deedOf turnOf
+      message-done dead l de le a ae room =
           let after = node-taken (planIn b) t (M .to) (stateIn b) (without i (stateIn b .flight)) (turnOf u) (rw (ready-sound b r .nodes) (flight-range .to)) in
-          did-answer (planIn b) (stateIn b) _ x _ _
+          did-answer (planIn b) (stateIn b) _ a _ _
           (turn-did (planIn b) (stateIn b) t (message i) next (M .to) (without i (stateIn b .flight)) u _ is message-by room) refl
-          (xe
-          ∙ (ap₂ (λ (g : InFlight) (y : Bool). messageLine t g y (u .node .list)) (ap messageOf fe) (not-dropped dead l de le)
-          ∙ ap (λ (n : Node). messageLine t M (alive (planIn b) (stateIn b .done) (M .to)) (n .list)) (sym after)))
+          (ae
+          ∙ (ap₂ (λ (g : InFlight) (y : Bool). messageDeed t g y (u .node .list)) (ap messageOf fe) (not-dropped dead l de le)
+          ∙ ap (λ (n : Node). messageDeed t M (alive (planIn b) (stateIn b .done) (M .to)) (n .list)) (sym after)))
 
       -- the store after it, where the message was taken out before
-      module _ (room : length (stateIn b .flight) - 1 + u .count ≤ mostInFlight) (c : List ℕ) (e : c ≡ encode (planIn b) (withoutMessage (stateIn b) i)) where
+      module _ (room : length (stateIn b .flight) - 1 + u .count ≤ mostInFlight) (c : List ℕ)
+          (e : c ≡ encode (planIn b) (withoutMessage (stateIn b) i)) where
         pub taken-left : (b' : List ℕ) → b' ≡ turnLeft c t (f .to) u
             → b' ≡ encode (planIn b) (taken (planIn b) (stateIn b) t (M .to) (without i (stateIn b .flight)) (turnOf u))
         unfolding taken withoutMessage
@@ -341,20 +368,20 @@ module _ (b : List ℕ) (r : Ready b) (t i : ℕ) (next : NextIs b t (message i)
             q ∙ (ap₂ (λ (p : Plan) (s : State). encode p (taken p s t (f .to) (s .flight) (turnOf u))) (rest-plan room c e) (rest-state room c e)
             ∙ ap (λ (k : ℕ). encode (planIn b) (taken (planIn b) (stateIn b) t k (without i (stateIn b .flight)) (turnOf u))) same-to)
 
--- ---- a message's line
+-- ---- what a message did
 
 module _ (t : ℕ) (m : Flight) (dropped : Bool) (d : ℕ) where
-  pub line-dropped : dropped ≡ true → line X t (m .to) (m .from) d ≡ messageLine t (messageOf m) (not dropped) d
-  unfolding messageLine
-  line-dropped e = rw e
+  pub deed-dropped : dropped ≡ true → deed X t (m .to) (m .from) d ≡ messageDeed t (messageOf m) (not dropped) d
+  unfolding messageDeed
+  deed-dropped e = rw e
 
-  pub line-report : dropped ≡ false → m .kind ≡ R → line R t (m .to) (m .subject) d ≡ messageLine t (messageOf m) (not dropped) d
-  unfolding messageLine otherOf
-  line-report e h = rw (e, h)
+  pub deed-report : dropped ≡ false → m .kind ≡ R → deed R t (m .to) (m .subject) d ≡ messageDeed t (messageOf m) (not dropped) d
+  unfolding messageDeed otherOf
+  deed-report e h = rw (e, h)
 
-  pub line-other : dropped ≡ false → m .kind ≢ R → line (m .kind) t (m .to) (m .from) d ≡ messageLine t (messageOf m) (not dropped) d
-  unfolding messageLine otherOf
-  line-other e h = rw (e, ne-eqb (m .kind) R h)
+  pub deed-other : dropped ≡ false → m .kind ≢ R → deed (m .kind) t (m .to) (m .from) d ≡ messageDeed t (messageOf m) (not dropped) d
+  unfolding messageDeed otherOf
+  deed-other e h = rw (e, ne-eqb (m .kind) R h)
 
 -- ---- the event that the search answers
 
@@ -400,15 +427,17 @@ module _ (o : Option Entry) (n : Next) (e : n ≡ nextOf o) where
   unfolding Is
   next-nothing q = told Nothing q
 
--- the last line, from how many messages are in flight
-pub last-of : (b : List ℕ) (flying : ℕ) → flying ≡ length (stateIn b .flight) → (l : Line)
-    → l ≡ line E (planIn b .end) (survivors (planIn b) (stateIn b .done)) flying (crashedList (planIn b) (stateIn b .done))
-    → l ≡ lastLine (planIn b) (stateIn b)
-unfolding lastLine
-last-of b flying fe l le =
-    le ∙ ap (λ (k : ℕ). line E (planIn b .end) (survivors (planIn b) (stateIn b .done)) k (crashedList (planIn b) (stateIn b .done))) fe
-
 -- none is left
-pub ended-answer : (p : Plan) (s : State) (b : List ℕ) → b ≡ encode p s → nextEvent p s ≡ none → (l : Line) → l ≡ lastLine p s → (Ended l ≡ happened p s (try p s)) × (b ≡ encode p (left s (try p s)))
+pub ended-answer : (p : Plan) (s : State) (b : List ℕ) → b ≡ encode p s → nextEvent p s ≡ none
+    → (_≡_ {A = Happened} Ended (happened p s (try p s))) × (b ≡ encode p (left s (try p s)))
 unfolding happened left try tried
-ended-answer p s b e h l q = rw h (ap Ended q, e)
+ended-answer p s b e h = rw h (refl, e)
+
+pub ended-stays : (b : List ℕ) → Held b → _≡_ {A = Happened} Ended (nextAnswer b) → storeLeft b ≡ b
+unfolding happened left
+ended-stays b h e = go (nextOutcome b) e
+  where
+    go : (o : Outcome) → _≡_ {A = Happened} Ended (happened (planIn b) (stateIn b) o) → encode (planIn b) (left (stateIn b) o) ≡ b
+    go (did d s') q = absurd (let z : _≡_ {A = ℕ} 0 1 = cc q in omega arith)
+    go ended q = sym (h .canonical)
+    go refused q = absurd (let z : _≡_ {A = ℕ} 0 1 = cc q in omega arith)

@@ -6,22 +6,22 @@ use mathlib.Core.Bool.{Bool, true, false, cond}
 use mathlib.Core.List.{List}
 use native.Mathlib.Omega.{arith}
 use lib.ListN.{length, take}
-use Rattle.ring.specs.Limits.{mostNodes, mostTick}
+use Rattle.limits.specs.Limits.{mostNodes, mostTick}
 use Rattle.ring.specs.Ring.{numbers, listed}
 use Rattle.ring.proofs.Rows.{take-numbers, length-numbers}
 use Rattle.node.specs.declared.Node.{Node}
 use Rattle.node.specs.Node.{Turn, silent, turned, onMessage}
-use Rattle.runfile.specs.Plan.{Plan, planTest}
+use Rattle.plans.specs.Plan.{Plan, planTest}
 use Rattle.model.specs.Platform.{InFlight, State, crashedList, delayOf, nodeOf, received}
-use Rattle.model.specs.Range.{Plain}
-use Rattle.model.proofs.Plans.{accepted}
+use Rattle.plans.specs.Plain.{Plain}
+use Rattle.plans.proofs.Facts.{plan-plain}
 use Rattle.model.proofs.RangesKept.{delay-ok}
 use Rattle.store.specs.Store.{encode, planIn, stateIn}
 use Rattle.store.specs.Inside.{Fits, Held, withTick}
 use Rattle.store.proofs.Store.{plan-encode, state-encode, held-encode}
 use Rattle.store.proofs.States.{tick-fits}
 use Rattle.event.specs.Acting.{Acting}
-use Rattle.event.proofs.Fitting.{ranges}
+use Rattle.plans.proofs.Tests.{ranges}
 use Rattle.event.proofs.Readiness.{acting-accepted}
 use Rattle.event.proofs.Searching.{dead-of, live-of}
 
@@ -68,7 +68,7 @@ module _ (b : List ℕ) (h : Held b) (t : ℕ) (l : t ≤ mostTick) (c : List �
 
 pub delay-few : (b : List ℕ) → Held b → planTest (planIn b) ≡ true → (number : ℕ) → delayOf (planIn b) number ≤ 255
 delay-few b h good number =
-    omega (arith, delay-ok (planIn b) (accepted (planIn b) (h .fits .order) good .plain) number .1, ranges (planIn b) good .d-high)
+    omega (arith, delay-ok (planIn b) (plan-plain (planIn b) good) number .1, ranges (planIn b) good .d-high)
 
 -- ---- a message's turn of its receiver
 
@@ -94,7 +94,8 @@ module _
   turn-dropped h n ne =
       ap turned (ap silent ne ∙ sym (ap turnWhere (dead-of (planIn b) (acting-accepted b a) (stateIn b .done) (m .to) (listed-is ∙ h))))
 
-  pub turn-delivered : l ≡ false → (n : Node) → n ≡ nodeOf (stateIn b) (m .to) → (order : List ℕ) → order ≡ planIn b .order → (w : ℕ) → w ≡ planIn b .w
+  pub turn-delivered : l ≡ false → (n : Node) → n ≡ nodeOf (stateIn b) (m .to) → (order : List ℕ) → order ≡ planIn b .order → (w : ℕ)
+      → w ≡ planIn b .w
       → turned (onMessage order w t (m .to) (m .kind) (m .from) (m .subject) n) ≡ turned (received (planIn b) (stateIn b) t m)
   unfolding received
   turn-delivered h n ne order oe w we =

@@ -7,25 +7,26 @@ use native.Mathlib.Omega.{arith}
 use borrow.Author.Tests.{eqb-true}
 use lib.Dec.{eqb}
 use lib.ListN.{length, getD}
-use Rattle.ring.specs.Ring.{numbers}
-use Rattle.ring.specs.Limits.{mostTick, mostNext}
-use Rattle.runfile.specs.Plan.{Plan, planTest}
+use Rattle.limits.specs.Limits.{mostTick, mostNext, storeSize}
+use Rattle.plans.specs.Plan.{Plan, planTest}
 use Rattle.model.specs.Platform.{State, start, try, left, steps}
-use Rattle.model.specs.Range.{Plain, Accepted, Sound, InRange, storeTest}
+use Rattle.plans.specs.Plain.{Plain}
+use Rattle.model.specs.Range.{Accepted, Sound, InRange, storeTest}
 use Rattle.model.proofs.Bools.{and-split}
-use Rattle.model.proofs.Plans.{accepted, number-order}
+use Rattle.plans.proofs.Facts.{plan-plain}
+use Rattle.model.proofs.Plans.{plan-accepted}
 use Rattle.model.proofs.Tests.{test-store}
 use Rattle.model.proofs.RangesKept.{start-range, steps-range}
 use Rattle.model.proofs.NextNumber.{perTick, next-bound}
 use Rattle.model.proofs.Calls.{steps-add}
 use Rattle.store.specs.Columns.{roomTest, unusedTest}
-use Rattle.store.specs.Store.{storeSize, columns, encode, planIn, stateIn, storeInRange}
+use Rattle.store.specs.Store.{columns, encode, planIn, stateIn, storeInRange}
 use Rattle.store.specs.Inside.{Sized, Fits, Held}
 use Rattle.store.proofs.Store.{plan-encode, state-encode, held-encode, held-read}
 use Rattle.event.specs.Event.{nextOutcome, storeLeft}
 use Rattle.event.specs.Ready.{Ready}
 use Rattle.event.specs.Acting.{Acting}
-use Rattle.event.proofs.Fitting.{sound-fits}
+use Rattle.store.proofs.Fitting.{sound-fits}
 
 -- what a store's readers ask for
 pub held-sized : (b : List ℕ) → Held b → Sized b
@@ -39,13 +40,15 @@ mostReached = mostNext + perTick * (mostTick + 1)
 
 module _ (b : List ℕ) (r : Ready b) where
   pub ready-accepted : Accepted (planIn b)
-  ready-accepted = accepted (planIn b) (r .held .fits .order) (r .plan)
+  ready-accepted = plan-accepted (planIn b) (r .plan)
 
   pub ready-sound : Sound (planIn b) (stateIn b)
   ready-sound = rw (r .is) (steps-range (planIn b) (ready-accepted .plain) (r .tries) (r .from) (r .inRange .sound))
 
   pub ready-next : stateIn b .next ≤ mostReached
-  ready-next = rw (r .is) (bound (next-bound (planIn b) (ready-accepted .plain) mostNext (r .from) (r .inRange .sound) (r .inRange .cap) (r .tries)) (ready-accepted .plain .end≤))
+  ready-next =
+      rw (r .is) (bound (next-bound (planIn b) (ready-accepted .plain) mostNext (r .from) (r .inRange .sound) (r .inRange .cap) (r .tries))
+      (ready-accepted .plain .end≤))
     where
       bound : {a c : ℕ} → a ≤ mostNext + perTick * (c + 1) → c ≤ mostTick → a ≤ mostReached
       bound h e = omega arith
@@ -61,22 +64,22 @@ module _ (b : List ℕ) (r : Ready b) where
 -- what follows for an acting store
 module _ (b : List ℕ) (a : Acting b) where
   pub acting-accepted : Accepted (planIn b)
-  acting-accepted = accepted (planIn b) (a .held .fits .order) (a .plan)
+  acting-accepted = plan-accepted (planIn b) (a .plan)
 
   pub acting-crashes : Sized b × ((planTest (planIn b) ≡ true) × (stateIn b .done ≤ length (planIn b .crashes)))
   acting-crashes = (held-sized b (a .held), (a .plan, a .done))
 
 -- ---- which stores are ready
 
-module _ (p : Plan) (order : p .order ≡ numbers 0 (p .n)) (good : planTest p ≡ true) (s : State) (r : InRange p s) where
+module _ (p : Plan) (good : planTest p ≡ true) (s : State) (r : InRange p s) where
   abbrev plain : Plain p
-  plain = accepted p order good .plain
+  plain = plan-plain p good
 
   -- what k tries leave of a state in range fits the store
   pub steps-fit : (k : ℕ) → Fits p (steps p k s)
   steps-fit k =
       sound-fits p good (steps p k s) (steps-range p plain k s (r .sound))
-      (room (next-bound p plain mostNext s (r .sound) (r .cap) k) (plain .end≤)) order
+      (room (next-bound p plain mostNext s (r .sound) (r .cap) k) (plain .end≤))
     where
       room : {a c : ℕ} → a ≤ mostNext + perTick * (c + 1) → c ≤ mostTick → a < 256 ^ 8
       room h e = omega arith
@@ -90,9 +93,9 @@ module _ (p : Plan) (order : p .order ≡ numbers 0 (p .n)) (good : planTest p �
       record { held = held-encode p (steps p k s) f; plan = rw pe good; from = s; inRange = rw pe r; tries = k; is = rw (pe, se) }
 
 -- a store just opened
-pub opened-ready : (p : Plan) → p .order ≡ numbers 0 (p .n) → planTest p ≡ true → Ready (encode p (start p))
+pub opened-ready : (p : Plan) → planTest p ≡ true → Ready (encode p (start p))
 unfolding steps start
-opened-ready p order good = steps-ready p order good (start p) (record { sound = start-range p (accepted p order good .plain); cap = omega arith }) 0
+opened-ready p good = steps-ready p good (start p) (record { sound = start-range p (plan-plain p good); cap = omega arith }) 0
 
 -- a store that passes number 7
 pub tested-ready : (b : List ℕ) → ((i : ℕ) → getD b i 0 < 256) → storeInRange b ≡ true → Ready b
@@ -106,7 +109,7 @@ tested-ready b byte h =
       held = v;
       plan = (and-split (planTest (planIn b)) _ (t .0)) .0;
       from = stateIn b;
-      inRange = (test-store (planIn b) (stateIn b) (number-order (planIn b) (v .fits .order)) (t .0)) .1;
+      inRange = (test-store (planIn b) (stateIn b) (t .0)) .1;
       tries = 0;
       is = refl;
     }
@@ -114,7 +117,7 @@ tested-ready b byte h =
 -- what an event leaves
 pub left-ready : (b b' : List ℕ) → Ready b → b' ≡ storeLeft b → Ready b'
 unfolding steps
-left-ready b b' r e = rw (e, next) (steps-ready (planIn b) (r .held .fits .order) (r .plan) (r .from) (r .inRange) (r .tries + 1))
+left-ready b b' r e = rw (e, next) (steps-ready (planIn b) (r .plan) (r .from) (r .inRange) (r .tries + 1))
   where
     next : left (stateIn b) (nextOutcome b) ≡ steps (planIn b) (r .tries + 1) (r .from)
     next = ap (λ (s : State). left s (try (planIn b) s)) (r .is) ∙ sym (steps-add (planIn b) (r .tries) 1 (r .from))
@@ -128,4 +131,4 @@ left-holds b b' r e = rw e (plan-encode (planIn b) _ fits, state-encode (planIn 
     next = ap (λ (s : State). left s (try (planIn b) s)) (r .is) ∙ sym (steps-add (planIn b) (r .tries) 1 (r .from))
 
     fits : Fits (planIn b) (left (stateIn b) (nextOutcome b))
-    fits = rw next (steps-fit (planIn b) (r .held .fits .order) (r .plan) (r .from) (r .inRange) (r .tries + 1))
+    fits = rw next (steps-fit (planIn b) (r .plan) (r .from) (r .inRange) (r .tries + 1))

@@ -4,25 +4,27 @@ use Prim.Native.Nat.{ℕ, zero, suc, _+_, _-_, _≤_, _<_}
 use mathlib.Core.Path.{_≡_, refl, sym, ap, _∙_}
 use mathlib.Core.Logic.{_⊎_, inl, inr, _≢_}
 use mathlib.Core.Bool.{Bool, true, false, cond, not}
-use mathlib.Core.List.{List, [], _∷_, _++_, append-assoc, List·Memᴰ, List·Memᴰ·not-nil, List·Memᴰ·cases-cons, List·Memᴰ·head, List·Memᴰ·tail}
+use mathlib.Core.List.{List, [], _∷_, _++_, append-assoc, List·Memᴰ, List·Memᴰ·not-nil, List·Memᴰ·cases-cons, List·Memᴰ·head}
+use mathlib.Core.List.{List·Memᴰ·tail}
 use mathlib.Core.Option.{Option, none, some}
 use native.Mathlib.Numerals.{add-one}
 use native.Mathlib.Omega.{arith}
 use native.Mathlib.Decide.{decLt}
-use borrow.Author.Tests.{lt-ltb, le-ltb, le-leb, lt-leb, eq-eqb, ne-eqb}
+use borrow.Author.Tests.{lt-ltb, le-ltb, le-leb, lt-leb, eq-eqb, ne-eqb, eqb-true, eqb-false}
 use lib.Dec.{eqb, leb}
 use lib.ListN.{length, getD, drop, length-drop, drop-of-length-le}
 use lib.Seq.{drop-cons, getD-drop}
 use Rattle.ring.specs.Ring.{listed, unlisted, count, numbers}
 use Rattle.node.specs.declared.Node.{Node}
 use Rattle.node.specs.Node.{alone}
-use Rattle.runfile.specs.Plan.{Crash, Plan}
-use Rattle.model.specs.Platform.{InFlight, State, Event, Entry, crash, message, watch, heartbeat, alive, survivors, crashedList, crashEntries, messageEntries, timerEntry, timerEntries, pending, earlier, first, upTo, nextEvent, noMessage}
-use Rattle.model.specs.Range.{noCrash, rowAt, Plain, Accepted}
+use Rattle.plans.specs.Plan.{Crash, Plan}
+use Rattle.model.specs.Platform.{InFlight, State, Event, Entry, crash, message, watch, heartbeat, alive, survivors, crashedList, crashEntries}
+use Rattle.model.specs.Platform.{messageEntries, timerEntry, timerEntries, pending, earlier, first, upTo, nextEvent, noMessage}
+use Rattle.plans.specs.Plain.{noCrash, rowAt, Plain}
+use Rattle.model.specs.Range.{Accepted}
 use Rattle.model.proofs.NextEvent.{Under, crashes-in}
-use Rattle.model.proofs.Search.{first-tick, at-tick}
-use Rattle.model.proofs.Search as search
-use Rattle.model.proofs.EventSteps.{keep-ext}
+use Rattle.model.proofs.Search.{under-first}
+use Rattle.ring.proofs.Laws.{keep-ext}
 use Rattle.model.proofs.SettledNode.{crashed-listed}
 use Rattle.event.specs.declared.Next.the-variants.{Nothing}
 use Rattle.event.specs.Event.{nextOf, entry}
@@ -66,7 +68,8 @@ unfolding leastTick
 least-all t [] e m = absurd (List·Memᴰ·not-nil m)
 least-all t (x ∷ xs) e m = go (List·Memᴰ·cases-cons m) (least-all (sooner t (x .tick)) xs e)
   where
-    go : (e ≡ x) ⊎ List·Memᴰ e xs → (List·Memᴰ e xs → leastTick (sooner t (x .tick)) xs ≤ e .tick) → leastTick (sooner t (x .tick)) xs ≤ e .tick
+    go : (e ≡ x) ⊎ List·Memᴰ e xs → (List·Memᴰ e xs → leastTick (sooner t (x .tick)) xs ≤ e .tick)
+        → leastTick (sooner t (x .tick)) xs ≤ e .tick
     go (inl q) ih = rw q (omega (arith, least-le (sooner t (x .tick)) xs, (sooner-le t (x .tick)) .1))
     go (inr q) ih = ih q
 
@@ -78,7 +81,8 @@ unfolding leastTick firstAt
 found-at t [] h = absurd (omega arith)
 found-at t (e ∷ es) h = go (decLt (leastTick (sooner t (e .tick)) es) (sooner t (e .tick))) (found-at (sooner t (e .tick)) es)
   where
-    either : (b : Bool) (f : Entry) → firstAt (leastTick (sooner t (e .tick)) es) es ≡ some f → (g : Entry) × (cond b (some e) (firstAt (leastTick (sooner t (e .tick)) es) es) ≡ some g)
+    either : (b : Bool) (f : Entry) → firstAt (leastTick (sooner t (e .tick)) es) es ≡ some f → (g : Entry)
+        × (cond b (some e) (firstAt (leastTick (sooner t (e .tick)) es) es) ≡ some g)
     either true f q = (e, refl)
     either false f q = (f, q)
 
@@ -86,36 +90,53 @@ found-at t (e ∷ es) h = go (decLt (leastTick (sooner t (e .tick)) es) (sooner 
     here (yes k) l = omega (arith, sooner-taken t (e .tick) k, least-le (sooner t (e .tick)) es)
     here (no k) l = absurd (omega (arith, sooner-kept t (e .tick) (omega arith), h))
 
-    go : Dec (leastTick (sooner t (e .tick)) es < sooner t (e .tick)) → (leastTick (sooner t (e .tick)) es < sooner t (e .tick) → (f : Entry) × (firstAt (leastTick (sooner t (e .tick)) es) es ≡ some f))
+    go : Dec (leastTick (sooner t (e .tick)) es < sooner t (e .tick)) →
+        (leastTick (sooner t (e .tick)) es < sooner t (e .tick) → (f : Entry) × (firstAt (leastTick (sooner t (e .tick)) es) es ≡ some f))
         → (f : Entry) × (cond (eqb (e .tick) (leastTick (sooner t (e .tick)) es)) (some e) (firstAt (leastTick (sooner t (e .tick)) es) es) ≡ some f)
-    go (yes k) ih = let r : (f : Entry) × (firstAt (leastTick (sooner t (e .tick)) es) es ≡ some f) = ih k in either (eqb (e .tick) (leastTick (sooner t (e .tick)) es)) (r .0) (r .1)
+    go (yes k) ih =
+        let r : (f : Entry) × (firstAt (leastTick (sooner t (e .tick)) es) es ≡ some f) = ih k in either (eqb (e .tick) (leastTick (sooner t (e .tick)) es))
+        (r .0) (r .1)
     go (no k) ih = (e, rw (eq-eqb (e .tick) (leastTick (sooner t (e .tick)) es) (here (decLt (e .tick) t) (omega arith))))
 
-same-first : (t : ℕ) (xs : List Entry) → firstAt t xs ≡ search.firstAt t xs
-unfolding firstAt search.firstAt
-same-first t [] = refl
-same-first t (e ∷ es) = ap (λ (o : Option Entry). cond (eqb (e .tick) t) (some e) o) (same-first t es)
-
-under-first : (t : ℕ) (xs : List Entry) → ((e : Entry) → List·Memᴰ e xs → t ≤ e .tick) → Under t (first xs)
-unfolding Under first earlier
-under-first t [] h = tt
-under-first t (x ∷ xs) h = go (first xs) (under-first t xs (λ f m. h f (List·Memᴰ·tail m)))
+at-tick : (t : ℕ) (es : List Entry) (f : Entry) → firstAt t es ≡ some f → f .tick ≡ t
+unfolding firstAt
+at-tick t [] f h = let z : _≡_ {A = ℕ} 0 1 = cc in absurd (omega arith)
+at-tick t (e ∷ es) f h = go (eqb (e .tick) t) refl h (at-tick t es f)
   where
-    two : (g : Entry) (b : Bool) → t ≤ g .tick → t ≤ (cond b x g) .tick
-    two g true u = h x (List·Memᴰ·head refl)
-    two g false u = u
+    go : (b : Bool) → eqb (e .tick) t ≡ b → cond b (some e) (firstAt t es) ≡ some f → (firstAt t es ≡ some f → f .tick ≡ t) → f .tick ≡ t
+    go true q h ih = let z : e ≡ f = cc in rw (← z) (eqb-true (e .tick) t q)
+    go false q h ih = ih h
 
-    go : (r : Option Entry) → Under t r → Under t (some (earlier x r))
-    go none u = h x (List·Memᴰ·head refl)
-    go (some g) u = two g (leb (x .tick) (g .tick)) u
+first-tick : (t : ℕ) (es : List Entry) (f : Entry) → ((e : Entry) → List·Memᴰ e es → t ≤ e .tick) → firstAt t es ≡ some f
+    → first es ≡ some f
+unfolding firstAt first earlier Under
+first-tick t [] f g h = h
+first-tick t (e ∷ es) f g h = go (eqb (e .tick) t) refl h (λ q. first-tick t es f (λ x m. g x (List·Memᴰ·tail m)) q) (at-tick t es f)
+  where
+    stays : (r : Option Entry) → Under (e .tick) r → some (earlier e r) ≡ some e
+    stays none u = refl
+    stays (some x) u = rw (le-leb (e .tick) (x .tick) u)
+
+    go : (b : Bool) → eqb (e .tick) t ≡ b → cond b (some e) (firstAt t es) ≡ some f → (firstAt t es ≡ some f → first es ≡ some f)
+        → (firstAt t es ≡ some f → f .tick ≡ t) → some (earlier e (first es)) ≡ some f
+    go true q h ih tk =
+        let a : e .tick ≡ t = eqb-true (e .tick) t q in
+        stays (first es) (under-first (e .tick) es (λ x m. rw a (g x (List·Memᴰ·tail m)))) ∙ h
+    go false q h ih tk =
+        let ne : e .tick ≢ t = eqb-false (e .tick) t q in
+        let ge : t ≤ e .tick = g e (List·Memᴰ·head refl) in
+        let ft : f .tick ≡ t = tk h in
+        ap (λ (r : Option Entry). some (earlier e r)) (ih h) ∙ ap (λ (b : Bool). some (cond b e f)) (lt-leb (e .tick) (f .tick) (omega arith))
 
 -- the earliest tick is not after the end: the first event at it is the next
 pub at-least : (p : Plan) (s : State) (t : ℕ) → leastTick (suc (p .end)) (pending p s) ≡ t → t ≤ p .end → nextEvent p s ≡ firstAt t (pending p s)
 unfolding nextEvent upTo
 at-least p s t e h =
-    let r : (f : Entry) × (firstAt t (pending p s) ≡ some f) = there (leastTick (suc (p .end)) (pending p s)) e (found-at (suc (p .end)) (pending p s) (omega arith)) in
-    let q : first (pending p s) ≡ some (r .0) = first-tick t (pending p s) (r .0) (λ f m. omega (arith, e, least-all (suc (p .end)) (pending p s) f m)) (sym (same-first t (pending p s)) ∙ r .1) in
-    let k : (r .0) .tick ≡ t = at-tick t (pending p s) (r .0) (sym (same-first t (pending p s)) ∙ r .1) in
+    let r : (f : Entry) × (firstAt t (pending p s) ≡ some f) =
+    there (leastTick (suc (p .end)) (pending p s)) e (found-at (suc (p .end)) (pending p s) (omega arith)) in
+    let q : first (pending p s) ≡ some (r .0) =
+    first-tick t (pending p s) (r .0) (λ f m. omega (arith, e, least-all (suc (p .end)) (pending p s) f m)) (r .1) in
+    let k : (r .0) .tick ≡ t = at-tick t (pending p s) (r .0) (r .1) in
     rw (q, r .1) (ap (λ (b : Bool). cond b (some (r .0)) none) (le-leb ((r .0) .tick) (p .end) (omega arith)))
   where
     there : (m : ℕ) → m ≡ t → (f : Entry) × (firstAt m (pending p s) ≡ some f) → (f : Entry) × (firstAt t (pending p s) ≡ some f)
@@ -135,7 +156,9 @@ none-left p s t e h = go (first (pending p s)) (under-first t (pending p s) (λ 
 -- how many survive, by the crashed list
 pub survivors-count : (p : Plan) → Accepted p → (done : ℕ) → survivors p done ≡ count (p .n) (crashedList p done)
 unfolding survivors count unlisted
-survivors-count p ac done = ap length (keep-ext (alive p done) (λ k. not (listed (crashedList p done) k)) (numbers 0 (p .n)) (λ k. go (alive p done k) (listed (crashedList p done) k) (crashed-listed p ac done k)))
+survivors-count p ac done =
+    ap length (keep-ext (alive p done) (λ k. not (listed (crashedList p done) k)) (numbers 0 (p .n))
+    (λ k. go (alive p done k) (listed (crashedList p done) k) (crashed-listed p ac done k)))
   where
     go : (a d : Bool) → d ≡ not a → a ≡ not d
     go true d e = rw e
@@ -164,31 +187,40 @@ unfolding crashEntries leastTick
 crashes-over p s t h = rw (drop-of-length-le (p .crashes) h)
 
 -- the first undone row is the earliest
-pub crash-first : (p : Plan) → Plain p → (s : State) → s .done < length (p .crashes) → leastTick (suc (p .end)) (crashEntries (drop (s .done) (p .crashes))) ≡ (rowAt p (s .done)) .tick
+pub crash-first : (p : Plan) → Plain p → (s : State) → s .done < length (p .crashes)
+    → leastTick (suc (p .end)) (crashEntries (drop (s .done) (p .crashes))) ≡ (rowAt p (s .done)) .tick
 unfolding crashEntries leastTick
 crash-first p pl s h =
     rw (drop-cons (p .crashes) (s .done) noCrash h)
-    (ap (λ (u : ℕ). leastTick u (crashEntries (drop (suc (s .done)) (p .crashes)))) (sooner-taken (suc (p .end)) ((rowAt p (s .done)) .tick) (omega (arith, pl .tick (s .done) h)))
+    (ap (λ (u : ℕ). leastTick u (crashEntries (drop (suc (s .done)) (p .crashes))))
+    (sooner-taken (suc (p .end)) ((rowAt p (s .done)) .tick) (omega (arith, pl .tick (s .done) h)))
     ∙ least-late ((rowAt p (s .done)) .tick) (crashEntries (drop (suc (s .done)) (p .crashes))) later)
   where
     later : (e : Entry) → List·Memᴰ e (crashEntries (drop (suc (s .done)) (p .crashes))) → (rowAt p (s .done)) .tick ≤ e .tick
     later e m =
-        let w : (i : ℕ) × (i < length (drop (suc (s .done)) (p .crashes))) × (e .tick ≡ (getD (drop (suc (s .done)) (p .crashes)) i noCrash) .tick) = crashes-in (drop (suc (s .done)) (p .crashes)) noCrash e m in
-        let q : e .tick ≡ (rowAt p (suc (s .done) + w .0)) .tick = w .2 ∙ ap (λ (r : Crash). r .tick) (getD-drop (suc (s .done)) (p .crashes) (w .0) noCrash) in
+        let w : (i : ℕ) × (i < length (drop (suc (s .done)) (p .crashes))) × (e .tick ≡ (getD (drop (suc (s .done)) (p .crashes)) i noCrash) .tick) =
+        crashes-in (drop (suc (s .done)) (p .crashes)) noCrash e m in
+        let q : e .tick ≡ (rowAt p (suc (s .done) + w .0)) .tick =
+        w .2 ∙ ap (λ (r : Crash). r .tick) (getD-drop (suc (s .done)) (p .crashes) (w .0) noCrash) in
         rw q (pl .rising (s .done) (suc (s .done) + w .0) (omega arith) (omega (arith, w .1, length-drop (suc (s .done)) (p .crashes))))
 
 -- ---- the earliest tick of messages, one after another
 
 module _ (ms : List InFlight) (i l : ℕ) where
-  message-next : i < length ms → leastTick l (messageEntries i (drop i ms)) ≡ leastTick (sooner l ((getD ms i noMessage) .due)) (messageEntries (i + 1) (drop (i + 1) ms))
+  message-next : i < length ms → leastTick l (messageEntries i (drop i ms)) ≡ leastTick (sooner l ((getD ms i noMessage) .due))
+      (messageEntries (i + 1) (drop (i + 1) ms))
   unfolding messageEntries leastTick
   message-next h = rw (add-one i, drop-cons ms i noMessage h)
 
-  pub message-sooner : (d : ℕ) → i < length ms → d ≡ (getD ms i noMessage) .due → d < l → leastTick l (messageEntries i (drop i ms)) ≡ leastTick d (messageEntries (i + 1) (drop (i + 1) ms))
-  message-sooner d h e k = message-next h ∙ ap (λ (u : ℕ). leastTick u (messageEntries (i + 1) (drop (i + 1) ms))) (ap (sooner l) (sym e) ∙ sooner-taken l d k)
+  pub message-sooner : (d : ℕ) → i < length ms → d ≡ (getD ms i noMessage) .due → d < l
+      → leastTick l (messageEntries i (drop i ms)) ≡ leastTick d (messageEntries (i + 1) (drop (i + 1) ms))
+  message-sooner d h e k =
+      message-next h ∙ ap (λ (u : ℕ). leastTick u (messageEntries (i + 1) (drop (i + 1) ms))) (ap (sooner l) (sym e) ∙ sooner-taken l d k)
 
-  pub message-later : (d : ℕ) → i < length ms → d ≡ (getD ms i noMessage) .due → l ≤ d → leastTick l (messageEntries i (drop i ms)) ≡ leastTick l (messageEntries (i + 1) (drop (i + 1) ms))
-  message-later d h e k = message-next h ∙ ap (λ (u : ℕ). leastTick u (messageEntries (i + 1) (drop (i + 1) ms))) (ap (sooner l) (sym e) ∙ sooner-kept l d k)
+  pub message-later : (d : ℕ) → i < length ms → d ≡ (getD ms i noMessage) .due → l ≤ d
+      → leastTick l (messageEntries i (drop i ms)) ≡ leastTick l (messageEntries (i + 1) (drop (i + 1) ms))
+  message-later d h e k =
+      message-next h ∙ ap (λ (u : ℕ). leastTick u (messageEntries (i + 1) (drop (i + 1) ms))) (ap (sooner l) (sym e) ∙ sooner-kept l d k)
 
   pub messages-over : length ms ≤ i → leastTick l (messageEntries i (drop i ms)) ≡ l
   unfolding messageEntries leastTick
@@ -217,12 +249,15 @@ timer-least t (suc v) e = refl
 
 module _ (p : Plan) (ac : Accepted p) (d : ℕ) (ns : List Node) (x l : ℕ) where
   node-next : (live : Bool) → alive p d x ≡ live → x < length ns
-      → leastTick l (timerEntries p d x (drop x ns)) ≡ leastTick (leastTick l (cond live (timerEntry ((getD ns x (alone x 0)) .watch) (watch x) ++ timerEntry ((getD ns x (alone x 0)) .heartbeat) (heartbeat x)) [])) (timerEntries p d (x + 1) (drop (x + 1) ns))
+      → leastTick l (timerEntries p d x (drop x ns)) ≡ leastTick (leastTick l
+      (cond live (timerEntry ((getD ns x (alone x 0)) .watch) (watch x) ++ timerEntry ((getD ns x (alone x 0)) .heartbeat) (heartbeat x)) []))
+      (timerEntries p d (x + 1) (drop (x + 1) ns))
   unfolding timerEntries
   node-next live e h = rw (add-one x, drop-cons ns x (alone x 0) h, e) (least-append l _ _)
 
   pub live-next : (a : Node) → x < length ns → a ≡ getD ns x (alone x 0) → listed (crashedList p d) x ≡ false
-      → leastTick l (timerEntries p d x (drop x ns)) ≡ leastTick (timerTick (timerTick l (a .watch)) (a .heartbeat)) (timerEntries p d (x + 1) (drop (x + 1) ns))
+      → leastTick l (timerEntries p d x (drop x ns)) ≡ leastTick (timerTick (timerTick l (a .watch)) (a .heartbeat))
+      (timerEntries p d (x + 1) (drop (x + 1) ns))
   live-next a h e un =
       node-next true (live-of p ac d x un) h
       ∙ ap (λ (u : ℕ). leastTick u (timerEntries p d (x + 1) (drop (x + 1) ns)))
@@ -231,7 +266,8 @@ module _ (p : Plan) (ac : Accepted p) (d : ℕ) (ns : List Node) (x l : ℕ) whe
       ∙ timer-least (leastTick l (timerEntry (a .watch) (watch x))) (a .heartbeat) (heartbeat x)
       ∙ ap (λ (u : ℕ). timerTick u (a .heartbeat)) (timer-least l (a .watch) (watch x)))
 
-  pub dead-next : x < length ns → listed (crashedList p d) x ≡ true → leastTick l (timerEntries p d x (drop x ns)) ≡ leastTick l (timerEntries p d (x + 1) (drop (x + 1) ns))
+  pub dead-next : x < length ns → listed (crashedList p d) x ≡ true → leastTick l (timerEntries p d x (drop x ns)) ≡ leastTick l
+      (timerEntries p d (x + 1) (drop (x + 1) ns))
   unfolding leastTick
   dead-next h un = node-next false (dead-of p ac d x un) h
 
@@ -243,11 +279,14 @@ module _ (p : Plan) (ac : Accepted p) (d : ℕ) (ns : List Node) (x l : ℕ) whe
 
 module _ (t : ℕ) (rest : List Entry) where
   module _ (rows : List Crash) (i : ℕ) where
-    pub crash-hit : i < length rows → (getD rows i noCrash) .tick ≡ t → firstAt t (crashEntries (drop i rows) ++ rest) ≡ some (entry t (crash ((getD rows i noCrash) .node)))
+    pub crash-hit : i < length rows → (getD rows i noCrash) .tick ≡ t → firstAt t (crashEntries (drop i rows) ++ rest) ≡ some
+        (entry t (crash ((getD rows i noCrash) .node)))
     unfolding crashEntries firstAt
-    crash-hit h e = rw (drop-cons rows i noCrash h, eq-eqb ((getD rows i noCrash) .tick) t e) (ap (λ (u : ℕ). some (entry u (crash ((getD rows i noCrash) .node)))) e)
+    crash-hit h e =
+        rw (drop-cons rows i noCrash h, eq-eqb ((getD rows i noCrash) .tick) t e) (ap (λ (u : ℕ). some (entry u (crash ((getD rows i noCrash) .node)))) e)
 
-    pub crash-skip : i < length rows → (getD rows i noCrash) .tick ≢ t → firstAt t (crashEntries (drop i rows) ++ rest) ≡ firstAt t (crashEntries (drop (i + 1) rows) ++ rest)
+    pub crash-skip : i < length rows → (getD rows i noCrash) .tick ≢ t
+        → firstAt t (crashEntries (drop i rows) ++ rest) ≡ firstAt t (crashEntries (drop (i + 1) rows) ++ rest)
     unfolding crashEntries firstAt
     crash-skip h e = rw (add-one i, drop-cons rows i noCrash h, ne-eqb ((getD rows i noCrash) .tick) t e)
 
@@ -260,7 +299,8 @@ module _ (t : ℕ) (rest : List Entry) where
     unfolding messageEntries firstAt
     message-hit h e = rw (drop-cons ms i noMessage h, eq-eqb ((getD ms i noMessage) .due) t e) (ap (λ (u : ℕ). some (entry u (message i))) e)
 
-    pub message-skip : i < length ms → (getD ms i noMessage) .due ≢ t → firstAt t (messageEntries i (drop i ms) ++ rest) ≡ firstAt t (messageEntries (i + 1) (drop (i + 1) ms) ++ rest)
+    pub message-skip : i < length ms → (getD ms i noMessage) .due ≢ t → firstAt t (messageEntries i (drop i ms) ++ rest) ≡ firstAt t
+        (messageEntries (i + 1) (drop (i + 1) ms) ++ rest)
     unfolding messageEntries firstAt
     message-skip h e = rw (add-one i, drop-cons ms i noMessage h, ne-eqb ((getD ms i noMessage) .due) t e)
 
@@ -282,21 +322,27 @@ module _ (p : Plan) (ac : Accepted p) (d : ℕ) (ns : List Node) (t x : ℕ) (a 
   abbrev Others : List Entry
   Others = timerEntries p d (x + 1) (drop (x + 1) ns)
 
-  mine : listed (crashedList p d) x ≡ false → timerEntries p d x (drop x ns) ≡ timerEntry (a .watch) (watch x) ++ (timerEntry (a .heartbeat) (heartbeat x) ++ Others)
+  mine : listed (crashedList p d) x ≡ false → timerEntries p d x (drop x ns) ≡ timerEntry (a .watch) (watch x) ++
+      (timerEntry (a .heartbeat) (heartbeat x) ++ Others)
   unfolding timerEntries
-  mine un = rw (add-one x, drop-cons ns x (alone x 0) h, live-of p ac d x un, is) (append-assoc (timerEntry ((getD ns x (alone x 0)) .watch) (watch x)) (timerEntry ((getD ns x (alone x 0)) .heartbeat) (heartbeat x)) _)
+  mine un =
+      rw (add-one x, drop-cons ns x (alone x 0) h, live-of p ac d x un, is)
+      (append-assoc (timerEntry ((getD ns x (alone x 0)) .watch) (watch x)) (timerEntry ((getD ns x (alone x 0)) .heartbeat) (heartbeat x)) _)
 
   pub watch-hit : listed (crashedList p d) x ≡ false → a .watch ≡ t + 1 → firstAt t (timerEntries p d x (drop x ns)) ≡ some (entry t (watch x))
   watch-hit un e = ap (firstAt t) (mine un) ∙ timer-hit t _ (a .watch) (watch x) e
 
-  pub beat-hit : listed (crashedList p d) x ≡ false → a .watch ≢ t + 1 → a .heartbeat ≡ t + 1 → firstAt t (timerEntries p d x (drop x ns)) ≡ some (entry t (heartbeat x))
+  pub beat-hit : listed (crashedList p d) x ≡ false → a .watch ≢ t + 1 → a .heartbeat ≡ t + 1
+      → firstAt t (timerEntries p d x (drop x ns)) ≡ some (entry t (heartbeat x))
   beat-hit un n e = ap (firstAt t) (mine un) ∙ timer-skip t _ (a .watch) (watch x) n ∙ timer-hit t _ (a .heartbeat) (heartbeat x) e
 
-  pub live-skip : listed (crashedList p d) x ≡ false → a .watch ≢ t + 1 → a .heartbeat ≢ t + 1 → firstAt t (timerEntries p d x (drop x ns)) ≡ firstAt t Others
+  pub live-skip : listed (crashedList p d) x ≡ false → a .watch ≢ t + 1 → a .heartbeat ≢ t + 1
+      → firstAt t (timerEntries p d x (drop x ns)) ≡ firstAt t Others
   live-skip un n e = ap (firstAt t) (mine un) ∙ timer-skip t _ (a .watch) (watch x) n ∙ timer-skip t _ (a .heartbeat) (heartbeat x) e
 
 module _ (p : Plan) (ac : Accepted p) (d : ℕ) (ns : List Node) (t x : ℕ) where
-  pub dead-skip : x < length ns → listed (crashedList p d) x ≡ true → firstAt t (timerEntries p d x (drop x ns)) ≡ firstAt t (timerEntries p d (x + 1) (drop (x + 1) ns))
+  pub dead-skip : x < length ns → listed (crashedList p d) x ≡ true → firstAt t (timerEntries p d x (drop x ns)) ≡ firstAt t
+      (timerEntries p d (x + 1) (drop (x + 1) ns))
   unfolding timerEntries
   dead-skip h un = rw (add-one x, drop-cons ns x (alone x 0) h, dead-of p ac d x un)
 
@@ -323,7 +369,8 @@ module _ (p : Plan) (d dead x : ℕ) (r : Bool) (is : r ≡ listed dead x) (e : 
 
 -- ---- the whole search
 
-module _ (p : Plan) (s : State) (c m t : ℕ) (crashes : c ≡ leastTick (suc (p .end)) (crashEntries (drop (s .done) (p .crashes)))) (messages : m ≡ leastTick c (messageEntries 0 (s .flight))) (timers : t ≡ leastTick m (timerEntries p (s .done) 0 (s .nodes))) where
+module _ (p : Plan) (s : State) (c m t : ℕ) (crashes : c ≡ leastTick (suc (p .end)) (crashEntries (drop (s .done) (p .crashes))))
+    (messages : m ≡ leastTick c (messageEntries 0 (s .flight))) (timers : t ≡ leastTick m (timerEntries p (s .done) 0 (s .nodes))) where
   earliest : leastTick (suc (p .end)) (pending p s) ≡ t
   unfolding pending
   earliest =

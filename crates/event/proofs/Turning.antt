@@ -1,30 +1,28 @@
 -- What a turn of a node writes, and what each event leaves. Assumes nothing.
-use Prim.Native.Nat.{ℕ, zero, suc, _+_, _*_, _^_, _≤_, _<_}
+use Prim.Native.Nat.{ℕ, zero, suc, _+_, _^_, _≤_, _<_}
 use mathlib.Core.Path.{_≡_, refl, sym, ap, ap₂, subst, _∙_}
-use mathlib.Core.Bool.{Bool, true, false, cond, _||_}
+use mathlib.Core.Bool.{Bool, true, false, cond}
 use mathlib.Core.List.{List, [], _∷_, _++_, append-nil, append-assoc}
 use mathlib.Core.Option.{some}
 use native.Mathlib.Nat.{add-zero}
 use native.Mathlib.Numerals.{add-one}
 use native.Mathlib.Omega.{arith}
 use borrow.Author.Tests.{le-leb, lt-leb}
-use lib.Dec.{eqb}
-use lib.ListN.{length, getD, take, length-append, length-take, length-map}
+use lib.ListN.{length, getD, take, length-append, length-take}
 use lib.Seq.{getD-set-same}
-use Rattle.ring.specs.Ring.{listed, listing, place, back, targets}
-use Rattle.ring.proofs.Counts.{targets-few}
-use Rattle.node.specs.declared.Node.{Node}
 use Rattle.node.specs.declared.Message.{Message}
 use Rattle.node.specs.declared.Turned.{Turned}
-use Rattle.node.specs.Node.{Turn, H, O, mostSent, due, silent, alone, reports, places, turned, onHeartbeat, onObserver, onReport, onMessage, onWatchDue, onHeartbeatDue}
-use Rattle.logline.specs.declared.Line.{Line}
-use Rattle.ring.specs.Limits.{mostNodes, mostInFlight}
-use Rattle.runfile.specs.Plan.{Plan, planTest}
-use Rattle.model.specs.Platform.{InFlight, State, Event, Entry, watch, heartbeat, alive, delayOf, nextEvent, numbered, nodeOf, taken, received, apply, fits, did, refused, tried, try, left}
-use Rattle.model.specs.Range.{Plain}
+use Rattle.node.specs.Node.{Turn, silent, alone, places, turned, onMessage}
+use Rattle.node.proofs.Sends.{message-few}
+use Rattle.limits.specs.Limits.{mostSent, mostNodes, mostInFlight}
+use Rattle.plans.specs.Plan.{Plan, planTest}
+use Rattle.model.specs.Platform.{InFlight, State, Event, Entry, alive, delayOf, nextEvent, numbered, nodeOf, taken, received, apply, fits, did, refused}
+use Rattle.model.specs.Platform.{tried, try, left}
+use Rattle.plans.specs.Plain.{Plain}
 use Rattle.model.proofs.NextEvent.{Chosen, Best, best}
-use Rattle.model.specs.Lines.{lineOf}
-use Rattle.model.proofs.Plans.{accepted}
+use Rattle.model.specs.declared.Deed.{Deed}
+use Rattle.model.specs.Lines.{deedOf}
+use Rattle.plans.proofs.Facts.{plan-plain}
 use Rattle.store.specs.Store.{encode, planIn, stateIn}
 use Rattle.store.specs.Inside.{Fits, Held, withFlight, withMessage, numberTaken, withTick, withNode}
 use Rattle.store.proofs.Store.{plan-encode, state-encode, held-encode}
@@ -66,7 +64,8 @@ module _ (p : Plan) (t x : ℕ) where
       rw (add-one i, a, b, e, numbered-more ms (s .next) i z h, append-assoc)
 
   -- a turn in three parts: the tick, the node, the messages
-  turn-parts : (s : State) (u : Turned) → sending p (withNode (withTick s t) x (u .node)) t x (take (u .count) (u .sent)) ≡ taken p s t x (s .flight) (turnOf u)
+  turn-parts : (s : State) (u : Turned)
+      → sending p (withNode (withTick s t) x (u .node)) t x (take (u .count) (u .sent)) ≡ taken p s t x (s .flight) (turnOf u)
   unfolding sending withNode withTick taken turnOf
   turn-parts s u = refl
 
@@ -119,63 +118,28 @@ module _ (p : Plan) (s : State) (t : ℕ) (ev : Event) (next : nextEvent p s ≡
 
 -- ---- answers
 
-pub refused-answer : (p : Plan) (s : State) (b : List ℕ) → b ≡ encode p s → try p s ≡ refused → (_≡_ {A = Happened} Refused (happened p s (try p s))) × (b ≡ encode p (left s (try p s)))
+pub refused-answer : (p : Plan) (s : State) (b : List ℕ) → b ≡ encode p s → try p s ≡ refused
+    → (_≡_ {A = Happened} Refused (happened p s (try p s))) × (b ≡ encode p (left s (try p s)))
 unfolding happened left
 refused-answer p s b e h = rw h (refl, e)
 
-pub did-answer : (p : Plan) (s : State) (b : List ℕ) (l : Line) (e : Entry) (s' : State) → try p s ≡ did e s' → b ≡ encode p s' → l ≡ lineOf p s s' (e .tick) (e .event) → (Did l ≡ happened p s (try p s)) × (b ≡ encode p (left s (try p s)))
+pub did-answer : (p : Plan) (s : State) (b : List ℕ) (a : Deed) (e : Entry) (s' : State) → try p s ≡ did e s' → b ≡ encode p s'
+    → a ≡ deedOf p s s' (e .tick) (e .event) → (Did a ≡ happened p s (try p s)) × (b ≡ encode p (left s (try p s)))
 unfolding happened left
-did-answer p s b l e s' h q k = rw h (ap Did k, q)
+did-answer p s b a e s' h q k = rw h (ap Did k, q)
 
 -- ---- how many messages a turn sends
 
-module _ (order : List ℕ) (few : length order ≤ mostNodes) where
-  reports-few : (k d x : ℕ) → length (reports k (targets order d x)) ≤ 6
-  unfolding reports
-  reports-few k d x = rw length-map (targets-few order d x few)
-
-  pub watch-few : (w t x : ℕ) (n : Node) → length ((onWatchDue order w t x n) .sends) ≤ mostSent
-  unfolding onWatchDue
-  watch-few w t x n = go (eqb (back order (listing (n .list) (n .emitter)) (place order (n .emitter))) x)
-    where
-      go : (c : Bool) → length ((cond c (silent (alone x (listing (n .list) (n .emitter)))) (record {
-        node = record { emitter = back order (listing (n .list) (n .emitter)) (place order (n .emitter)); observer = n .observer; watch = due (t + 2 * w); heartbeat = n .heartbeat; list = listing (n .list) (n .emitter) };
-        sends = record { kind = O; to = back order (listing (n .list) (n .emitter)) (place order (n .emitter)); subject = 0 } ∷ reports (n .emitter) (targets order (listing (n .list) (n .emitter)) (place order x));
-      })) .sends) ≤ mostSent
-      go true = omega arith
-      go false = omega (arith, reports-few (n .emitter) (listing (n .list) (n .emitter)) (place order x))
-
-  report-few : (x k : ℕ) (n : Node) → length ((onReport order x k n) .sends) ≤ mostSent
-  unfolding onReport
-  report-few x k n = go (listed (n .list) k || eqb k x)
-    where
-      go : (c : Bool) → length ((cond c (silent n) (record {
-        node = record { emitter = n .emitter; observer = n .observer; watch = n .watch; heartbeat = n .heartbeat; list = listing (n .list) k };
-        sends = reports k (targets order (listing (n .list) k) (place order x));
-      })) .sends) ≤ mostSent
-      go true = omega arith
-      go false = omega (arith, reports-few k (listing (n .list) k) (place order x))
-
-  message-few : (w t x kind from subject : ℕ) (n : Node) → length ((onMessage order w t x kind from subject n) .sends) ≤ mostSent
-  unfolding onMessage onHeartbeat onObserver
-  message-few w t x kind from subject n = go (eqb kind H) (eqb kind O)
-    where
-      go : (c d : Bool) → length ((cond c (onHeartbeat w t from n) (cond d (onObserver t from n) (onReport order x subject n))) .sends) ≤ mostSent
-      go true d = omega arith
-      go false true = omega arith
-      go false false = report-few x subject n
-
-pub received-few : (p : Plan) → length (p .order) ≤ mostNodes → (s : State) (t : ℕ) (m : InFlight) → length ((received p s t m) .sends) ≤ mostSent
+pub received-few : (p : Plan) → length (p .order) ≤ mostNodes → (s : State) (t : ℕ) (m : InFlight)
+    → length ((received p s t m) .sends) ≤ mostSent
 unfolding received
-received-few p few s t m = go (alive p (s .done) (m .to))
+received-few p few s t m =
+    go (alive p (s .done) (m .to)) (onMessage (p .order) (p .w) t (m .to) (m .kind) (m .from) (m .subject) (nodeOf s (m .to)))
+    (message-few (p .order) few (p .w) t (m .to) (m .kind) (m .from) (m .subject) (nodeOf s (m .to)))
   where
-    go : (c : Bool) → length ((cond c (onMessage (p .order) (p .w) t (m .to) (m .kind) (m .from) (m .subject) (nodeOf s (m .to))) (silent (nodeOf s (m .to)))) .sends) ≤ mostSent
-    go true = message-few (p .order) few (p .w) t (m .to) (m .kind) (m .from) (m .subject) (nodeOf s (m .to))
-    go false = omega arith
-
-pub beat-few : (h t : ℕ) (n : Node) → length ((onHeartbeatDue h t n) .sends) ≤ mostSent
-unfolding onHeartbeatDue
-beat-few h t n = omega arith
+    go : (c : Bool) (u : Turn) → length (u .sends) ≤ mostSent → length ((cond c u (silent (nodeOf s (m .to)))) .sends) ≤ mostSent
+    go true u h = h
+    go false u h = omega arith
 
 -- ---- a message stamped and joined
 
@@ -197,7 +161,12 @@ module _ (b₀ : List ℕ) (t x : ℕ) (u : Turned) where
   At i = sending (planIn b₀) (stateIn b₀) t x (take i (u .sent))
 
   pub sending-starts : Held b₀ → Sending b₀ t x (u .sent) 0 b₀
-  sending-starts h = record { is = rw (sending-none (planIn b₀) t x (stateIn b₀) (u .sent)) (h .canonical); fits = rw (sending-none (planIn b₀) t x (stateIn b₀) (u .sent)) (h .fits) }
+  sending-starts h =
+      record {
+        is = rw (sending-none (planIn b₀) t x (stateIn b₀) (u .sent)) (h .canonical);
+        fits = rw (sending-none (planIn b₀) t x (stateIn b₀) (u .sent))
+            (h .fits);
+      }
 
   module _ (r : Turns b₀ t x u) (i : ℕ) (b : List ℕ) (h : Sending b₀ t x (u .sent) i b) where
     pub sending-held : Held b
@@ -213,7 +182,7 @@ module _ (b₀ : List ℕ) (t x : ℕ) (u : Turned) where
     sending-test = ap planTest sending-plan ∙ r .plan
 
     plain : Plain (planIn b₀)
-    plain = accepted (planIn b₀) (r .held .fits .order) (r .plan) .plain
+    plain = plan-plain (planIn b₀) (r .plan)
 
     sending-delay : (number : ℕ) → delayOf (planIn b) number ≤ 255
     sending-delay number = delay-few b sending-held sending-test number
@@ -253,7 +222,8 @@ module _ (b₀ : List ℕ) (t x : ℕ) (u : Turned) where
           same : joined (planIn b) (stateIn b) t x m ≡ At (i + 1)
           same =
               ap₂ (λ (q : Plan) (s : State). joined q s t x m) sending-plan sending-state
-              ∙ (ap (joined (planIn b₀) (At i) t x) is ∙ sym (sending-more (planIn b₀) t x (stateIn b₀) (u .sent) i z (omega (arith, r .few, r .full))))
+              ∙
+              (ap (joined (planIn b₀) (At i) t x) is ∙ sym (sending-more (planIn b₀) t x (stateIn b₀) (u .sent) i z (omega (arith, r .few, r .full))))
 
           joined-fits : Fits (planIn b) (joined (planIn b) (stateIn b) t x m)
           joined-fits =
@@ -270,8 +240,10 @@ module _ (b₀ : List ℕ) (t x : ℕ) (u : Turned) where
           }
 
 -- the whole of it
-pub sending-all : (b₀ : List ℕ) (t x : ℕ) (ms : List Message) (i k : ℕ) (b : List ℕ) → i ≤ k → k ≤ i → Sending b₀ t x ms i b → b ≡ encode (planIn b₀) (sending (planIn b₀) (stateIn b₀) t x (take k ms))
-sending-all b₀ t x ms i k b a c h = let e : i ≡ k = omega arith in h .is ∙ ap (λ (j : ℕ). encode (planIn b₀) (sending (planIn b₀) (stateIn b₀) t x (take j ms))) e
+pub sending-all : (b₀ : List ℕ) (t x : ℕ) (ms : List Message) (i k : ℕ) (b : List ℕ) → i ≤ k → k ≤ i → Sending b₀ t x ms i b
+    → b ≡ encode (planIn b₀) (sending (planIn b₀) (stateIn b₀) t x (take k ms))
+sending-all b₀ t x ms i k b a c h =
+    let e : i ≡ k = omega arith in h .is ∙ ap (λ (j : ℕ). encode (planIn b₀) (sending (planIn b₀) (stateIn b₀) t x (take j ms))) e
 
 -- ---- a turn's parts on a store
 

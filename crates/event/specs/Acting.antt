@@ -6,7 +6,7 @@ use mathlib.Core.Path.{_≡_}
 use Prim.Native.Nat.{ℕ, _+_, _≤_, _<_}
 use lib.ListN.{length}
 use Rattle.node.specs.declared.Message.{Message}
-use Rattle.runfile.specs.Plan.{Plan, planTest}
+use Rattle.plans.specs.Plan.{Plan, planTest}
 use Rattle.model.specs.Platform.{InFlight, State, delayOf, nodeOf}
 use Rattle.store.specs.Store.{planIn, stateIn}
 use Rattle.store.specs.Inside.{Held, withMessage, numberTaken}

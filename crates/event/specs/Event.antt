@@ -8,11 +8,11 @@ use Prim.Native.Nat.{ℕ, _+_, _^_, _≤_, _<_}
 use lib.ListN.{length, getD, take}
 use Rattle.node.specs.declared.Message.{Message}
 use Rattle.node.specs.declared.Turned.{Turned}
-use Rattle.ring.specs.Limits.{mostTick, mostInFlight}
-use Rattle.node.specs.Node.{Turn, mostSent}
-use Rattle.runfile.specs.Plan.{Plan, planTest}
+use Rattle.limits.specs.Limits.{mostTick, mostInFlight, mostSent}
+use Rattle.node.specs.Node.{Turn}
+use Rattle.plans.specs.Plan.{Plan, planTest}
 use Rattle.model.specs.Platform.{State, Event, Entry, Outcome, crash, message, watch, heartbeat, did, ended, refused, numbered, nextEvent, taken, try, left}
-use Rattle.model.specs.Lines.{lineOf, lastLine}
+use Rattle.model.specs.Lines.{deedOf}
 use Rattle.store.specs.Store.{encode, planIn, stateIn}
 use Rattle.store.specs.Inside.{Held, SmallNode}
 use Rattle.event.specs.declared.Next.{Next}
@@ -36,11 +36,11 @@ unfoldable pub nextOf : Option Entry → Next
 nextOf none = Nothing
 nextOf (some e) = nextAt (e .tick) (e .event)
 
--- ---- what became of a try: the event's line, the last line where none is left, or number 8
+-- ---- what became of a try: what the event did, or that none is left, or number 8
 
 unfoldable pub happened : Plan → State → Outcome → Happened
-happened p s (did e s') = Did (lineOf p s s' (e .tick) (e .event))
-happened p s ended = Ended (lastLine p s)
+happened p s (did e s') = Did (deedOf p s s' (e .tick) (e .event))
+happened p s ended = Ended
 happened p s refused = Refused
 
 -- ---- the next try of a store: its event, what it leads to, what the code answers of it, and the store that it leaves

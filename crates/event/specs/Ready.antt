@@ -3,7 +3,7 @@ use mathlib.Core.Bool.{true}
 use mathlib.Core.List.{List}
 use mathlib.Core.Path.{_≡_}
 use Prim.Native.Nat.{ℕ}
-use Rattle.runfile.specs.Plan.{planTest}
+use Rattle.plans.specs.Plan.{planTest}
 use Rattle.model.specs.Platform.{State, steps}
 use Rattle.model.specs.Range.{InRange}
 use Rattle.store.specs.Store.{planIn, stateIn}

@@ -55,10 +55,10 @@ pub fn do_message(s: &mut [u8], t: u32, i: usize) -> Happened
     if layout::MOST_IN_FLIGHT < messages::message_count(s) - 1 + u.count {
         return Happened::Refused;
     }
-    let line = turn::message_line(t, m, ring::is_listed(dead, m.to), u.node.list);
+    let deed = turn::message_deed(t, m, ring::is_listed(dead, m.to), u.node.list);
     messages::take_message(s, i);
     take_turn(s, t, m.to, u);
-    Happened::Did(line)
+    Happened::Did(deed)
 }
 
 // Watch due: the emitter is listed.
@@ -71,9 +71,9 @@ pub fn do_watch(s: &mut [u8], t: u32, x: usize) -> Happened
     if layout::MOST_IN_FLIGHT < messages::message_count(s) + u.count {
         return Happened::Refused;
     }
-    let line = turn::watch_line(s, t, x, u);
+    let deed = turn::watch_deed(s, t, x, u);
     take_turn(s, t, x as u8, u);
-    Happened::Did(line)
+    Happened::Did(deed)
 }
 
 // Heartbeat due: it is sent to the observer.
@@ -86,7 +86,7 @@ pub fn do_heartbeat(s: &mut [u8], t: u32, x: usize) -> Happened
     if layout::MOST_IN_FLIGHT < messages::message_count(s) + u.count {
         return Happened::Refused;
     }
-    let line = turn::heartbeat_line(s, t, x, u);
+    let deed = turn::heartbeat_deed(s, t, x, u);
     take_turn(s, t, x as u8, u);
-    Happened::Did(line)
+    Happened::Did(deed)
 }

@@ -1,11 +1,11 @@
 // One event of the platform, done in place on the bytes of a store. It asks for a store that opening, steps and runs lead to, and makes
 // no test of the whole store.
 pub mod search; // search.rt: the next event
-pub mod turn; // turn.rt: what an event does to its node, what it sends and its line
+pub mod turn; // turn.rt: what an event does to its node, what it sends and what is told of it
+pub mod lines; // lines.rt: the lines of an event, and the last line
 mod act; // act.rt: the events of a store that holds its messages in flight
 
-use logline::Line;
-use store::messages;
+use model::Deed;
 ghost use mathlib.Core.Path.{_≡_};
 ghost use Rattle.event.specs.Event.{nextAnswer, storeLeft};
 ghost use Rattle.event.specs.Ready.{Ready};
@@ -19,11 +19,10 @@ pub enum Next {
     Nothing,
 }
 
-// What became of a try: an event was done, and this is its line; none is left up to the end tick, and this is the last line; or more
-// than 2,048 messages would be in flight.
+// What became of a try: an event did this; none is left up to the end tick; or more than 2,048 messages would be in flight.
 pub enum Happened {
-    Did(Line),
-    Ended(Line),
+    Did(Deed),
+    Ended,
     Refused,
 }
 
@@ -37,6 +36,6 @@ pub fn do_event(s: &mut [u8]) -> Happened
         Next::Message(t, i) => act::do_message(s, t, i),
         Next::Watch(t, x) => act::do_watch(s, t, x),
         Next::Heartbeat(t, x) => act::do_heartbeat(s, t, x),
-        Next::Nothing => Happened::Ended(search::last_line(s, messages::message_count(s) as u64)),
+        Next::Nothing => Happened::Ended,
     }
 }

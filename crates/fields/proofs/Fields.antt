@@ -56,7 +56,8 @@ module _ (s : List ℕ) (at : ℕ) where
   field-lt width h = value-lt width (drop at s) (λ i. rw (getD-drop at s i 0) (h (at + i)))
 
   -- the bytes of a field's number are those that stand there
-  pub bytes-field : (width : ℕ) → ((i : ℕ) → getD s i 0 < 256) → at + width ≤ length s → bytes width (fieldAt s at width) ≡ take width (drop at s)
+  pub bytes-field : (width : ℕ) → ((i : ℕ) → getD s i 0 < 256) → at + width ≤ length s
+      → bytes width (fieldAt s at width) ≡ take width (drop at s)
   unfolding fieldAt
   bytes-field width h l =
       let n : length (take width (drop at s)) ≡ width = length-take-le width (drop at s) (rw (length-drop at s) (omega arith)) in
@@ -119,6 +120,10 @@ field-part a b at width x e h =
 pub got-fits : (width x i : ℕ) → x < 256 ^ (width - i) → i ≤ 0 → x < 256 ^ width
 got-fits width x i h k = let e : i ≡ 0 = omega arith in rw (e, sub-zero) at h
 
+-- what has been read leaves room for another byte
+pub got-room : (width x i : ℕ) → x < 256 ^ (width - i) → 0 < i → width ≤ 8 → x < 72057594037927936
+got-room width x i h k w = le-trans h (pow-le-pow-right {n = 256} (lit< tt) {j = 7} (omega arith))
+
 module _ (s : List ℕ) (at width : ℕ) where
   pub got-start : 0 ≡ fieldAt s (at + width) (width - width)
   got-start = rw (sub-self width) (sym (field-none s (at + width)))
@@ -133,17 +138,14 @@ module _ (s : List ℕ) (at width : ℕ) where
   pub got-end : (i : ℕ) → i ≤ 0 → fieldAt s (at + i) (width - i) ≡ fieldAt s at width
   got-end i h = let e : i ≡ 0 = omega arith in rw (e, sub-zero, add-zero)
 
-  -- what has been read leaves room for another byte
-  pub got-room : (i : ℕ) → 0 < i → width ≤ 8 → ((k : ℕ) → getD s k 0 < 256) → fieldAt s (at + i) (width - i) < 72057594037927936
-  got-room i h hw hb = le-trans (field-lt s (at + i) (width - i) hb) (pow-le-pow-right {n = 256} (lit< tt) {j = 7} (omega arith))
-
 -- ---- the loop of `put`, from the lowest byte up
 
 module _ (s : List ℕ) (at width x : ℕ) where
   pub put-start : putAt s at width x ≡ putAt s (at + 0) (width - 0) x
   put-start = rw (sub-zero, add-zero)
 
-  pub put-turn : (i : ℕ) → i < width → putAt s (at + i) (width - i) x ≡ putAt (set s (at + i) (x % 256)) (at + (i + 1)) (width - (i + 1)) (x / 256)
+  pub put-turn : (i : ℕ) → i < width
+      → putAt s (at + i) (width - i) x ≡ putAt (set s (at + i) (x % 256)) (at + (i + 1)) (width - (i + 1)) (x / 256)
   unfolding putAt bytes
   put-turn i h =
       let e : width - i ≡ suc (width - (i + 1)) = omega arith in

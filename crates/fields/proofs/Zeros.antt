@@ -1,6 +1,6 @@
 -- Parts that are zero. Assumes nothing.
 use mathlib.Core.Path.{_≡_, refl, sym, ap, ap₂}
-use mathlib.Core.Bool.{Bool, true, false, true≢false, _&&_}
+use mathlib.Core.Bool.{true, false, and-eq-true-iff}
 use mathlib.Core.List.{List, [], _∷_, _++_, append-nil}
 use Prim.Native.Nat.{ℕ, zero, suc, _+_, _-_, _≤_, _<_}
 use native.Mathlib.Nat.{sub-self}
@@ -16,11 +16,9 @@ use Rattle.fields.specs.Fields.{cleared, zeros}
 pub zeros-all : (l : List ℕ) → zeros l ≡ true → l ≡ replicate (length l) 0
 unfolding zeros
 zeros-all [] h = refl
-zeros-all (x ∷ l) h = go (eqb x 0) refl h (λ e. zeros-all l e)
-  where
-    go : (b : Bool) → eqb x 0 ≡ b → (b && zeros l) ≡ true → (zeros l ≡ true → l ≡ replicate (length l) 0) → x ∷ l ≡ 0 ∷ replicate (length l) 0
-    go true e z rest = ap₂ (λ (a : ℕ) (m : List ℕ). a ∷ m) (eqb-true x 0 e) (rest z)
-    go false e z rest = let f : true ≡ false = sym z in absurd (true≢false f)
+zeros-all (x ∷ l) h =
+    let both = and-eq-true-iff (eqb x 0) _ .0 h in
+    ap₂ (λ (a : ℕ) (m : List ℕ). a ∷ m) (eqb-true x 0 (both .0)) (zeros-all l (both .1))
 
 pub zeros-replicate : (n : ℕ) → zeros (replicate n 0) ≡ true
 unfolding zeros

@@ -1,6 +1,6 @@
 -- A call on a record in range, at a tick and with a message that are taken and a part that is long enough, is accepted, and does
 -- the turn of the record's node. Assumes nothing.
-use mathlib.Core.Path.{_≡_, refl, sym, _∙_}
+use mathlib.Core.Path.{_≡_, refl, _∙_}
 use mathlib.Core.Bool.{true, false}
 use mathlib.Core.List.{List}
 use Prim.Native.Nat.{ℕ, _+_, _≤_, _<_}
@@ -8,49 +8,39 @@ use native.Mathlib.Omega.{arith}
 use native.Mathlib.Decide.{ℕ-discrete}
 use borrow.Author.Tests.{eq-eqb, lt-ltb, le-leb, lt-leb}
 use lib.ListN.{length}
-use Rattle.ring.specs.Limits.{mostNodes, mostH, mostW, mostTick}
+use Rattle.limits.specs.Limits.{mostNodes, mostH, mostW, mostTick, mostSent, recordSize, partSize}
 use Rattle.ring.specs.Ring.{numbers}
-use Rattle.node.specs.Node.{Turn, mostSent, R, due, message, onWatchDue, onHeartbeatDue}
+use Rattle.node.specs.Node.{Turn, R, due, onWatchDue, onHeartbeatDue}
+use Rattle.node.specs.Range.{Known}
 use Rattle.host.specs.declared.Record.{Record}
-use Rattle.host.specs.Record.{recordSize, encode, decode, openable, sound}
-use Rattle.host.specs.Call.{accepted, tickTaken, messageTaken, partSize, putMessages, moved, recordAfter, partAfter}
+use Rattle.host.specs.Record.{encode, decode, sound}
+use Rattle.limits.specs.Refusals.{accepted}
+use Rattle.host.specs.Call.{tickTaken, messageTaken, putMessages, recordAfter, partAfter, withTurn}
 use Rattle.host.specs.Call.{openAnswer, openedRecord, openLeaves, delivered, deliverAnswer, deliverLeaves, deliverSends}
 use Rattle.host.specs.Call.{dueBy, fired, timersAnswer, timersLeaves, timersSends}
-use Rattle.host.proofs.Facts.{Kind, Openable, sound-facts}
-use Rattle.host.proofs.Calls.{answer-accepted, delivered-few, fired-few}
+use Rattle.host.proofs.Facts.{Openable, facts-openable, InRange, sound-facts, MessageTaken, facts-message}
+use Rattle.host.proofs.Calls.{answer-accepted}
 use Rattle.host.proofs.Tests.{due-off, due-on}
-use Rattle.host.proofs.Sent.{sent-is-taken}
+use Rattle.host.proofs.Turns.{delivered-takes, fired-takes}
 
 -- ---- opening
-
-openable-of : (number nodes h w : ℕ) → Openable number nodes h w → openable number nodes h w ≡ true
-unfolding openable
-openable-of number nodes h w o =
-    rw (
-      le-leb 1 nodes (o .some),
-      le-leb nodes mostNodes (o .most),
-      lt-ltb number nodes (o .below),
-      le-leb 1 h (o .h-some),
-      le-leb h mostH (o .h-most),
-      le-leb 1 w (o .w-some),
-      le-leb w mostW (o .w-most),
-    )
 
 pub open-accepted : (s : List ℕ) (number nodes h w : ℕ) → length s ≡ recordSize → Openable number nodes h w
     → (openAnswer s number nodes h w ≡ accepted) × (openLeaves s number nodes h w ≡ encode (openedRecord number nodes h w))
 unfolding openLeaves openAnswer
-open-accepted s number nodes h w l o = rw (eq-eqb (length s) recordSize l, openable-of number nodes h w o) (refl, refl)
+open-accepted s number nodes h w l o = rw (eq-eqb (length s) recordSize l, facts-openable number nodes h w o) (refl, refl)
 
 -- ---- a node call
 
 -- what a call answers, leaves and puts, where the node of the record r takes the turn u at this tick
 pub record Accepted (r : Record) (tick : ℕ) (u : Turn) (part : List ℕ) (answer : ℕ) (s′ part′ : List ℕ) : Type 0 where
   pub answers : answer ≡ accepted
-  pub leaves : s′ ≡ encode (moved r tick (u .node))
+  pub leaves : s′ ≡ encode (withTurn r tick (u .node))
   pub puts : part′ ≡ putMessages part (r .number) (u .sends)
   pub few : length (u .sends) ≤ mostSent
 
-turned-so : (s : List ℕ) (r : Record) (tick : ℕ) (u : Turn) (part : List ℕ) (a : ℕ) → decode s ≡ r → a ≡ accepted → length (u .sends) ≤ mostSent
+turned-so : (s : List ℕ) (r : Record) (tick : ℕ) (u : Turn) (part : List ℕ) (a : ℕ) → decode s ≡ r → a ≡ accepted
+    → length (u .sends) ≤ mostSent
     → Accepted r tick u part a (recordAfter a s tick u) (partAfter a s part u)
 unfolding recordAfter partAfter
 turned-so s r tick u part a d e f = rw (e, d) (record { answers = refl; leaves = refl; puts = refl; few = f })
@@ -61,27 +51,30 @@ tick-taken r tick h l = rw (le-leb (r .last) tick h, le-leb tick mostTick l)
 
 module _ (s : List ℕ) (r : Record) (ok : sound s ≡ true) (d : decode s ≡ r) (tick : ℕ) (from : r .last ≤ tick) (to : tick ≤ mostTick)
     (part : List ℕ) (long : partSize ≤ length part) where
+  range : InRange r
+  range = rw (← d) (sound-facts s ok .fields)
+
   taken-at : tickTaken (decode s) tick ≡ true
   taken-at = rw d (tick-taken r tick from to)
 
-  pub deliver-accepted : (kind sender subject : ℕ) → Kind kind → sender < r .nodes → (sender ≡ r .number → ⊥)
-      → (kind ≡ R → (subject < r .nodes) × (subject ≡ r .number → ⊥)) → r .number < r .nodes
+  pub deliver-accepted : (kind sender subject : ℕ) → Known kind → sender < r .nodes → (sender ≡ r .number → ⊥)
+      → (kind ≡ R → (subject < r .nodes) × (subject ≡ r .number → ⊥))
       → Accepted r tick (delivered r tick kind sender subject) part (deliverAnswer s tick kind sender subject part)
       (deliverLeaves s tick kind sender subject part) (deliverSends s tick kind sender subject part)
   unfolding deliverLeaves deliverSends deliverAnswer
-  deliver-accepted kind sender subject k below other about own =
-      let m : messageTaken r kind sender subject ≡ true =
-      sent-is-taken sender (message kind (r .number) subject) r below (record { known = k; below = own; other = λ z. other (sym z); about = about }) refl in
+  deliver-accepted kind sender subject k below other about =
+      let m : MessageTaken r kind sender subject = record { known = k; from = (below, other); about = about } in
+      let t : messageTaken (decode s) kind sender subject ≡ true = rw d (facts-message r kind sender subject m) in
       rw (← d) (turned-so s (decode s) tick (delivered (decode s) tick kind sender subject) part _ refl
-      (answer-accepted _ _ _ _ ok taken-at (rw d m) (le-leb partSize (length part) long))
-      (delivered-few (decode s) tick kind sender subject (sound-facts s ok .fields)))
+      (answer-accepted _ _ _ _ ok taken-at t (le-leb partSize (length part) long))
+      (rw d (delivered-takes r range tick kind sender subject m .few)))
 
   pub timers-accepted : Accepted r tick (fired r tick) part (timersAnswer s tick part) (timersLeaves s tick part) (timersSends s tick part)
   unfolding timersLeaves timersSends timersAnswer
   timers-accepted =
       rw (← d) (turned-so s (decode s) tick (fired (decode s) tick) part _ refl
       (answer-accepted _ _ _ _ ok taken-at refl (le-leb partSize (length part) long))
-      (fired-few (decode s) tick (sound-facts s ok .fields)))
+      (rw d (fired-takes r range tick .few)))
 
 -- ---- which timer
 

@@ -10,7 +10,8 @@ use Rattle.fields.proofs.Bytes.{length-bytes}
 use Rattle.fields.proofs.Fields.{put-then, sets-append}
 use Rattle.node.specs.declared.Node.{Node}
 use Rattle.host.specs.declared.Record.{Record}
-use Rattle.host.specs.Record.{recordSize, spareFrom, numbersBytes, neighboursBytes, ticksBytes, encode}
+use Rattle.limits.specs.Limits.{recordSize}
+use Rattle.host.specs.Record.{spareFrom, numbersBytes, neighboursBytes, ticksBytes, encode}
 
 -- ---- lengths
 

@@ -7,18 +7,19 @@ use native.Mathlib.Omega.{arith}
 use borrow.Author.Tests.{eq-eqb, ne-eqb, le-leb, lt-leb, eqb-true}
 use lib.Dec.{eqb}
 use lib.ListN.{length, take}
-use Rattle.ring.specs.Limits.{mostNodes, mostH, mostW, mostTick}
-use Rattle.ring.specs.Ring.{numbers, outOfRange}
-use Rattle.ring.proofs.Rows.{length-numbers}
+use Rattle.limits.specs.Limits.{mostNodes, mostH, mostW, mostTick, mostSent, recordSize, partSize}
+use Rattle.limits.specs.Refusals.{outOfRange, accepted, badRecord, badTick, badMessage, shortPart}
 use Rattle.node.specs.declared.Turned.{Turned}
-use Rattle.node.specs.Node.{Turn, mostSent, R, turned, onWatchDue, onHeartbeatDue, silent}
+use Rattle.node.specs.Node.{Turn, R, turned}
+use Rattle.node.specs.Range.{Known}
 use Rattle.node.proofs.Messages.{turned-count, turned-sends}
-use Rattle.node.proofs.Rules.{message-few, watch-few}
 use Rattle.host.specs.declared.Record.{Record}
-use Rattle.host.specs.Record.{recordSize, encode, decode, openable, sound}
-use Rattle.host.specs.Call.{accepted, badRecord, badTick, badMessage, shortPart, answer, tickTaken, messageTaken, partSize, putMessages, moved, recordAfter, partAfter, openAnswer, openedRecord, openLeaves, delivered, deliverAnswer, deliverLeaves, deliverSends, dueBy, fired, timersAnswer, timersLeaves, timersSends}
-use Rattle.host.proofs.Facts.{Kind, InRange, MessageTaken, sound-facts, tick-facts, message-facts}
+use Rattle.host.specs.Record.{encode, decode, openable, sound}
+use Rattle.host.specs.Call.{answer, tickTaken, messageTaken, putMessages, recordAfter, partAfter, openAnswer, openedRecord, openLeaves, delivered}
+use Rattle.host.specs.Call.{deliverAnswer, deliverLeaves, deliverSends, fired, timersAnswer, timersLeaves, timersSends, withTurn}
+use Rattle.host.proofs.Facts.{InRange, MessageTaken, sound-facts, tick-facts, message-facts}
 use Rattle.host.proofs.Tests.{delivered-subject}
+use Rattle.host.proofs.Turns.{delivered-takes, fired-takes}
 
 -- ---- answers
 
@@ -56,7 +57,7 @@ module _ (a : ℕ) (s part : List ℕ) (tick : ℕ) (u : Turn) where
 
   -- one that is accepted leaves what the turn gives
   pub taken : (t : Turned) (r : Record) (s′ part′ : List ℕ) → a ≡ accepted → r ≡ decode s → t ≡ turned u
-      → s′ ≡ encode (moved r tick (t .node)) → part′ ≡ putMessages part (r .number) (take (t .count) (t .sent))
+      → s′ ≡ encode (withTurn r tick (t .node)) → part′ ≡ putMessages part (r .number) (take (t .count) (t .sent))
       → Left a s part tick u accepted s′ part′
   unfolding recordAfter partAfter turned
   taken t r s′ part′ e rq tq sq pq = (
@@ -79,18 +80,12 @@ module _ (s : List ℕ) (number nodes h w : ℕ) where
   unfolding openLeaves openAnswer
   open-range e f = rw (eq-eqb (length s) recordSize e, f) (refl, refl)
 
-  pub open-taken : (r : Record) (s′ : List ℕ) → length s ≡ recordSize → openable number nodes h w ≡ true → r ≡ openedRecord number nodes h w → s′ ≡ encode r
-      → Opened accepted s′
+  pub open-taken : (r : Record) (s′ : List ℕ) → length s ≡ recordSize → openable number nodes h w ≡ true
+      → r ≡ openedRecord number nodes h w → s′ ≡ encode r → Opened accepted s′
   unfolding openLeaves openAnswer
   open-taken r s′ e f rq sq = rw (eq-eqb (length s) recordSize e, f) (refl, sq ∙ ap encode rq)
 
 -- ---- delivery
-
--- at most seven messages
-pub delivered-few : (r : Record) (tick kind sender subject : ℕ) → InRange r → length (delivered r tick kind sender subject .sends) ≤ mostSent
-unfolding delivered
-delivered-few r tick kind sender subject f =
-    message-few (numbers 0 (r .nodes)) (rw (length-numbers) (f .openable .most)) (r .w) tick (r .number) kind sender subject (r .node)
 
 module _ (s : List ℕ) (tick kind sender subject : ℕ) (part : List ℕ) (r : Record) (rq : r ≡ decode s) where
   abbrev pub Delivered : ℕ → List ℕ → List ℕ → Type 0
@@ -112,13 +107,17 @@ module _ (s : List ℕ) (tick kind sender subject : ℕ) (part : List ℕ) (r : 
   unfolding deliverLeaves deliverSends deliverAnswer
   deliver-message e f g = refused _ s part tick _ badMessage (answer-message _ _ _ _ e (d-tick true f) (d-message false g)) refl
 
-  pub deliver-part : sound s ≡ true → tickTaken r tick ≡ true → messageTaken r kind sender subject ≡ true → length part < partSize → Delivered shortPart s part
+  pub deliver-part : sound s ≡ true → tickTaken r tick ≡ true → messageTaken r kind sender subject ≡ true → length part < partSize
+      → Delivered shortPart s part
   unfolding deliverLeaves deliverSends deliverAnswer
-  deliver-part e f g h = refused _ s part tick _ shortPart (answer-part _ _ _ _ e (d-tick true f) (d-message true g) (lt-leb partSize (length part) h)) refl
+  deliver-part e f g h =
+      refused _ s part tick _ shortPart (answer-part _ _ _ _ e (d-tick true f) (d-message true g) (lt-leb partSize (length part) h)) refl
 
-  pub deliver-taken : (about : ℕ) (t : Turned) (s′ part′ : List ℕ) → sound s ≡ true → tickTaken r tick ≡ true → messageTaken r kind sender subject ≡ true
-      → partSize ≤ length part → Kind kind → about ≡ cond (eqb kind R) subject 0 → t ≡ turned (delivered r tick kind sender about)
-      → s′ ≡ encode (moved r tick (t .node)) → part′ ≡ putMessages part (r .number) (take (t .count) (t .sent)) → Delivered accepted s′ part′
+  pub deliver-taken : (about : ℕ) (t : Turned) (s′ part′ : List ℕ) → sound s ≡ true → tickTaken r tick ≡ true
+      → messageTaken r kind sender subject ≡ true
+      → partSize ≤ length part → Known kind → about ≡ cond (eqb kind R) subject 0 → t ≡ turned (delivered r tick kind sender about)
+      → s′ ≡ encode (withTurn r tick (t .node)) → part′ ≡ putMessages part (r .number) (take (t .count) (t .sent))
+      → Delivered accepted s′ part′
   unfolding deliverLeaves deliverSends deliverAnswer
   deliver-taken about t s′ part′ e f g h k aq tq sq pq =
       taken _ s part tick _ t r s′ part′ (answer-accepted _ _ _ _ e (d-tick true f) (d-message true g) (le-leb partSize (length part) h)) rq
@@ -131,19 +130,6 @@ unfolding deliverLeaves deliverSends deliverAnswer
 deliver-record s tick kind sender subject part e = refused _ s part tick _ badRecord (answer-record _ _ _ _ e) refl
 
 -- ---- timers
-
-pub fired-few : (r : Record) (tick : ℕ) → InRange r → length (fired r tick .sends) ≤ mostSent
-unfolding fired onHeartbeatDue
-fired-few r tick f = go (dueBy tick (r .node .watch)) (dueBy tick (r .node .heartbeat))
-  where
-    order : List ℕ
-    order = numbers 0 (r .nodes)
-
-    go : (a b : Bool)
-        → length (cond a (onWatchDue order (r .w) tick (r .number) (r .node)) (cond b (onHeartbeatDue (r .h) tick (r .node)) (silent (r .node))) .sends) ≤ mostSent
-    go true b = watch-few order (rw (length-numbers) (f .openable .most)) (r .w) tick (r .number) (r .node)
-    go false true = omega arith
-    go false false = omega arith
 
 module _ (s : List ℕ) (tick : ℕ) (part : List ℕ) (r : Record) (rq : r ≡ decode s) where
   abbrev pub Fired : ℕ → List ℕ → List ℕ → Type 0
@@ -160,8 +146,9 @@ module _ (s : List ℕ) (tick : ℕ) (part : List ℕ) (r : Record) (rq : r ≡ 
   unfolding timersLeaves timersSends timersAnswer
   timers-part e f h = refused _ s part tick _ shortPart (answer-part _ _ _ _ e (t-tick true f) refl (lt-leb partSize (length part) h)) refl
 
-  pub timers-taken : (t : Turned) (s′ part′ : List ℕ) → sound s ≡ true → tickTaken r tick ≡ true → partSize ≤ length part → t ≡ turned (fired r tick)
-      → s′ ≡ encode (moved r tick (t .node)) → part′ ≡ putMessages part (r .number) (take (t .count) (t .sent)) → Fired accepted s′ part′
+  pub timers-taken : (t : Turned) (s′ part′ : List ℕ) → sound s ≡ true → tickTaken r tick ≡ true → partSize ≤ length part
+      → t ≡ turned (fired r tick)
+      → s′ ≡ encode (withTurn r tick (t .node)) → part′ ≡ putMessages part (r .number) (take (t .count) (t .sent)) → Fired accepted s′ part′
   unfolding timersLeaves timersSends timersAnswer
   timers-taken t s′ part′ e f h tq sq pq =
       taken _ s part tick _ t r s′ part′ (answer-accepted _ _ _ _ e (t-tick true f) refl (le-leb partSize (length part) h)) rq
@@ -174,36 +161,55 @@ timers-record s tick part e = refused _ s part tick _ badRecord (answer-record _
 
 -- ---- what the calls below a record that is taken ask for
 
-pub sound-record : (s : List ℕ) (r : Record) → sound s ≡ true → r ≡ decode s → InRange r
-sound-record s r e rq = rw rq (sound-facts s e .fields)
+pub kind-taken : (r : Record) (kind sender subject : ℕ) → messageTaken r kind sender subject ≡ true → Known kind
+kind-taken r kind sender subject g = message-facts r kind sender subject g .known
 
-subject-fits : (r : Record) (kind sender subject : ℕ) → MessageTaken r kind sender subject → r .nodes ≤ mostNodes → cond (eqb kind R) subject 0 < mostNodes
-subject-fits r kind sender subject m h = go (eqb kind R) refl
-  where
-    go : (b : Bool) → eqb kind R ≡ b → cond b subject 0 < mostNodes
-    go true e = omega (arith, m .about (eqb-true kind R e) .0)
-    go false e = omega arith
+pub sound-size : (s : List ℕ) → sound s ≡ true → length s ≡ recordSize
+sound-size s e = sound-facts s e .size
 
 module _ (s : List ℕ) (r : Record) (tick : ℕ) (e : sound s ≡ true) (rq : r ≡ decode s) (f : tickTaken r tick ≡ true) where
+  range : InRange r
+  range = rw rq (sound-facts s e .fields)
+
+  tick-fits : tick ≤ mostTick
+  tick-fits = tick-facts r tick f .1
+
+  -- the messages of a turn, as the code has them, are at most seven
+  few : (t : Turned) (u : Turn) → t ≡ turned u → length (u .sends) ≤ mostSent → t .count ≤ mostSent
+  few t u q h = rw (turned-count t (u .node) (u .sends) q) h
+
   pub timer-asks : (1 ≤ r .nodes) × (r .nodes ≤ mostNodes) × (r .h ≤ mostH) × (r .w ≤ mostW) × (tick ≤ mostTick) × (r .node .emitter < mostNodes)
   timer-asks =
-      let i = sound-record s r e rq in
-      let o = i .openable in
-      (o .some, o .most, o .h-most, o .w-most, tick-facts r tick f .1, omega (arith, i .emitter, o .most))
+      let o = range .openable in
+      (o .some, o .most, o .h-most, o .w-most, tick-fits, omega (arith, range .fields .emitter, o .most))
 
-  pub message-asks : (kind sender subject about : ℕ) → messageTaken r kind sender subject ≡ true → about ≡ cond (eqb kind R) subject 0
-      → (1 ≤ r .nodes) × (r .nodes ≤ mostNodes) × (r .w ≤ mostW) × (tick ≤ mostTick) × (about < mostNodes)
-  message-asks kind sender subject about g aq =
-      let o = sound-record s r e rq .openable in
-      (o .some, o .most, o .w-most, tick-facts r tick f .1, rw aq (subject-fits r kind sender subject (message-facts r kind sender subject g) (o .most)))
+  pub timer-few : (t : Turned) → t ≡ turned (fired r tick) → t .count ≤ mostSent
+  timer-few t q = few t (fired r tick) q (fired-takes r range tick .few)
 
-  pub sender-fits : (kind sender subject : ℕ) → messageTaken r kind sender subject ≡ true → sender < 256
-  sender-fits kind sender subject g =
-      omega (arith, sound-record s r e rq .openable .most, message-facts r kind sender subject g .from .0)
+  module _ (kind sender subject : ℕ) (g : messageTaken r kind sender subject ≡ true) where
+    facts : MessageTaken r kind sender subject
+    facts = message-facts r kind sender subject g
 
-  pub about-fits : (kind sender subject : ℕ) → messageTaken r kind sender subject ≡ true → kind ≡ R → subject < mostNodes
-  about-fits kind sender subject g q =
-      omega (arith, sound-record s r e rq .openable .most, message-facts r kind sender subject g .about q .0)
+    pub sender-fits : sender < 256
+    sender-fits = omega (arith, range .openable .most, facts .from .0)
 
-pub turn-few : (t : Turned) (u : Turn) → t ≡ turned u → length (u .sends) ≤ mostSent → t .count ≤ mostSent
-turn-few t u e h = rw (turned-count t (u .node) (u .sends) e) h
+    pub about-fits : kind ≡ R → subject < mostNodes
+    about-fits q = omega (arith, range .openable .most, facts .about q .0)
+
+    -- the subject as the code has it
+    module _ (about : ℕ) (aq : about ≡ cond (eqb kind R) subject 0) where
+      about-below : about < mostNodes
+      about-below = rw aq (go (eqb kind R) refl)
+        where
+          go : (b : Bool) → eqb kind R ≡ b → cond b subject 0 < mostNodes
+          go true q = about-fits (eqb-true kind R q)
+          go false q = omega arith
+
+      pub message-asks : (1 ≤ r .nodes) × (r .nodes ≤ mostNodes) × (r .w ≤ mostW) × (tick ≤ mostTick) × (about < mostNodes)
+      message-asks = let o = range .openable in (o .some, o .most, o .w-most, tick-fits, about-below)
+
+      pub message-few : (t : Turned) → t ≡ turned (delivered r tick kind sender about) → t .count ≤ mostSent
+      message-few t q =
+          let same : delivered r tick kind sender about ≡ delivered r tick kind sender subject =
+          rw aq (delivered-subject r tick kind sender subject (facts .known)) in
+          few t (delivered r tick kind sender subject) (q ∙ ap turned same) (delivered-takes r range tick kind sender subject facts .few)

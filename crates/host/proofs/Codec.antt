@@ -14,7 +14,8 @@ use Rattle.fields.proofs.Bytes.{length-bytes}
 use Rattle.fields.proofs.Fields.{field-part}
 use Rattle.fields.proofs.Zeros.{zeros-replicate}
 use Rattle.host.specs.declared.Record.{Record}
-use Rattle.host.specs.Record.{recordSize, spareFrom, numbersBytes, neighboursBytes, ticksBytes, encode, decode, sound}
+use Rattle.limits.specs.Limits.{recordSize}
+use Rattle.host.specs.Record.{spareFrom, numbersBytes, neighboursBytes, ticksBytes, encode, decode, sound}
 use Rattle.host.proofs.Bytes.{length-numbers, length-neighbours, length-ticks, length-encode}
 use Rattle.host.proofs.Facts.{InRange, facts-in-range}
 
@@ -59,16 +60,16 @@ module _ (r : Record) (f : InRange r) (rest : List ℕ) where
   neighbours-flat = simp append-assoc
 
   emitter-here : fieldAt (neighboursBytes (r .node) ++ rest) 0 1 ≡ r .node .emitter
-  emitter-here = rw neighbours-flat (here 1 (r .node .emitter) _ (omega (arith, f .emitter, f .openable .most)))
+  emitter-here = rw neighbours-flat (here 1 (r .node .emitter) _ (omega (arith, f .fields .emitter, f .openable .most)))
 
   observer-here : fieldAt (neighboursBytes (r .node) ++ rest) 1 1 ≡ r .node .observer
   observer-here =
       rw neighbours-flat
-      (after 1 (r .node .emitter) _ 0 1 1 refl ∙ here 1 (r .node .observer) _ (omega (arith, f .observer, f .openable .most)))
+      (after 1 (r .node .emitter) _ 0 1 1 refl ∙ here 1 (r .node .observer) _ (omega (arith, f .fields .observer, f .openable .most)))
 
   list-here : fieldAt (neighboursBytes (r .node) ++ rest) 2 8 ≡ r .node .list
   list-here =
-      let h : r .node .list < 2 ^ 64 = lt-of-lt-of-le (f .list) (pow-le-pow-right {n = 2} (lit< tt) (f .openable .most)) in
+      let h : r .node .list < 2 ^ 64 = lt-of-lt-of-le (f .fields .list) (pow-le-pow-right {n = 2} (lit< tt) (f .openable .most)) in
       rw neighbours-flat
       (after 1 (r .node .emitter) _ 1 2 8 refl ∙ after 1 (r .node .observer) _ 0 1 8 refl ∙ here 8 (r .node .list) _ h)
 
@@ -82,13 +83,13 @@ module _ (r : Record) (f : InRange r) (rest : List ℕ) where
   watch-here : fieldAt (ticksBytes (r .last) (r .node) ++ rest) 4 4 ≡ r .node .watch
   watch-here =
       rw ticks-flat
-      (after 4 (r .last) _ 0 4 4 refl ∙ here 4 (r .node .watch) _ (omega (arith, f .watch, f .last, f .openable .w-most)))
+      (after 4 (r .last) _ 0 4 4 refl ∙ here 4 (r .node .watch) _ (omega (arith, f .fields .watch, f .last, f .openable .w-most)))
 
   heartbeat-here : fieldAt (ticksBytes (r .last) (r .node) ++ rest) 8 4 ≡ r .node .heartbeat
   heartbeat-here =
       rw ticks-flat
       (after 4 (r .last) _ 4 8 4 refl ∙ after 4 (r .node .watch) _ 0 4 4 refl
-      ∙ here 4 (r .node .heartbeat) _ (omega (arith, f .heartbeat, f .last, f .openable .h-most)))
+      ∙ here 4 (r .node .heartbeat) _ (omega (arith, f .fields .heartbeat, f .last, f .openable .h-most)))
 
 -- ---- the whole
 
@@ -133,7 +134,9 @@ module _ (r : Record) where
   encode-spare =
       let a : List ℕ = numbersBytes r ++ (neighboursBytes (r .node) ++ ticksBytes (r .last) (r .node)) in
       let l : length a ≡ spareFrom = simp (length-append, length-numbers r, length-neighbours (r .node), length-ticks (r .last) (r .node)) in
-      let e : encode r ≡ a ++ spare = sym (append-assoc (numbersBytes r) _ spare ∙ ap (λ (l : List ℕ). numbersBytes r ++ l) (append-assoc (neighboursBytes (r .node)) (ticksBytes (r .last) (r .node)) spare)) in
+      let e : encode r ≡ a ++ spare =
+      sym (append-assoc (numbersBytes r) _ spare
+      ∙ ap (λ (l : List ℕ). numbersBytes r ++ l) (append-assoc (neighboursBytes (r .node)) (ticksBytes (r .last) (r .node)) spare)) in
       let d : slice spareFrom recordSize (encode r) ≡ spare =
       ap (drop spareFrom) (take-all recordSize (encode r) (omega (arith, length-encode r)) ∙ e) ∙ drop-at a spare spareFrom l in
       rw d (zeros-replicate (recordSize - spareFrom))

@@ -2,28 +2,28 @@
 use mathlib.Core.Path.{_≡_, refl, sym, ap, _∙_}
 use mathlib.Core.Bool.{Bool, true, false, true≢false, not, _&&_, _||_}
 use mathlib.Core.List.{List}
-use Prim.Native.Nat.{ℕ, _+_, _*_, _^_, _≤_, _<_}
+use Prim.Native.Nat.{ℕ, _≤_, _<_}
 use native.Mathlib.Omega.{arith}
+use native.Mathlib.Decide.{ℕ-discrete}
 use borrow.Author.Tests.{ltb-true, leb-true, eqb-true, eqb-false, lt-ltb, le-leb, eq-eqb, ne-eqb, not-true}
 use lib.Dec.{eqb, leb, ltb}
 use lib.ListN.{length}
 use lib.Seq.{slice}
 use Rattle.fields.specs.Fields.{zeros}
-use Rattle.ring.specs.Limits.{mostNodes, mostH, mostW, mostTick}
-use Rattle.ring.specs.Ring.{listed}
-use Rattle.node.specs.Node.{due, H, O, R}
+use Rattle.limits.specs.Limits.{mostNodes, mostH, mostW, mostTick, recordSize}
+use Rattle.node.specs.Node.{R}
+use Rattle.node.specs.Range.{NodeRange, LiveRange, Known, nodeTest, kindTest}
+use Rattle.node.proofs.Tests.{node-facts, facts-node, live-facts, facts-live, kind-facts, facts-kind}
 use Rattle.host.specs.declared.Record.{Record}
-use Rattle.host.specs.Record.{recordSize, spareFrom, decode, openable, neighboursInRange, apart, timersInRange, inRange, sound}
-use Rattle.host.specs.Call.{tickTaken, otherNode, messageTaken, accepted, answer}
+use Rattle.host.specs.Record.{spareFrom, decode, openable, inRange, sound}
+use Rattle.host.specs.Call.{tickTaken, otherNode, messageTaken, answer}
+use Rattle.limits.specs.Refusals.{accepted}
 
--- ---- both, either, not
+-- ---- both
 
 pub both : (a b : Bool) → (a && b) ≡ true → (a ≡ true) × (b ≡ true)
 both true b e = (refl, e)
 both false b e = absurd (true≢false (sym e))
-
-pub and-true : (a b : Bool) → a ≡ true → b ≡ true → (a && b) ≡ true
-and-true a b e f = rw (e, f)
 
 -- ---- the numbers of a record
 
@@ -55,86 +55,49 @@ openable-facts number nodes h w e =
       w-most = leb-true w mostW (g .1);
     }
 
--- ---- a timer is off or about another node
-
-module _ (timer other number : ℕ) where
-  pub apart-on : apart timer other number ≡ true → (timer ≡ 0 → ⊥) → other ≡ number → ⊥
-  unfolding apart
-  apart-on e h q = true≢false (sym (rw (ne-eqb timer 0 h, eq-eqb other number q) at e))
-
-  pub apart-other : (other ≡ number → ⊥) → apart timer other number ≡ true
-  unfolding apart
-  apart-other h = rw (ne-eqb other number h) (either (eqb timer 0))
-    where
-      either : (b : Bool) → (b || true) ≡ true
-      either true = refl
-      either false = refl
-
-pub apart-off : (other number : ℕ) → apart 0 other number ≡ true
-unfolding apart
-apart-off other number = refl
+pub facts-openable : (number nodes h w : ℕ) → Openable number nodes h w → openable number nodes h w ≡ true
+unfolding openable
+facts-openable number nodes h w o =
+    rw (
+      le-leb 1 nodes (o .some),
+      le-leb nodes mostNodes (o .most),
+      lt-ltb number nodes (o .below),
+      le-leb 1 h (o .h-some),
+      le-leb h mostH (o .h-most),
+      le-leb 1 w (o .w-some),
+      le-leb w mostW (o .w-most),
+    )
 
 -- ---- a record in range
 
 pub record InRange (r : Record) : Type 0 where
   pub openable : Openable (r .number) (r .nodes) (r .h) (r .w)
   pub last : r .last ≤ mostTick
-  pub emitter : r .node .emitter < r .nodes
-  pub observer : r .node .observer < r .nodes
-  pub list : r .node .list < 2 ^ r .nodes
-  pub unlisted : listed (r .node .list) (r .number) ≡ false
-  pub watch : r .node .watch ≤ due (r .last + 2 * r .w)
-  pub heartbeat : r .node .heartbeat ≤ due (r .last + r .h)
-  pub observes : apart (r .node .watch) (r .node .emitter) (r .number) ≡ true
-  pub sends : apart (r .node .heartbeat) (r .node .observer) (r .number) ≡ true
+  pub fields : NodeRange (r .nodes) (r .h) (r .w) (r .last) (r .node)
+  pub live : LiveRange (r .number) (r .node)
 
 module _ (r : Record) where
   pub in-range-facts : inRange r ≡ true → InRange r
-  unfolding inRange neighboursInRange timersInRange
+  unfolding inRange
   in-range-facts e =
       let a = both (openable (r .number) (r .nodes) (r .h) (r .w)) _ e in
       let b = both (leb (r .last) mostTick) _ (a .1) in
-      let c = both (neighboursInRange r) (timersInRange r) (b .1) in
-      let d = both (ltb (r .node .emitter) (r .nodes)) _ (c .0) in
-      let f = both (ltb (r .node .observer) (r .nodes)) _ (d .1) in
-      let g = both (ltb (r .node .list) (2 ^ r .nodes)) _ (f .1) in
-      let h = both (leb (r .node .watch) (due (r .last + 2 * r .w))) _ (c .1) in
-      let i = both (leb (r .node .heartbeat) (due (r .last + r .h))) _ (h .1) in
-      let j = both (apart (r .node .watch) (r .node .emitter) (r .number)) _ (i .1) in
+      let c = both (nodeTest (r .nodes) (r .h) (r .w) (r .last) (r .node)) _ (b .1) in
       record {
         openable = openable-facts (r .number) (r .nodes) (r .h) (r .w) (a .0);
         last = leb-true (r .last) mostTick (b .0);
-        emitter = ltb-true (r .node .emitter) (r .nodes) (d .0);
-        observer = ltb-true (r .node .observer) (r .nodes) (f .0);
-        list = ltb-true (r .node .list) (2 ^ r .nodes) (g .0);
-        unlisted = not-true (listed (r .node .list) (r .number)) (g .1);
-        watch = leb-true (r .node .watch) (due (r .last + 2 * r .w)) (h .0);
-        heartbeat = leb-true (r .node .heartbeat) (due (r .last + r .h)) (i .0);
-        observes = j .0;
-        sends = j .1;
+        fields = node-facts (r .nodes) (r .h) (r .w) (r .last) (r .node) (c .0);
+        live = live-facts (r .number) (r .node) (c .1);
       }
 
   pub facts-in-range : InRange r → inRange r ≡ true
-  unfolding inRange neighboursInRange timersInRange openable
+  unfolding inRange
   facts-in-range f =
-      let o = f .openable in
       rw (
-        le-leb 1 (r .nodes) (o .some),
-        le-leb (r .nodes) mostNodes (o .most),
-        lt-ltb (r .number) (r .nodes) (o .below),
-        le-leb 1 (r .h) (o .h-some),
-        le-leb (r .h) mostH (o .h-most),
-        le-leb 1 (r .w) (o .w-some),
-        le-leb (r .w) mostW (o .w-most),
+        facts-openable (r .number) (r .nodes) (r .h) (r .w) (f .openable),
         le-leb (r .last) mostTick (f .last),
-        lt-ltb (r .node .emitter) (r .nodes) (f .emitter),
-        lt-ltb (r .node .observer) (r .nodes) (f .observer),
-        lt-ltb (r .node .list) (2 ^ r .nodes) (f .list),
-        f .unlisted,
-        le-leb (r .node .watch) (due (r .last + 2 * r .w)) (f .watch),
-        le-leb (r .node .heartbeat) (due (r .last + r .h)) (f .heartbeat),
-        f .observes,
-        f .sends,
+        facts-node (r .nodes) (r .h) (r .w) (r .last) (r .node) (f .fields),
+        facts-live (r .number) (r .node) (f .live),
       )
 
 pub record Sound (s : List ℕ) : Type 0 where
@@ -163,39 +126,34 @@ other-facts r i e =
     let a = both (ltb i (r .nodes)) _ e in
     (ltb-true i (r .nodes) (a .0), eqb-false i (r .number) (not-true (eqb i (r .number)) (a .1)))
 
--- which kind a taken message is of
-pub data Kind : ℕ → Type 0 where
-  heartbeat : Kind H
-  observer : Kind O
-  report : Kind R
+pub facts-other : (r : Record) (i : ℕ) → (i < r .nodes) × (i ≡ r .number → ⊥) → otherNode r i ≡ true
+unfolding otherNode
+facts-other r i f = rw (lt-ltb i (r .nodes) (f .0), ne-eqb i (r .number) (f .1))
 
 pub record MessageTaken (r : Record) (kind sender subject : ℕ) : Type 0 where
-  pub known : Kind kind
+  pub known : Known kind
   pub from : (sender < r .nodes) × (sender ≡ r .number → ⊥)
   pub about : kind ≡ R → (subject < r .nodes) × (subject ≡ r .number → ⊥)
 
-kind-of : (kind : ℕ) → (eqb kind H || (eqb kind O || eqb kind R)) ≡ true → Kind kind
-kind-of kind e = go (eqb kind H) (eqb kind O) (eqb kind R) refl refl refl e
-  where
-    named : (k : ℕ) → Kind k → kind ≡ k → Kind kind
-    named k t q = rw q t
+module _ (r : Record) (kind sender subject : ℕ) where
+  pub message-facts : messageTaken r kind sender subject ≡ true → MessageTaken r kind sender subject
+  unfolding messageTaken
+  message-facts e =
+      let a = both (kindTest kind) _ e in
+      let b = both (otherNode r sender) _ (a .1) in
+      record {
+        known = kind-facts kind (a .0);
+        from = other-facts r sender (b .0);
+        about = λ q. other-facts r subject (ap (λ (k : ℕ). not (eqb k R) || otherNode r subject) (sym q) ∙ b .1);
+      }
 
-    go : (a b c : Bool) → eqb kind H ≡ a → eqb kind O ≡ b → eqb kind R ≡ c → (a || (b || c)) ≡ true → Kind kind
-    go true b c x y z q = named H heartbeat (eqb-true kind H x)
-    go false true c x y z q = named O observer (eqb-true kind O y)
-    go false false true x y z q = named R report (eqb-true kind R z)
-    go false false false x y z q = absurd (true≢false (sym q))
-
-pub message-facts : (r : Record) (kind sender subject : ℕ) → messageTaken r kind sender subject ≡ true → MessageTaken r kind sender subject
-unfolding messageTaken
-message-facts r kind sender subject e =
-    let a = both (eqb kind H || (eqb kind O || eqb kind R)) _ e in
-    let b = both (otherNode r sender) _ (a .1) in
-    record {
-      known = kind-of kind (a .0);
-      from = other-facts r sender (b .0);
-      about = λ q. other-facts r subject (ap (λ (k : ℕ). not (eqb k R) || otherNode r subject) (sym q) ∙ b .1);
-    }
+  pub facts-message : MessageTaken r kind sender subject → messageTaken r kind sender subject ≡ true
+  unfolding messageTaken
+  facts-message m = rw (facts-kind kind (m .known), facts-other r sender (m .from)) (go (ℕ-discrete kind R))
+    where
+      go : Dec (kind ≡ R) → (not (eqb kind R) || otherNode r subject) ≡ true
+      go (yes q) = rw (eq-eqb kind R q) (facts-other r subject (m .about q))
+      go (no q) = rw (ne-eqb kind R q)
 
 -- ---- an accepted call
 

@@ -11,8 +11,8 @@ use Rattle.fields.specs.Fields.{putAt, cleared}
 use Rattle.fields.proofs.Bytes.{length-bytes}
 use Rattle.fields.proofs.Fields.{put-then, sets-append}
 use Rattle.node.specs.declared.Message.{Message}
-use Rattle.node.specs.Node.{mostSent}
-use Rattle.host.specs.Call.{messageSize, partSize, messageBytes, sentBytes, putMessages}
+use Rattle.limits.specs.Limits.{mostSent, messageSize, partSize}
+use Rattle.host.specs.Call.{messageBytes, sentBytes, putMessages}
 
 pub length-message : (sender : ℕ) (m : Message) → length (messageBytes sender m) ≡ messageSize
 unfolding messageBytes
@@ -75,7 +75,8 @@ put-over-zeros part sender ms h l =
 
 -- after the last turn of the loop, from a part that was cleared
 pub put-all : (sender : ℕ) (sent : List Message) (count : ℕ) (part cleared-part now : List ℕ) (i : ℕ) → cleared-part ≡ cleared part 0 partSize
-    → rest sender sent count cleared-part 0 ≡ rest sender sent count now i → count ≤ i → length sent ≡ mostSent → count ≤ mostSent → partSize ≤ length part
+    → rest sender sent count cleared-part 0 ≡ rest sender sent count now i → count ≤ i → length sent ≡ mostSent → count ≤ mostSent
+    → partSize ≤ length part
     → now ≡ putMessages part sender (take count sent)
 unfolding rest
 put-all sender sent count part cleared-part now i cq e h l k p =

@@ -1,39 +1,51 @@
 -- What the code's tests answer is what the definitions say. Assumes nothing.
 use mathlib.Core.Path.{_≡_, refl, sym, ap, _∙_}
-use mathlib.Core.Bool.{Bool, true, false, cond, _&&_, _||_}
-use Prim.Native.Nat.{ℕ, suc, _+_, _-_, _^_, _≤_, _<_}
+use mathlib.Core.Bool.{Bool, true, false, cond, _&&_}
+use mathlib.Core.List.{List}
+use Prim.Native.Nat.{ℕ, _+_, _≤_, _<_}
 use native.Mathlib.Numerals.{add-one}
 use native.Mathlib.Omega.{arith}
-use borrow.Author.Tests.{ne-eqb, lt-ltb, le-ltb, le-leb, lt-leb}
-use mathlib.Core.List.{List}
-use lib.Dec.{eqb, leb, ltb}
+use borrow.Author.Tests.{ne-eqb, lt-ltb, le-leb, lt-leb}
+use lib.Dec.{eqb, leb}
 use lib.ListN.{length, take}
-use Rattle.ring.proofs.Rows.{length-numbers}
-use Rattle.ring.proofs.Rows.{take-numbers}
-use lib.Pow.{pow-pos}
-use Rattle.ring.specs.Limits.{mostNodes}
+use Rattle.ring.proofs.Rows.{length-numbers, take-numbers}
+use Rattle.limits.specs.Limits.{mostH, mostW, mostTick, mostNodes}
 use Rattle.ring.specs.Ring.{numbers}
-use Rattle.node.specs.Node.{H, O, R, onMessage}
+use Rattle.node.specs.Node.{H, O, R}
+use Rattle.node.specs.Range.{Known, nodeTest, liveTest, kindTest}
+use Rattle.node.proofs.Moves.{subject-counts}
 use Rattle.host.specs.declared.Record.{Record}
+use Rattle.host.specs.Record.{openable, inRange}
 use Rattle.host.specs.Call.{otherNode, messageTaken, delivered, dueBy}
-use Rattle.host.proofs.Facts.{Kind, heartbeat, observer, report}
+use Rattle.host.proofs.Facts.{openable-facts}
 
--- ---- a dead list of n nodes, by the set of all
+-- ---- the ranges of a record, test by test
 
-module _ (all n d : ℕ) (e : all ≡ 2 ^ n - 1) where
-  pub list-over : all < d → ltb d (2 ^ n) ≡ false
-  list-over h = le-ltb d (2 ^ n) (omega arith)
+-- what the test of its node asks for
+pub node-asks : (number nodes h w last : ℕ) → openable number nodes h w ≡ true → last ≤ mostTick
+    → (1 ≤ nodes) × (nodes ≤ mostNodes) × (h ≤ mostH) × (w ≤ mostW) × (last ≤ mostTick)
+node-asks number nodes h w last o l = let f = openable-facts number nodes h w o in (f .some, f .most, f .h-most, f .w-most, l)
 
-  pub list-within : d ≤ all → ltb d (2 ^ n) ≡ true
-  list-within h = lt-ltb d (2 ^ n) (omega (arith, pow-pos n))
+module _ (r : Record) where
+  pub numbers-out : openable (r .number) (r .nodes) (r .h) (r .w) ≡ false → false ≡ inRange r
+  unfolding inRange
+  numbers-out e = rw e
+
+  module _ (o : openable (r .number) (r .nodes) (r .h) (r .w) ≡ true) where
+    pub last-out : mostTick < r .last → false ≡ inRange r
+    unfolding inRange
+    last-out h = rw (o, lt-leb (r .last) mostTick h)
+
+    module _ (l : r .last ≤ mostTick) where
+      pub node-out : nodeTest (r .nodes) (r .h) (r .w) (r .last) (r .node) ≡ false → false ≡ inRange r
+      unfolding inRange
+      node-out e = rw (o, le-leb (r .last) mostTick l, e)
+
+      pub live-decides : nodeTest (r .nodes) (r .h) (r .w) (r .last) (r .node) ≡ true → liveTest (r .number) (r .node) ≡ inRange r
+      unfolding inRange
+      live-decides e = rw (o, le-leb (r .last) mostTick l, e)
 
 -- ---- a timer
-
-pub timer-over : (timer most : ℕ) → most + 1 < timer → leb timer (suc most) ≡ false
-timer-over timer most h = lt-leb timer (suc most) (omega arith)
-
-pub timer-within : (timer most : ℕ) → timer ≤ most + 1 → leb timer (suc most) ≡ true
-timer-within timer most h = le-leb timer (suc most) (omega arith)
 
 pub due-off : (tick timer : ℕ) → timer ≡ 0 → dueBy tick timer ≡ false
 unfolding dueBy
@@ -57,7 +69,7 @@ module _ (all : List ℕ) (n : ℕ) (e : all ≡ numbers 0 mostNodes) (h : n ≤
 module _ (r : Record) (kind sender subject : ℕ) where
   pub message-from : otherNode r sender ≡ false → messageTaken r kind sender subject ≡ false
   unfolding messageTaken
-  message-from e = rw e (never (eqb kind H || (eqb kind O || eqb kind R)))
+  message-from e = rw e (never (kindTest kind))
     where
       never : (b : Bool) → (b && false) ≡ false
       never true = refl
@@ -65,30 +77,24 @@ module _ (r : Record) (kind sender subject : ℕ) where
 
   module _ (e : otherNode r sender ≡ true) where
     pub message-heartbeat : kind ≡ H → messageTaken r kind sender subject ≡ true
-    unfolding messageTaken
+    unfolding messageTaken kindTest
     message-heartbeat q = rw (q, e)
 
     pub message-observer : kind ≡ O → messageTaken r kind sender subject ≡ true
-    unfolding messageTaken
+    unfolding messageTaken kindTest
     message-observer q = rw (q, e)
 
     pub message-report : kind ≡ R → messageTaken r kind sender subject ≡ otherNode r subject
-    unfolding messageTaken
+    unfolding messageTaken kindTest
     message-report q = rw (q, e)
 
   pub message-unknown : (kind ≡ H → ⊥) → (kind ≡ O → ⊥) → (kind ≡ R → ⊥) → messageTaken r kind sender subject ≡ false
-  unfolding messageTaken
+  unfolding messageTaken kindTest
   message-unknown h o p = rw (ne-eqb kind H h, ne-eqb kind O o, ne-eqb kind R p)
 
 -- only a report's subject counts
-pub delivered-subject : (r : Record) (tick kind sender subject : ℕ) → Kind kind
+pub delivered-subject : (r : Record) (tick kind sender subject : ℕ) → Known kind
     → delivered r tick kind sender (cond (eqb kind R) subject 0) ≡ delivered r tick kind sender subject
-unfolding delivered onMessage
-delivered-subject r tick kind sender subject heartbeat = refl
-delivered-subject r tick kind sender subject observer = refl
-delivered-subject r tick kind sender subject report = refl
-
-pub kind-fits : (kind : ℕ) → Kind kind → kind < 256
-kind-fits kind heartbeat = omega arith
-kind-fits kind observer = omega arith
-kind-fits kind report = omega arith
+unfolding delivered
+delivered-subject r tick kind sender subject k =
+    subject-counts (numbers 0 (r .nodes)) (r .w) tick (r .number) kind sender subject (r .node) k

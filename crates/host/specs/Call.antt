@@ -6,30 +6,17 @@ use Prim.Native.Nat.{ℕ, _-_, _*_}
 use lib.Dec.{eqb, leb, ltb}
 use lib.ListN.{length, drop, replicate}
 use Rattle.fields.specs.Fields.{bytes}
-use Rattle.ring.specs.Ring.{numbers, outOfRange}
+use Rattle.limits.specs.Limits.{mostTick, recordSize, mostSent, messageSize, partSize}
+use Rattle.limits.specs.Refusals.{accepted, outOfRange, shortPart, badRecord, badMessage, badTick}
+use Rattle.ring.specs.Ring.{numbers}
 use Rattle.node.specs.declared.Message.{Message}
 use Rattle.node.specs.declared.Node.{Node}
-use Rattle.ring.specs.Limits.{mostTick}
-use Rattle.node.specs.Node.{Turn, mostSent, off, due, H, O, R, silent, opening, onMessage, onHeartbeatDue, onWatchDue}
+use Rattle.node.specs.Node.{Turn, off, due, R, silent, opening, onMessage, onHeartbeatDue, onWatchDue}
+use Rattle.node.specs.Range.{kindTest}
 use Rattle.host.specs.declared.Record.{Record}
-use Rattle.host.specs.Record.{recordSize, encode, decode, openable, sound}
+use Rattle.host.specs.Record.{encode, decode, openable, sound}
 
 -- ---- answers: "A node call tries 10, 12, 11, then 9"
-
-abbrev pub accepted : ℕ
-accepted = 0
-
-abbrev pub badRecord : ℕ
-badRecord = 10
-
-abbrev pub badTick : ℕ
-badTick = 12
-
-abbrev pub badMessage : ℕ
-badMessage = 11
-
-abbrev pub shortPart : ℕ
-shortPart = 9
 
 -- what a node call answers, by whether its record, tick, message and message part are taken
 unfoldable pub answer : Bool → Bool → Bool → Bool → ℕ
@@ -47,15 +34,9 @@ otherNode r i = ltb i (r .nodes) && not (eqb i (r .number))
 -- a message that is not of "unknown kind; sender not below N or the node itself; on R, subject not below N or the node itself"
 unfoldable pub messageTaken : Record → ℕ → ℕ → ℕ → Bool
 messageTaken r kind sender subject =
-    (eqb kind H || (eqb kind O || eqb kind R)) && (otherNode r sender && (not (eqb kind R) || otherNode r subject))
+    kindTest kind && (otherNode r sender && (not (eqb kind R) || otherNode r subject))
 
 -- ---- messages: "at most seven of 8 bytes, are put into the first 56 bytes of a lent part, unused ones zero"
-
-abbrev pub messageSize : ℕ
-messageSize = 8
-
-abbrev pub partSize : ℕ
-partSize = mostSent * messageSize
 
 -- the 8 bytes of a message: its kind, its receiver, its sender, its subject, and four that are zero
 unfoldable pub messageBytes : ℕ → Message → List ℕ
@@ -71,12 +52,12 @@ putMessages part sender ms = sentBytes sender ms ++ (replicate (partSize - lengt
 
 -- ---- a record after a turn of its node
 
-unfoldable pub moved : Record → ℕ → Node → Record
-moved r tick n = record { number = r .number; nodes = r .nodes; h = r .h; w = r .w; last = tick; node = n }
+unfoldable pub withTurn : Record → ℕ → Node → Record
+withTurn r tick n = record { number = r .number; nodes = r .nodes; h = r .h; w = r .w; last = tick; node = n }
 
 -- the bytes that a call with this answer leaves of a record s and of a message part, where its node takes the turn u
 unfoldable pub recordAfter : ℕ → List ℕ → ℕ → Turn → List ℕ
-recordAfter a s tick u = cond (eqb a accepted) (encode (moved (decode s) tick (u .node))) s
+recordAfter a s tick u = cond (eqb a accepted) (encode (withTurn (decode s) tick (u .node))) s
 
 unfoldable pub partAfter : ℕ → List ℕ → List ℕ → Turn → List ℕ
 partAfter a s part u = cond (eqb a accepted) (putMessages part (decode s .number) (u .sends)) part

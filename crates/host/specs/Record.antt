@@ -1,22 +1,18 @@
 -- The node record of document 01, "a 64-byte node record, which also holds its own number, N, H, W and the last tick": what it
 -- holds, its bytes and the range of each field. docs/LAYOUTS.md has the same as a table. Assumes nothing.
-use mathlib.Core.Bool.{Bool, not, _&&_, _||_}
+use mathlib.Core.Bool.{Bool, _&&_}
 use mathlib.Core.List.{List, _++_}
-use Prim.Native.Nat.{ℕ, _+_, _-_, _*_, _^_}
+use Prim.Native.Nat.{ℕ, _-_}
 use lib.Dec.{eqb, leb, ltb}
 use lib.ListN.{length, replicate}
 use lib.Seq.{slice}
 use Rattle.fields.specs.Fields.{bytes, fieldAt, zeros}
-use Rattle.ring.specs.Limits.{mostNodes, mostH, mostW, mostTick}
-use Rattle.ring.specs.Ring.{listed}
+use Rattle.limits.specs.Limits.{mostNodes, mostH, mostW, mostTick, recordSize}
 use Rattle.node.specs.declared.Node.{Node}
-use Rattle.node.specs.Node.{off, due}
+use Rattle.node.specs.Range.{nodeTest, liveTest}
 use Rattle.host.specs.declared.Record.{Record}
 
 -- ---- bytes
-
-abbrev pub recordSize : ℕ
-recordSize = 64
 
 -- the bytes from here on are spare
 abbrev pub spareFrom : ℕ
@@ -62,26 +58,12 @@ unfoldable pub openable : ℕ → ℕ → ℕ → ℕ → Bool
 openable number nodes h w =
     leb 1 nodes && (leb nodes mostNodes && (ltb number nodes && (leb 1 h && (leb h mostH && (leb 1 w && leb w mostW)))))
 
--- the emitter, the observer and the dead list are of nodes below N; out of range is "a live node that lists itself"
-unfoldable pub neighboursInRange : Record → Bool
-neighboursInRange r =
-    ltb (r .node .emitter) (r .nodes) && (ltb (r .node .observer) (r .nodes)
-    && (ltb (r .node .list) (2 ^ r .nodes) && not (listed (r .node .list) (r .number))))
-
--- out of range is a live node that "observes itself with the watch on or sends to itself with the heartbeat on"
-unfoldable pub apart : ℕ → ℕ → ℕ → Bool
-apart timer other number = eqb timer off || not (eqb other number)
-
--- a timer is off, or due at a tick that a rule can set: by 2 × W after the last tick for the watch, by H for the heartbeat.
--- It may be overdue, as messages are delivered all the same
-unfoldable pub timersInRange : Record → Bool
-timersInRange r =
-    leb (r .node .watch) (due (r .last + 2 * r .w)) && (leb (r .node .heartbeat) (due (r .last + r .h))
-    && (apart (r .node .watch) (r .node .emitter) (r .number) && apart (r .node .heartbeat) (r .node .observer) (r .number)))
-
+-- the node is in range at the last tick, and as a live one, as "a record's node is always alive". A timer may be overdue, as messages
+-- are delivered all the same
 unfoldable pub inRange : Record → Bool
 inRange r =
-    openable (r .number) (r .nodes) (r .h) (r .w) && (leb (r .last) mostTick && (neighboursInRange r && timersInRange r))
+    openable (r .number) (r .nodes) (r .h) (r .w)
+    && (leb (r .last) mostTick && (nodeTest (r .nodes) (r .h) (r .w) (r .last) (r .node) && liveTest (r .number) (r .node)))
 
 -- the bytes of a record that a call takes: 64, the spare ones zero, each field in its range
 unfoldable pub sound : List ℕ → Bool

@@ -1,5 +1,16 @@
 // The node's rules for a host in C: three calls on a record of 64 lent bytes. include/kelbraut.h says how to use them, and
 // docs/LAYOUTS.md has the bytes.
+use limits::BAD_MESSAGE;
+use limits::BAD_RECORD;
+use limits::BAD_TICK;
+use limits::MESSAGE_SIZE;
+use limits::MOST_H;
+use limits::MOST_NODES;
+use limits::MOST_W;
+use limits::OUT_OF_RANGE;
+use limits::PART_SIZE;
+use limits::RECORD_SIZE;
+use limits::SHORT_PART;
 use node::Message;
 use node::Node;
 use node::Turned;
@@ -9,10 +20,11 @@ ghost use Prim.Native.Nat.{_+_, _≤_, _<_};
 ghost use lib.Dec.{eqb};
 ghost use lib.ListN.{length, take};
 ghost use lib.Seq.{sets};
-ghost use Rattle.ring.specs.Limits.{mostNodes, mostH, mostW, mostTick};
-ghost use Rattle.node.specs.Node.{mostSent, turned, R};
-ghost use Rattle.host.specs.Record.{recordSize, encode, numbersBytes, neighboursBytes, ticksBytes, decode, openable, neighboursInRange, apart, timersInRange, inRange, sound};
-ghost use Rattle.host.specs.Call.{tickTaken, otherNode, messageTaken, messageSize, partSize, messageBytes, putMessages, moved, openAnswer, openedRecord, openLeaves, delivered, deliverAnswer, deliverLeaves, deliverSends, dueBy, fired, timersAnswer, timersLeaves, timersSends};
+ghost use Rattle.limits.specs.Limits.{mostNodes, mostH, mostW, mostTick, mostSent, recordSize, messageSize, partSize};
+ghost use Rattle.node.specs.Node.{turned, R};
+ghost use Rattle.host.specs.Record.{encode, numbersBytes, neighboursBytes, ticksBytes, decode, openable, inRange, sound};
+ghost use Rattle.host.specs.Call.{tickTaken, otherNode, messageTaken, messageBytes, putMessages, openAnswer, openedRecord, openLeaves, delivered};
+ghost use Rattle.host.specs.Call.{deliverAnswer, deliverLeaves, deliverSends, dueBy, fired, timersAnswer, timersLeaves, timersSends, withTurn};
 
 // A record: its node's number, N, H, W, the last tick and the node.
 pub struct Record {
@@ -24,34 +36,11 @@ pub struct Record {
     pub node: Node,
 }
 
-// The upper ends of 01's ranges.
-const MOST_NODES: u64 = 64;
+// The highest tick, in the width of a record's.
+const MOST_TICK: u32 = limits::MOST_TICK as u32;
 
-const MOST_H: u64 = 1000;
-
-const MOST_W: u64 = 65535;
-
-const MOST_TICK: u32 = 1000000;
-
-// Sizes in bytes, and where the spare bytes of a record begin.
-const RECORD_SIZE: usize = 64;
-
+// Where the spare bytes of a record begin.
 const SPARE_FROM: usize = 28;
-
-const MESSAGE_SIZE: usize = 8;
-
-const PART_SIZE: usize = 56;
-
-// Refusals.
-const BAD_RECORD: u64 = 10;
-
-const BAD_TICK: u64 = 12;
-
-const BAD_MESSAGE: u64 = 11;
-
-const SHORT_PART: u64 = 9;
-
-const OUT_OF_RANGE: u64 = 3;
 
 // ---- a record's bytes
 
@@ -147,7 +136,7 @@ fn is_openable(number: u64, nodes: u64, h: u64, w: u64) -> bool
     if nodes < 1 {
         return false;
     }
-    if MOST_NODES < nodes {
+    if (MOST_NODES as u64) < nodes {
         return false;
     }
     if nodes <= number {
@@ -165,50 +154,6 @@ fn is_openable(number: u64, nodes: u64, h: u64, w: u64) -> bool
     w <= MOST_W
 }
 
-// Whether the emitter, the observer and the dead list are of the ring, and the record's own node is not listed.
-fn neighbours_in_range(r: Record) -> bool
-    requires { ⌜ (1 ≤ r .nodes) × (r .nodes ≤ mostNodes) ⌝ }
-    ensures { λ b. ⌜ b ≡ neighboursInRange r ⌝ }
-{
-    if r.nodes <= r.node.emitter {
-        return false;
-    }
-    if r.nodes <= r.node.observer {
-        return false;
-    }
-    if ring::all_nodes(r.nodes) < r.node.list {
-        return false;
-    }
-    !ring::is_listed(r.node.list, r.number)
-}
-
-// A timer is off, or what it is about is another node.
-fn is_apart(timer: u32, other: u8, number: u8) -> bool
-    ensures { λ r. ⌜ r ≡ apart timer other number ⌝ }
-{
-    if timer == 0 {
-        return true;
-    }
-    other != number
-}
-
-// Whether the timers are no later than a rule can set them, and about other nodes where they are on.
-fn timers_in_range(r: Record) -> bool
-    requires { ⌜ (r .last ≤ mostTick) × (r .h ≤ mostH) × (r .w ≤ mostW) ⌝ }
-    ensures { λ b. ⌜ b ≡ timersInRange r ⌝ }
-{
-    if r.last + 2 * r.w + 1 < r.node.watch {
-        return false;
-    }
-    if r.last + r.h + 1 < r.node.heartbeat {
-        return false;
-    }
-    if !is_apart(r.node.watch, r.node.emitter, r.number) {
-        return false;
-    }
-    is_apart(r.node.heartbeat, r.node.observer, r.number)
-}
-
 // Whether every field of a record is in its range.
 fn in_range(r: Record) -> bool
     ensures { λ b. ⌜ b ≡ inRange r ⌝ }
@@ -219,10 +164,10 @@ fn in_range(r: Record) -> bool
     if MOST_TICK < r.last {
         return false;
     }
-    if !neighbours_in_range(r) {
+    if !node::node_in_range(r.nodes, r.h, r.w, r.last, r.node) {
         return false;
     }
-    timers_in_range(r)
+    node::live_in_range(r.number, r.node)
 }
 
 // Whether a call takes these bytes as a record.
@@ -346,7 +291,8 @@ fn is_due(tick: u32, timer: u32) -> bool
 
 // The record's node after its watch if due, else its heartbeat if due, else nothing.
 fn timer_turn(r: Record, tick: u32) -> Turned
-    requires { ⌜ (1 ≤ r .nodes) × (r .nodes ≤ mostNodes) × (r .h ≤ mostH) × (r .w ≤ mostW) × (tick ≤ mostTick) × (r .node .emitter < mostNodes) ⌝ }
+    requires { ⌜ (1 ≤ r .nodes) × (r .nodes ≤ mostNodes) × (r .h ≤ mostH) × (r .w ≤ mostW) × (tick ≤ mostTick)
+        × (r .node .emitter < mostNodes) ⌝ }
     ensures { λ t. ⌜ t ≡ turned (fired r tick) ⌝ }
 {
     if is_due(tick, r.node.watch) {
@@ -381,7 +327,8 @@ fn opened_record(number: u8, nodes: u8, h: u32, w: u32) -> Record
 // The record and the message part after a turn of the record's node.
 fn leave(bytes: &mut [u8], part: &mut [u8], r: Record, tick: u32, t: Turned)
     requires { ⌜ (length (now bytes) ≡ recordSize) × (partSize ≤ length (now part)) × (t .count ≤ mostSent) ⌝ }
-    ensures { λ _. ⌜ (now (bytes .exit) ≡ encode (moved r tick (t .node))) × (now (part .exit) ≡ putMessages (now (part .entry)) (r .number) (take (t .count) (t .sent))) ⌝ }
+    ensures { λ _. ⌜ (now (bytes .exit) ≡ encode (withTurn r tick (t .node)))
+        × (now (part .exit) ≡ putMessages (now (part .entry)) (r .number) (take (t .count) (t .sent))) ⌝ }
 {
     let mut after = r;
     let node = t.node;
@@ -403,7 +350,8 @@ pub extern "C" fn kelbraut_node_open(
     h: u64,
     w: u64,
 ) -> u64
-    ensures { λ r. ⌜ (r ≡ openAnswer (now (bytes .entry)) number nodes h w) × (now (bytes .exit) ≡ openLeaves (now (bytes .entry)) number nodes h w) ⌝ }
+    ensures { λ r. ⌜ (r ≡ openAnswer (now (bytes .entry)) number nodes h w)
+        × (now (bytes .exit) ≡ openLeaves (now (bytes .entry)) number nodes h w) ⌝ }
 {
     if bytes.len() != RECORD_SIZE {
         return BAD_RECORD;

@@ -8,9 +8,10 @@ use Prim.Native.Nat.{ℕ, zero, suc, _+_, _≤_}
 use native.Mathlib.Nat.{zero-add}
 use native.Mathlib.Omega.{arith}
 use lib.Dec.{ltb}
-use Rattle.runfile.specs.Plan.{Plan}
-use Rattle.ring.specs.Limits.{lineRoom}
-use Rattle.model.specs.Platform.{State, Entry, Outcome, did, ended, refused, nextEvent, spent, finished, overfull, runAnswer, try, left, steps, eventCount, after, start, Call, step, run, asks, asked, events, called, calls}
+use Rattle.model.specs.Platform.{State, Entry, Outcome, did, ended, refused, nextEvent, spent, finished, overfull, runAnswer, try, left, steps}
+use Rattle.model.specs.Platform.{eventCount, after, start, step, run, asks, asked, events, called, calls, SizedCall}
+use Rattle.plans.specs.Plan.{Plan}
+use Rattle.limits.specs.Limits.{lineRoom}
 
 module _ (p : Plan) where
   -- where no event is done, none ever is
@@ -30,7 +31,8 @@ module _ (p : Plan) where
   counted zero s = refl
   counted (suc k) s = go (try p s) refl (λ s'. counted k s')
     where
-      go : (o : Outcome) → try p s ≡ o → ((s' : State) → steps p k s' ≡ steps p (eventCount p k s') s') → steps p k (left s o) ≡ steps p (elim o [ did e s' ↦ suc (eventCount p k s') | ended ↦ zero | refused ↦ zero ]) s
+      go : (o : Outcome) → try p s ≡ o → ((s' : State) → steps p k s' ≡ steps p (eventCount p k s') s')
+          → steps p k (left s o) ≡ steps p (elim o [ did e s' ↦ suc (eventCount p k s') | ended ↦ zero | refused ↦ zero ]) s
       go (did e s') q ih = ih s' ∙ ap (λ (o : Outcome). steps p (eventCount p k s') (left s o)) (sym q)
       go ended q ih = stuck k s (ap (left s) q)
       go refused q ih = stuck k s (ap (left s) q)
@@ -40,7 +42,8 @@ module _ (p : Plan) where
   count-le zero s = omega arith
   count-le (suc k) s = go (try p s) (λ s'. count-le k s')
     where
-      go : (o : Outcome) → ((s' : State) → eventCount p k s' ≤ k) → elim o [ did e s' ↦ suc (eventCount p k s') | ended ↦ zero | refused ↦ zero ] ≤ suc k
+      go : (o : Outcome) → ((s' : State) → eventCount p k s' ≤ k)
+          → elim o [ did e s' ↦ suc (eventCount p k s') | ended ↦ zero | refused ↦ zero ] ≤ suc k
       go (did e s') ih = omega (arith, ih s')
       go ended ih = omega arith
       go refused ih = omega arith
@@ -69,12 +72,13 @@ module _ (p : Plan) where
   count-add (suc a) b s = let e : suc a + b ≡ suc (a + b) = omega arith in rw e (go (try p s) refl (λ s'. count-add a b s'))
     where
       go : (o : Outcome) → try p s ≡ o → ((s' : State) → eventCount p (a + b) s' ≡ eventCount p a s' + eventCount p b (steps p a s'))
-          → elim o [ did e s' ↦ suc (eventCount p (a + b) s') | ended ↦ zero | refused ↦ zero ] ≡ elim o [ did e s' ↦ suc (eventCount p a s') | ended ↦ zero | refused ↦ zero ] + eventCount p b (steps p a (left s o))
+          → elim o [ did e s' ↦ suc (eventCount p (a + b) s') | ended ↦ zero | refused ↦ zero ]
+          ≡ elim o [ did e s' ↦ suc (eventCount p a s') | ended ↦ zero | refused ↦ zero ] + eventCount p b (steps p a (left s o))
       go (did e s') q ih = omega (arith, ih s')
       go ended q ih = rw (stuck a s (ap (left s) q)) (omega (arith, none-left b s q))
       go refused q ih = rw (stuck a s (ap (left s) q)) (omega (arith, none-fits b s q))
 
-  called-steps : (c : Call) (s : State) → called p c s ≡ steps p (asks c) s
+  called-steps : (c : SizedCall) (s : State) → called p c s ≡ steps p (asks c) s
   unfolding called asks steps
   called-steps (run budget) s = refl
   called-steps (step room) s = go (ltb room lineRoom)
@@ -83,23 +87,23 @@ module _ (p : Plan) where
       go true = refl
       go false = refl
 
-  calls-steps : (cs : List Call) (s : State) → calls p cs s ≡ steps p (asked cs) s
+  calls-steps : (cs : List SizedCall) (s : State) → calls p cs s ≡ steps p (asked cs) s
   unfolding calls asked steps
   calls-steps [] s = refl
   calls-steps (c ∷ cs) s = ap (calls p cs) (called-steps c s) ∙ calls-steps cs (steps p (asks c) s) ∙ sym (steps-add (asks c) (asked cs) s)
 
   -- the events done are the first e
-  pub calls-after : (cs : List Call) → calls p cs (start p) ≡ after p (events p cs)
+  pub calls-after : (cs : List SizedCall) → calls p cs (start p) ≡ after p (events p cs)
   unfolding after events
   calls-after cs = calls-steps cs (start p) ∙ counted (asked cs) (start p)
 
-  asked-then : (cs : List Call) (c : Call) → asked (cs ++ (c ∷ [])) ≡ asked cs + asks c
+  asked-then : (cs : List SizedCall) (c : SizedCall) → asked (cs ++ (c ∷ [])) ≡ asked cs + asks c
   unfolding asked
   asked-then [] c = omega arith
   asked-then (b ∷ cs) c = omega (arith, asked-then cs c)
 
   -- e is the sum of what each call does: one more call adds the events that it does from where the others left off
-  pub events-then : (cs : List Call) (c : Call) → events p (cs ++ (c ∷ [])) ≡ events p cs + eventCount p (asks c) (calls p cs (start p))
+  pub events-then : (cs : List SizedCall) (c : SizedCall) → events p (cs ++ (c ∷ [])) ≡ events p cs + eventCount p (asks c) (calls p cs (start p))
   unfolding events
   events-then cs c = rw (asked-then cs c, calls-steps cs (start p)) (count-add (asked cs) (asks c) (start p))
 
@@ -113,7 +117,8 @@ module _ (p : Plan) where
       never (some x) e h = let z : _≡_ {A = ℕ} 0 1 = cc in omega arith
   spent-full (suc k) s h = go (try p s) refl h (λ s' q. spent-full k s' q)
     where
-      go : (o : Outcome) → try p s ≡ o → elim o [ did e s' ↦ runAnswer p k s' | ended ↦ finished | refused ↦ overfull ] ≡ spent → ((s' : State) → runAnswer p k s' ≡ spent → (eventCount p k s' ≡ k) × (nextEvent p (steps p k s') ≢ none))
+      go : (o : Outcome) → try p s ≡ o → elim o [ did e s' ↦ runAnswer p k s' | ended ↦ finished | refused ↦ overfull ] ≡ spent
+          → ((s' : State) → runAnswer p k s' ≡ spent → (eventCount p k s' ≡ k) × (nextEvent p (steps p k s') ≢ none))
           → (elim o [ did e s' ↦ suc (eventCount p k s') | ended ↦ zero | refused ↦ zero ] ≡ suc k) × (nextEvent p (steps p k (left s o)) ≢ none)
       go (did e s') q h ih = (ap suc ((ih s' h) .0), (ih s' h) .1)
       go ended q h ih = let z : _≡_ {A = ℕ} 0 1 = cc in absurd (omega arith)

@@ -11,7 +11,7 @@ use Rattle.model.proofs.Invariant.{Inv, Covered, byHeartbeat, byTimer, 
 use Rattle.model.proofs.EveryEvent.{live-not-dead, Alike, base'}
 use Rattle.model.proofs.OneState.{emitter-beats}
 use Rattle.model.proofs.OneNode.{each, alike, timers}
-use Rattle.model.proofs.WatchKept.{stays0, came0, covered-map, answered-map}
+use Rattle.model.proofs.WatchKept.{stays0, came0, covered-map, answered-map, same-node}
 
 module _ (p : Params) (s s' : View) (i : Inv p s) where
   module _ (t k : ℕ) (e : Crash p s s' t k) where
@@ -29,9 +29,12 @@ module _ (p : Params) (s s' : View) (i : Inv p s) where
       new = λ m h. absurd (List·Memᴰ·not-nil h);
     }
 
-    crash-turn : (j a w : ℕ) (n : Seen) → a ≡ k → Live s j → (s .node j) .emitter ≡ a → a ≢ j → n .alive ≡ false → Covered p (s .flight) j a w (s .node a) → Covered p (s' .flight) j a w n
+    crash-turn : (j a w : ℕ) (n : Seen) → a ≡ k → Live s j → (s .node j) .emitter ≡ a → a ≢ j → n .alive ≡ false
+        → Covered p (s .flight) j a w (s .node a)
+        → Covered p (s' .flight) j a w n
     crash-turn j a w n q lj ej ne d (byHeartbeat m h k f t u) = byHeartbeat m (stays0 (s' .flight) m (e .frame .keep m h)) k f t u
-    crash-turn j a w n q lj ej ne d (byTimer la o u) = byCrash d (omega (arith, ap (p .c) q, e .at, e .least .heartbeat≥ a la (emitter-beats p s i j a lj ej ne la)))
+    crash-turn j a w n q lj ej ne d (byTimer la o u) =
+        byCrash d (omega (arith, ap (p .c) q, e .at, e .least .heartbeat≥ a la (emitter-beats p s i j a lj ej ne la)))
     crash-turn j a w n q lj ej ne d (byObserver la m h k f t u) = byCrash d (omega (arith, ap (p .c) q, e .at, e .least .message≥ m h))
     crash-turn j a w n q lj ej ne d (byCrash o u) = byCrash d u
 
@@ -49,7 +52,7 @@ module _ (p : Params) (s s' : View) (i : Inv p s) where
 
         go : Dec (a ≡ k) → Covered p (s' .flight) j a ((s .node j) .watch) (s' .node a)
         go (yes q) = crash-turn j a _ _ q lj0 ej0 ne (rw (q, e .frame .here)) (i .covered j a lj0 ej0 ne)
-        go (no n) = rw (e .frame .other a n) (covered-map p (s .flight) (s' .flight) j a _ _ _ _ (i .covered j a lj0 ej0 ne) (omega arith) record { alive = refl; observer = refl; heartbeat = refl }
+        go (no n) = rw (e .frame .other a n) (covered-map p (s .flight) (s' .flight) j a _ _ _ _ (i .covered j a lj0 ej0 ne) (omega arith) (same-node _)
             (λ m h k f t. stays0 (s' .flight) m (e .frame .keep m h)) (λ la m h k f t. stays0 (s' .flight) m (e .frame .keep m h)))
 
     pub crash-inv : Inv p s'

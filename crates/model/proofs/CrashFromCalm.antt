@@ -11,14 +11,14 @@ use Rattle.model.proofs.Events.{Seen, View, Live, Dead, _∈_, Params, 
 use Rattle.model.proofs.Invariant.{Inv}
 use Rattle.model.proofs.EveryEvent.{live-not-dead}
 use Rattle.model.proofs.OneState.{not-alone, one-watcher, live-unlisted}
-use Rattle.model.proofs.OneNode.{each}
+use Rattle.model.proofs.OneNode.{OnEach, each}
 use Rattle.model.proofs.WatchKept.{came0}
 use Rattle.model.proofs.CrashDone.{crash-alike}
 use Rattle.model.proofs.Phases.{Up, Calm, Unnoticed}
 
 module _ (p : Params) (s s' : View) (i : Inv p s) where
   module _ (t z : ℕ) (e : Crash p s s' t z) (c : Calm p s) where
-    all : (Q : ℕ → Seen → Seen → Type 0) → Q z (s .node z) (crashed p (s .node z)) → ((j : ℕ) → Q j (s .node j) (s .node j)) → (j : ℕ) → Q j (s .node j) (s' .node j)
+    all : OnEach s s' z (crashed p (s .node z))
     all = each p s s' t z _ [] [] (e .frame)
 
     em-same : (j : ℕ) → (s' .node j) .emitter ≡ (s .node j) .emitter
@@ -85,15 +85,18 @@ module _ (p : Params) (s s' : View) (i : Inv p s) where
           of = em-same q ∙ eq;
           lists = λ j k u d nk. rw (list-same j) (c .lists j k (up' j u) (dead' k d nk));
           unknown = λ j u h. live-unlisted p s (i .base) j z (rw (list-same j) at h) (e .live);
-          emitter = λ j u nq. rw (em-same j) (up _ (c .emitter j (up' j u)) (λ r. nq (one-watcher p s (i .base) j q z ((up' j u) .1) (uq .1) r eq (not-z j (u .1)) n)));
+          emitter = λ j u nq.
+              rw (em-same j) (up _ (c .emitter j (up' j u)) (λ r. nq (one-watcher p s (i .base) j q z ((up' j u) .1) (uq .1) r eq (not-z j (u .1)) n)));
           observer = λ j u. rw (observer-same j) (obs j u (ℕ-discrete ((s .node j) .observer) z));
           prev = rw (em-same z) (up _ (c .emitter z upz) (λ r. gone r q (up q uq n)));
           kinds = kinds';
           wq = rw (w-same q) (omega (arith, c .watch q uq (λ r. n (sym r ∙ eq)), i .base .undone z (e .live) (e .plan), e .at, p .D≥1));
-          watch = λ j u nq ne. rw (w-same j, e .frame .last') (omega (arith, c .watch j (up' j u) (λ r. ne (em-same j ∙ r)), i .base .undone z (e .live) (e .plan), e .at));
+          watch = λ j u nq ne. rw (w-same j, e .frame .last')
+              (omega (arith, c .watch j (up' j u) (λ r. ne (em-same j ∙ r)), i .base .undone z (e .live) (e .plan), e .at));
         }
       where
-        obs : (j : ℕ) → Up p s' j → Dec ((s .node j) .observer ≡ z) → (Up p s' ((s .node j) .observer) × ((s' .node ((s .node j) .observer)) .emitter ≡ j)) ⊎ ((s' .node z) .emitter ≡ j)
+        obs : (j : ℕ) → Up p s' j → Dec ((s .node j) .observer ≡ z)
+            → (Up p s' ((s .node j) .observer) × ((s' .node ((s .node j) .observer)) .emitter ≡ j)) ⊎ ((s' .node z) .emitter ≡ j)
         obs j u (yes r) = inr (em-same z ∙ (rw r at ((c .observer j (up' j u)) .1)))
         obs j u (no r) = inl (up _ ((c .observer j (up' j u)) .0) r, em-same _ ∙ (c .observer j (up' j u)) .1)
 

@@ -8,12 +8,14 @@ use native.Mathlib.Omega.{arith}
 use native.Mathlib.Decide.{ℕ-discrete}
 use lib.ListN.{length, getD, take, length-take}
 use lib.Seq.{getD-take}
-use Rattle.runfile.specs.Plan.{Crash, Plan, hits}
+use Rattle.plans.specs.Plan.{Crash, Plan, hits}
 use Rattle.model.specs.Platform.{State, Event, Entry, crash, message, watch, heartbeat, alive, start, taken, apply, Outcome, did}
-use Rattle.model.specs.Platform.{ended, refused, try, left, steps, eventsFrom, firstEvents, after}
-use Rattle.model.specs.Range.{noCrash, rowAt, Plain, Sound}
-use Rattle.model.specs.Claims.{crashOf, CrashedAmong, CrashedAre}
-use Rattle.model.proofs.NextEvent.{Chosen, hit-where, hit-of}
+use Rattle.model.specs.Platform.{entry, crashEntry, ended, refused, try, left, steps, eventsFrom, firstEvents, after}
+use Rattle.plans.specs.Plain.{noCrash, rowAt, Plain}
+use Rattle.model.specs.Range.{Sound}
+use Rattle.model.specs.Claims.{CrashedAmong, CrashedAre}
+use Rattle.model.proofs.NextEvent.{Chosen, hit-where}
+use Rattle.plans.proofs.Rows.{hit-of}
 use Rattle.model.proofs.Calls.{stuck}
 use Rattle.model.proofs.RangesKept.{at-in, start-range, Tried, happened, none-left, too-many, try-ok, left-range, after-range}
 
@@ -24,10 +26,10 @@ module _ (p : Plan) (pl : Plain p) where
   -- an event e leads from s to s': the next C line's, or one that is no crash
   abbrev Counts : State → Entry → State → Type 0
   Counts s e s' =
-      ((s .done < length (p .crashes)) × (s' .done ≡ suc (s .done)) × (e ≡ crashOf (rowAt p (s .done))))
-      ⊎ ((s' .done ≡ s .done) × ((r : Crash) → crashOf r ≡ e → ⊥))
+      ((s .done < length (p .crashes)) × (s' .done ≡ suc (s .done)) × (e ≡ crashEntry (rowAt p (s .done))))
+      ⊎ ((s' .done ≡ s .done) × ((r : Crash) → crashEntry r ≡ e → ⊥))
 
-  counts : (s : State) (t : ℕ) (e : Event) → Chosen p pl s t e → Counts s (record { tick = t; event = e }) (apply p s t e)
+  counts : (s : State) (t : ℕ) (e : Event) → Chosen p pl s t e → Counts s (entry t e) (apply p s t e)
   unfolding Chosen apply taken
   counts s t (crash k) ch = inl (ch .0, refl, rw (ch .1, ch .2))
   counts s t (message i) ch = inr (refl, λ r q. let e = ap (λ (a : Entry). a .event) q in let z : _≡_ {A = ℕ} 0 1 = cc e in omega arith)
@@ -56,43 +58,46 @@ module _ (p : Plan) (pl : Plain p) where
   rest k s o = elim o [ did e s' ↦ e ∷ eventsFrom p k s' | ended ↦ [] | refused ↦ [] ]
 
   -- the C lines that k tries do are among their events
-  row-among : (k : ℕ) (s : State) → Sound p s → (i : ℕ) → s .done ≤ i → i < (steps p k s) .done → List·Memᴰ (crashOf (rowAt p i)) (eventsFrom p k s)
+  row-among : (k : ℕ) (s : State) → Sound p s → (i : ℕ) → s .done ≤ i → i < (steps p k s) .done
+      → List·Memᴰ (crashEntry (rowAt p i)) (eventsFrom p k s)
   unfolding steps eventsFrom left
   row-among zero s r i a b = absurd (omega arith)
   row-among (suc k) s r i a b = go (try p s) refl (try-ok p pl s r) (row-among k) b
     where
       go : (o : Outcome) → try p s ≡ o → Tried p pl s o
-          → ((s' : State) → Sound p s' → (j : ℕ) → s' .done ≤ j → j < (steps p k s') .done → List·Memᴰ (crashOf (rowAt p j)) (eventsFrom p k s'))
-          → i < (steps p k (left s o)) .done → List·Memᴰ (crashOf (rowAt p i)) (rest k s o)
+          → ((s' : State) → Sound p s' → (j : ℕ) → s' .done ≤ j → j < (steps p k s') .done
+          → List·Memᴰ (crashEntry (rowAt p j)) (eventsFrom p k s'))
+          → i < (steps p k (left s o)) .done → List·Memᴰ (crashEntry (rowAt p i)) (rest k s o)
       go o q (happened e b a' ch f) ih l = at (counts s (e .tick) (e .event) ch)
         where
           s' : State
           s' = apply p s (e .tick) (e .event)
 
-          later : s' .done ≤ i → List·Memᴰ (crashOf (rowAt p i)) (eventsFrom p k s')
+          later : s' .done ≤ i → List·Memᴰ (crashEntry (rowAt p i)) (eventsFrom p k s')
           later h = ih s' (left-range p pl s r (did e s') (happened e b a' ch f)) i h l
 
-          first : (e ≡ crashOf (rowAt p (s .done))) → Dec (i ≡ s .done) → s' .done ≡ suc (s .done) → List·Memᴰ (crashOf (rowAt p i)) (e ∷ eventsFrom p k s')
-          first q (yes h) d = List·Memᴰ·head (ap (λ (j : ℕ). crashOf (rowAt p j)) h ∙ sym q)
+          first : (e ≡ crashEntry (rowAt p (s .done))) → Dec (i ≡ s .done) → s' .done ≡ suc (s .done)
+              → List·Memᴰ (crashEntry (rowAt p i)) (e ∷ eventsFrom p k s')
+          first q (yes h) d = List·Memᴰ·head (ap (λ (j : ℕ). crashEntry (rowAt p j)) h ∙ sym q)
           first q (no h) d = List·Memᴰ·tail (later (omega arith))
 
-          at : Counts s e s' → List·Memᴰ (crashOf (rowAt p i)) (e ∷ eventsFrom p k s')
+          at : Counts s e s' → List·Memᴰ (crashEntry (rowAt p i)) (e ∷ eventsFrom p k s')
           at (inl c) = first (c .2) (ℕ-discrete i (s .done)) (c .1)
           at (inr c) = List·Memᴰ·tail (later (omega (arith, c .0)))
       go o q (none-left h) ih l = absurd (omega (arith, ap (λ (s' : State). s' .done) (stuck p k s (ap (left s) q))))
       go o q (too-many e ch h) ih l = absurd (omega (arith, ap (λ (s' : State). s' .done) (stuck p k s (ap (left s) q))))
 
   -- a C line's event among those of k tries is one of the C lines that they do
-  among-row : (k : ℕ) (s : State) → Sound p s → (r : Crash) → List·Memᴰ (crashOf r) (eventsFrom p k s)
+  among-row : (k : ℕ) (s : State) → Sound p s → (r : Crash) → List·Memᴰ (crashEntry r) (eventsFrom p k s)
       → (i : ℕ) × (i < (steps p k s) .done) × (rowAt p i .node ≡ r .node)
   unfolding steps eventsFrom left
   among-row zero s v r m = absurd (List·Memᴰ·not-nil m)
   among-row (suc k) s v r m = go (try p s) (try-ok p pl s v) (among-row k) m
     where
       go : (o : Outcome) → Tried p pl s o
-          → ((s' : State) → Sound p s' → (r : Crash) → List·Memᴰ (crashOf r) (eventsFrom p k s')
+          → ((s' : State) → Sound p s' → (r : Crash) → List·Memᴰ (crashEntry r) (eventsFrom p k s')
           → (i : ℕ) × (i < (steps p k s') .done) × (rowAt p i .node ≡ r .node))
-          → List·Memᴰ (crashOf r) (rest k s o) → (i : ℕ) × (i < (steps p k (left s o)) .done) × (rowAt p i .node ≡ r .node)
+          → List·Memᴰ (crashEntry r) (rest k s o) → (i : ℕ) × (i < (steps p k (left s o)) .done) × (rowAt p i .node ≡ r .node)
       go o (happened e b a ch f) ih m = at (List·Memᴰ·cases-cons m)
         where
           s' : State
@@ -101,11 +106,12 @@ module _ (p : Plan) (pl : Plain p) where
           v' : Sound p s'
           v' = left-range p pl s v (did e s') (happened e b a ch f)
 
-          first : crashOf r ≡ e → Counts s e s' → (i : ℕ) × (i < (steps p k s') .done) × (rowAt p i .node ≡ r .node)
+          first : crashEntry r ≡ e → Counts s e s' → (i : ℕ) × (i < (steps p k s') .done) × (rowAt p i .node ≡ r .node)
           first q (inl c) = (s .done, omega (arith, c .1, more k s' v'), sym (same-node (ap (λ (a : Entry). a .event) (q ∙ c .2))))
           first q (inr c) = absurd (c .1 r q)
 
-          at : (crashOf r ≡ e) ⊎ List·Memᴰ (crashOf r) (eventsFrom p k s') → (i : ℕ) × (i < (steps p k s') .done) × (rowAt p i .node ≡ r .node)
+          at : (crashEntry r ≡ e) ⊎ List·Memᴰ (crashEntry r) (eventsFrom p k s')
+              → (i : ℕ) × (i < (steps p k s') .done) × (rowAt p i .node ≡ r .node)
           at (inl q) = first q (counts s (e .tick) (e .event) ch)
           at (inr q) = ih s' v' r q
       go o (none-left h) ih m = absurd (List·Memᴰ·not-nil m)

@@ -1,30 +1,37 @@
 -- Each event of the platform is an event of the proof. Assumes nothing.
 use mathlib.Core.Path.{_≡_, refl, sym, ap, _∙_, subst}
 use mathlib.Core.Logic.{_⊎_, inl, inr, _≢_}
-use mathlib.Core.Bool.{Bool, true, false, cond, not, _||_}
-use mathlib.Core.List.{List, [], _∷_, List·Memᴰ, List·Memᴰ·not-nil, List·Memᴰ·head}
-use Prim.Native.Nat.{ℕ, zero, suc, _+_, _*_, _≤_, _<_}
+use mathlib.Core.Bool.{Bool, true, false, cond, not}
+use mathlib.Core.List.{[], _∷_, List·Memᴰ, List·Memᴰ·not-nil, List·Memᴰ·head}
+use Prim.Native.Nat.{ℕ, zero, suc, _+_, _≤_, _<_}
 use native.Mathlib.Omega.{arith}
-use borrow.Author.Tests.{eqb-true, eqb-false}
-use lib.Dec.{eqb}
 use lib.ListN.{length}
-use Rattle.ring.specs.Ring.{keep, numbers, listed, listing, place, back, targets, InOrder}
+use Rattle.ring.specs.Ring.{keep, numbers, listed, listing, place, targets, InOrder}
+use Rattle.ring.proofs.Neighbours.{found-back}
 use Rattle.node.specs.declared.Node.{Node}
-use Rattle.node.specs.Node.{H, O, R, Turn, silent, alone, due, reports, onHeartbeat, onObserver, onReport, onMessage, onWatchDue, onHeartbeatDue}
-use Rattle.runfile.specs.Plan.{Crash, Plan}
-use Rattle.model.specs.Platform.{InFlight, State, Event, alive, survivors, delayOf, numbered, nodeOf, taken, messageAt, without, received, apply, crash as crashE, message as messageE, watch as watchE, heartbeat as beatE}
-use Rattle.model.specs.Range.{noCrash, Known, rowAt, Accepted, FlightRange, NotBefore, Sound}
+use Rattle.node.specs.Node.{H, O, R, Turn, silent, alone, due, reports, onMessage, message, sending, leftList, newEmitter, moved, withObserver, withWatch}
+use Rattle.node.specs.Node.{withHeartbeat, withList}
+use Rattle.node.proofs.Moves.{Heard, renews, unheard, Reported, known, own, relays, Messaged, beats, observes, tells, messaged, other-is-report, beaten}
+use Rattle.node.proofs.Moves.{movedSends, Left, stops, moves, left}
+use Rattle.plans.specs.Plan.{Crash, Plan}
+use Rattle.model.specs.Platform.{InFlight, State, Event, alive, survivors, delayOf, numbered, nodeOf, taken, messageAt, without, received, apply}
+use Rattle.model.specs.Platform.{crash as crashE, message as messageE, watch as watchE, heartbeat as beatE}
+use Rattle.plans.specs.Plain.{noCrash, rowAt}
+use Rattle.model.specs.Range.{Accepted, FlightRange, NotBefore, Sound}
 use Rattle.model.specs.Claims.{S, settledBy, Spaced}
-use Rattle.model.proofs.RingOrder.{cnt, gap}
-use Rattle.model.proofs.RingSearch.{Found}
-use Rattle.model.proofs.RingLists.{ordOf, numbers-cnt}
-use Rattle.model.proofs.Events.{Frame, AtTimer, AtMessage, Expiry, Step, crash, drop, idle, beat, watched, report, moves, alone as aloneS, sends, Seen}
+use Rattle.ring.proofs.Unlisted.{countBy}
+use Rattle.ring.proofs.GoingBack.{Found}
+use Rattle.ring.proofs.Laws.{keep-ext}
+use Rattle.ring.proofs.Lists.{listing-other}
+use Rattle.ring.proofs.Gaps.{gap}
+use Rattle.model.proofs.Events.{Frame, AtTimer, AtMessage, Expiry, Step, crash, drop, idle, beat, watched, report, alone as aloneS, sends, Seen}
+use Rattle.model.proofs.Events.{moves as moves-on}
 use Rattle.model.proofs.Invariant.{Inv}
 use Rattle.model.proofs.Phases.{span, crashedIn}
 use Rattle.model.proofs.SpacedRuns.{Last, none as never, at, after, SpacedStep}
-use Rattle.model.proofs.NextEvent.{hit-of, next-alive, alive-other, alive-hit, Chosen}
-use Rattle.model.proofs.RulesInRange.{add-other, Standing, watch-un, watch-found}
-use Rattle.model.proofs.RangesKept.{delay-ok, without-in, without-has, at-mem, standing, in-n}
+use Rattle.plans.proofs.Rows.{hit-of}
+use Rattle.model.proofs.NextEvent.{next-alive, alive-other, alive-hit, Chosen}
+use Rattle.model.proofs.RangesKept.{delay-ok, without-in, without-has, at-mem, in-n}
 use Rattle.model.proofs.Viewed.{tick-of, P, on-of, seen, view, least, frame, told, adds}
 
 -- the last crash of the first k
@@ -32,15 +39,12 @@ abbrev pub lastOf : Plan → ℕ → Last
 lastOf p zero = never
 lastOf p (suc i) = at ((rowAt p i) .tick)
 
-pub keep-ext : (f g : ℕ → Bool) (xs : List ℕ) → ((k : ℕ) → f k ≡ g k) → keep f xs ≡ keep g xs
-unfolding keep
-keep-ext f g [] h = refl
-keep-ext f g (x ∷ xs) h = rw (h x, keep-ext f g xs h)
-
 module _ (p : Plan) (ac : Accepted p) where
-  pub survivors-cnt : (s : State) → cnt (p .n) (ordOf (p .n) (p .order) ((ac .plain) .order)) (crashedIn (view p s)) ≡ survivors p (s .done)
-  unfolding survivors
-  survivors-cnt s = sym (numbers-cnt (p .n) (p .order) ((ac .plain) .order) (crashedIn (view p s))) ∙ ap length (keep-ext (λ k. not (not (alive p (s .done) k))) (alive p (s .done)) (numbers 0 (p .n)) (λ k. twice (alive p (s .done) k)))
+  pub survivors-cnt : (s : State) → countBy (p .n) (crashedIn (view p s)) ≡ survivors p (s .done)
+  unfolding survivors countBy
+  survivors-cnt s =
+      ap length
+      (keep-ext (λ k. not (not (alive p (s .done) k))) (alive p (s .done)) (numbers 0 (p .n)) (λ k. twice (alive p (s .done) k)))
     where
       twice : (b : Bool) → not (not b) ≡ b
       twice true = refl
@@ -54,7 +58,8 @@ module _ (p : Plan) (ac : Accepted p) where
       pub spaced : Spaced p (s' .done) → SpacedStep (P p ac) (view p s) (view p s') step (lastOf p (s .done))
       pub more : s .done ≤ s' .done
 
-    spaced-at : (n t : ℕ) → s .done ≡ suc n → (rowAt p (s .done)) .tick ≡ t → Spaced p (suc (s .done)) → (rowAt p n) .tick + span (P p ac) (cnt (p .n) (ordOf (p .n) (p .order) ((ac .plain) .order)) (crashedIn (view p s))) ≤ t
+    spaced-at : (n t : ℕ) → s .done ≡ suc n → (rowAt p (s .done)) .tick ≡ t → Spaced p (suc (s .done))
+        → (rowAt p n) .tick + span (P p ac) (countBy (p .n) (crashedIn (view p s))) ≤ t
     unfolding Spaced settledBy S
     spaced-at n t e q sp = rw (survivors-cnt s, e) (rw (sym q, e) (sp n (omega arith)))
 
@@ -85,11 +90,12 @@ module _ (p : Plan) (ac : Accepted p) where
             };
           }
 
-          sd : (n : ℕ) → s .done ≡ n → Spaced p (suc (s .done)) → SpacedStep (P p ac) (view p s) (view p (apply p s t (crashE k))) (crash t k ev) (lastOf p n)
+          sd : (n : ℕ) → s .done ≡ n → Spaced p (suc (s .done))
+              → SpacedStep (P p ac) (view p s) (view p (apply p s t (crashE k))) (crash t k ev) (lastOf p n)
           sd zero e sp = tt
           sd (suc n) e sp = c
             where
-              c : (rowAt p n) .tick + span (P p ac) (cnt (p .n) (ordOf (p .n) (p .order) ((ac .plain) .order)) (crashedIn (view p s))) ≤ t
+              c : (rowAt p n) .tick + span (P p ac) (countBy (p .n) (crashedIn (view p s))) ≤ t
               c = spaced-at n t e (ch .1) sp
 
       timer-least : NotBefore p s (suc t) (suc t) t → AtTimer (P p ac) (view p s) t
@@ -99,8 +105,8 @@ module _ (p : Plan) (ac : Accepted p) where
       live-is x l n = ap (λ (b : Bool). seen b n) l
 
       beat-does : (x : ℕ) → Chosen p (ac .plain) s t (beatE x) → Does (apply p s t (beatE x))
-      unfolding Chosen apply taken onHeartbeatDue numbered
-      beat-does x ch = record {
+      unfolding Chosen apply taken numbered
+      beat-does x ch = rw (beaten (p .h) t (nodeOf s x)) (record {
         step = sends t x (record { number = s .next; kind = H; from = x; to = (nodeOf s x) .observer; subject = 0; due = t + delayOf p (s .next) }) record {
           live = ch .1;
           on = (on-of ((nodeOf s x) .heartbeat) t (ch .2)) .0;
@@ -111,95 +117,89 @@ module _ (p : Plan) (ac : Accepted p) where
           kind = refl;
           to = refl;
           least = timer-least (ch .3);
-          frame = frame p ac s r t x [] (s .flight) (onHeartbeatDue (p .h) t (nodeOf s x)) _ (in-n p (ac .plain) s r x (ch .0)) a b (live-is x (ch .1) ((onHeartbeatDue (p .h) t (nodeOf s x)) .node)) (λ g h. inr h) (λ g h. h);
+          frame = frame p ac s r t x [] (s .flight) (sending (withHeartbeat (nodeOf s x) (due (t + p .h))) (message H ((nodeOf s x) .observer) 0 ∷ [])) _
+              (in-n p (ac .plain) s r x (ch .0)) a b (live-is x (ch .1) (withHeartbeat (nodeOf s x) (due (t + p .h)))) (λ g h. inr h) (λ g h. h);
         };
         last = refl;
         spaced = λ sp. tt;
         more = omega arith;
-      }
+      })
+
+      -- ---- a watch that is due
+
+      module _ (x : ℕ) (xN : x < p .n) (alive-x : alive p (s .done) x ≡ true) (due-x : (nodeOf s x) .watch ≡ suc t)
+          (nb : NotBefore p s (suc t) (suc t) t) where
+        abbrev nx : Node
+        nx = nodeOf s x
+
+        abbrev io : InOrder (p .n) (p .order)
+        io = (ac .plain) .order
+
+        abbrev o : InOrder (p .n) (p .order)
+        o = io
+
+        abbrev y : ℕ
+        y = newEmitter (p .order) nx
+
+        other : nx .emitter ≢ x
+        other = (r .live x alive-x) .observes (λ z. omega arith)
+
+        un : listed (leftList nx) x ≡ false
+        un = listing-other (nx .list) (nx .emitter) x other ((r .live x alive-x) .lists)
+
+        -- the new emitter is found going back from the old one, seen from x
+        back-found : Found (p .n) o (listed (leftList nx)) x (gap (p .n) o x (nx .emitter)) y
+        back-found = found-back (p .n) (leftList nx) (p .order) io x xN un (nx .emitter) ((r .fields x xN) .emitter) other
+
+        expiry : Expiry (P p ac) (view p s) t x (listed (leftList nx)) y
+        expiry = record {
+          live = alive-x;
+          on = (on-of (nx .watch) t due-x) .0;
+          due = (on-of (nx .watch) t due-x) .1;
+          adds = adds p ac s r (nx .list) (nx .emitter);
+          back = record { inN = back-found .inN; unlisted = back-found .unlisted; past = back-found .past; passed = back-found .passed };
+          least = timer-least nb;
+        }
+
+        -- the node leaves its emitter
+        leaves : (u : Turn) → Left (p .order) (p .w) t x nx u → Does (taken p s t x (s .flight) u)
+        unfolding taken numbered
+        leaves u (stops e) = record {
+          step = aloneS t x (listed (leftList nx)) record {
+            expiry = rw e at expiry;
+            frame = frame p ac s r t x [] (s .flight) (silent (alone x (leftList nx))) _ xN a b
+                (live-is x alive-x (alone x (leftList nx))) (λ g h. inr h) (λ g h. h);
+          };
+          last = refl;
+          spaced = λ sp. tt;
+          more = omega arith;
+        }
+        leaves u (moves ne) = record {
+          step = moves-on t x (listed (leftList nx)) _ (record { number = s .next; kind = O; from = x; to = y; subject = 0; due = t + delayOf p (s .next) })
+              (numbered p t x (suc (s .next)) (reports (nx .emitter) (targets (p .order) (leftList nx) (place (p .order) x)))) record {
+                expiry = expiry;
+                other = ne;
+                o-by = refl;
+                o-after = omega (arith, (delay-ok p (ac .plain) (s .next)) .0);
+                o-within = omega (arith, (delay-ok p (ac .plain) (s .next)) .1);
+                o-kind = refl;
+                o-to = refl;
+                rs = told p ac s r x t (nx .emitter) (leftList nx) (suc (s .next)) xN un;
+                frame = frame p ac s r t x [] (s .flight) (sending (moved (p .w) t y (leftList nx) nx) (movedSends (p .order) (p .w) t x nx)) _ xN a b
+                    (live-is x alive-x (moved (p .w) t y (leftList nx) nx)) (λ g h. inr h) (λ g h. h);
+              };
+          last = refl;
+          spaced = λ sp. tt;
+          more = omega arith;
+        }
 
       watch-does : (x : ℕ) → Chosen p (ac .plain) s t (watchE x) → Does (apply p s t (watchE x))
-      unfolding Chosen apply taken onWatchDue numbered
-      watch-does x ch = go (eqb y x) refl
-        where
-          n : Node
-          n = nodeOf s x
-
-          io : InOrder (p .n) (p .order)
-          io = (ac .plain) .order
-
-          xN : x < p .n
-          xN = in-n p (ac .plain) s r x (ch .0)
-
-          D : ℕ
-          D = listing ((nodeOf s x) .list) ((nodeOf s x) .emitter)
-
-          y : ℕ
-          y = back (p .order) (listing ((nodeOf s x) .list) ((nodeOf s x) .emitter)) (place (p .order) ((nodeOf s x) .emitter))
-
-          st : Standing (p .n) (p .order) ((ac .plain) .order) (p .h) (p .w) t x (nodeOf s x)
-          st = standing p (ac .plain) s r t a b x xN (ch .1) (suc t) (suc t) (ch .3)
-
-          on : (nodeOf s x) .watch ≢ 0
-          on z = off ((nodeOf s x) .watch) z (ch .2)
-            where
-              off : (v : ℕ) → v ≡ 0 → v ≡ suc t → ⊥
-              off v z e = omega arith
-
-          un : listed (listing ((nodeOf s x) .list) ((nodeOf s x) .emitter)) x ≡ false
-          un = watch-un (p .n) (p .order) io (p .h) (p .w) t x xN (nodeOf s x) st ((ac .plain) .n≤) (st .apart .observes on)
-
-          fd : Found (p .n) (ordOf (p .n) (p .order) ((ac .plain) .order)) (listed (listing ((nodeOf s x) .list) ((nodeOf s x) .emitter))) x (gap (p .n) (ordOf (p .n) (p .order) ((ac .plain) .order)) x ((nodeOf s x) .emitter)) (back (p .order) (listing ((nodeOf s x) .list) ((nodeOf s x) .emitter)) (place (p .order) ((nodeOf s x) .emitter)))
-          fd = watch-found (p .n) (p .order) io (p .h) (p .w) t x xN (nodeOf s x) st ((ac .plain) .n≤) (st .apart .observes on)
-
-          ex : Expiry (P p ac) (view p s) t x (listed (listing ((nodeOf s x) .list) ((nodeOf s x) .emitter))) (back (p .order) (listing ((nodeOf s x) .list) ((nodeOf s x) .emitter)) (place (p .order) ((nodeOf s x) .emitter)))
-          ex = record {
-            live = ch .1;
-            on = (on-of ((nodeOf s x) .watch) t (ch .2)) .0;
-            due = (on-of ((nodeOf s x) .watch) t (ch .2)) .1;
-            adds = adds p ac s r ((nodeOf s x) .list) ((nodeOf s x) .emitter);
-            back = record { inN = fd .inN; unlisted = fd .unlisted; past = fd .past; passed = fd .passed };
-            least = timer-least (ch .3);
-          }
-
-          turn : Bool → Turn
-          turn c = cond c (silent (alone x (listing ((nodeOf s x) .list) ((nodeOf s x) .emitter)))) (record {
-            node = record { emitter = back (p .order) (listing ((nodeOf s x) .list) ((nodeOf s x) .emitter)) (place (p .order) ((nodeOf s x) .emitter)); observer = (nodeOf s x) .observer; watch = due (t + 2 * p .w); heartbeat = (nodeOf s x) .heartbeat; list = listing ((nodeOf s x) .list) ((nodeOf s x) .emitter) };
-            sends = record { kind = O; to = back (p .order) (listing ((nodeOf s x) .list) ((nodeOf s x) .emitter)) (place (p .order) ((nodeOf s x) .emitter)); subject = 0 } ∷ reports ((nodeOf s x) .emitter) (targets (p .order) (listing ((nodeOf s x) .list) ((nodeOf s x) .emitter)) (place (p .order) x));
-          })
-
-          go : (c : Bool) → eqb (back (p .order) (listing ((nodeOf s x) .list) ((nodeOf s x) .emitter)) (place (p .order) ((nodeOf s x) .emitter))) x ≡ c → Does (taken p s t x (s .flight) (turn c))
-          go true q =
-              let e : back (p .order) (listing ((nodeOf s x) .list) ((nodeOf s x) .emitter)) (place (p .order) ((nodeOf s x) .emitter)) ≡ x = eqb-true _ x q in
-              record {
-                step = aloneS t x (listed (listing ((nodeOf s x) .list) ((nodeOf s x) .emitter))) record {
-                  expiry = rw e at ex;
-                  frame = frame p ac s r t x [] (s .flight) (turn true) _ xN a b (live-is x (ch .1) ((turn true) .node)) (λ g h. inr h) (λ g h. h);
-                };
-                last = refl;
-                spaced = λ sp. tt;
-                more = omega arith;
-              }
-          go false q = record {
-            step = moves t x (listed (listing ((nodeOf s x) .list) ((nodeOf s x) .emitter))) _ (record { number = s .next; kind = O; from = x; to = back (p .order) (listing ((nodeOf s x) .list) ((nodeOf s x) .emitter)) (place (p .order) ((nodeOf s x) .emitter)); subject = 0; due = t + delayOf p (s .next) })
-                (numbered p t x (suc (s .next)) (reports ((nodeOf s x) .emitter) (targets (p .order) (listing ((nodeOf s x) .list) ((nodeOf s x) .emitter)) (place (p .order) x)))) record {
-                  expiry = ex;
-                  other = eqb-false _ x q;
-                  o-by = refl;
-                  o-after = omega (arith, (delay-ok p (ac .plain) (s .next)) .0);
-                  o-within = omega (arith, (delay-ok p (ac .plain) (s .next)) .1);
-                  o-kind = refl;
-                  o-to = refl;
-                  rs = told p ac s r x t ((nodeOf s x) .emitter) (listing ((nodeOf s x) .list) ((nodeOf s x) .emitter)) (suc (s .next)) xN un;
-                  frame = frame p ac s r t x [] (s .flight) (turn false) _ xN a b (live-is x (ch .1) ((turn false) .node)) (λ g h. inr h) (λ g h. h);
-                };
-            last = refl;
-            spaced = λ sp. tt;
-            more = omega arith;
-          }
+      unfolding Chosen apply
+      watch-does x ch = leaves x (in-n p (ac .plain) s r x (ch .0)) (ch .1) (ch .2) (ch .3) _ (left (p .order) (p .w) t x (nodeOf s x))
 
     -- a message, at the tick at which it is due
-    module _ (k : ℕ) (less : k < length (s .flight)) (b : (messageAt s k) .due ≤ p .end) (nb : NotBefore p s (suc ((messageAt s k) .due)) ((messageAt s k) .due) ((messageAt s k) .due)) where
+    module _ (k : ℕ) (less : k < length (s .flight)) (b : (messageAt s k) .due ≤ p .end)
+        (nb : NotBefore p s (suc ((messageAt s k) .due)) ((messageAt s k) .due) ((messageAt s k) .due)) where
       abbrev m : InFlight
       m = messageAt s k
 
@@ -221,8 +221,12 @@ module _ (p : Plan) (ac : Accepted p) where
       dl : AtMessage (P p ac) (view p s) (m .due)
       dl = least p ac s r (suc (m .due)) (m .due) (m .due) nb
 
-      fr : (u : Turn) (n' : Seen) → seen (alive p (s .done) x) (u .node) ≡ n' → Frame (P p ac) (view p s) (view p (taken p s (m .due) x (without k (s .flight)) u)) (m .due) x n' (m ∷ []) (numbered p (m .due) x (s .next) (u .sends))
-      fr u n' e = frame p ac s r (m .due) x (m ∷ []) (without k (s .flight)) u n' (fl .to) a b e (λ g h. kp g (without-has (s .flight) k g h)) (without-in (s .flight) k)
+      fr : (u : Turn) (n' : Seen) → seen (alive p (s .done) x) (u .node) ≡ n'
+          → Frame (P p ac) (view p s) (view p (taken p s (m .due) x (without k (s .flight)) u)) (m .due) x n' (m ∷ [])
+          (numbered p (m .due) x (s .next) (u .sends))
+      fr u n' e =
+          frame p ac s r (m .due) x (m ∷ []) (without k (s .flight)) u n' (fl .to) a b e (λ g h. kp g (without-has (s .flight) k g h))
+          (without-in (s .flight) k)
         where
           kp : (g : InFlight) → (g ≡ m) ⊎ List·Memᴰ g (without k (s .flight)) → List·Memᴰ g (m ∷ []) ⊎ List·Memᴰ g (without k (s .flight))
           kp g (inl e) = inl (List·Memᴰ·head e)
@@ -236,73 +240,84 @@ module _ (p : Plan) (ac : Accepted p) where
 
       drops : alive p (s .done) x ≡ false → Goes (silent n)
       unfolding taken numbered
-      drops l = record { step = drop m record { has = has; dead = l; least = dl; frame = fr (silent n) _ refl }; last = refl; spaced = λ sp. tt; more = omega arith }
+      drops l = record {
+        step = drop m record { has = has; dead = l; least = dl; frame = fr (silent n) _ refl };
+        last = refl;
+        spaced = λ sp. tt;
+        more = omega arith;
+      }
 
-      idles : alive p (s .done) x ≡ true → ((m .kind ≡ H) × (n .emitter ≢ m .from)) ⊎ ((m .kind ≡ R) × ((listed (n .list) (m .subject) ≡ true) ⊎ (m .subject ≡ m .to))) → Goes (silent n)
+      idles : alive p (s .done) x ≡ true
+          → ((m .kind ≡ H) × (n .emitter ≢ m .from)) ⊎ ((m .kind ≡ R) × ((listed (n .list) (m .subject) ≡ true) ⊎ (m .subject ≡ m .to)))
+          → Goes (silent n)
       unfolding taken numbered
-      idles l why = record { step = idle m record { has = has; live = l; why = why; least = dl; frame = fr (silent n) _ refl }; last = refl; spaced = λ sp. tt; more = omega arith }
+      idles l why = record {
+        step = idle m record { has = has; live = l; why = why; least = dl; frame = fr (silent n) _ refl };
+        last = refl;
+        spaced = λ sp. tt;
+        more = omega arith;
+      }
 
-      heartbeat-does : alive p (s .done) x ≡ true → m .kind ≡ H → Goes (onHeartbeat (p .w) (m .due) (m .from) n)
-      unfolding taken numbered onHeartbeat
-      heartbeat-does l k0 = go (eqb (n .emitter) (m .from)) refl
-        where
-          v : Node
-          v = record { emitter = n .emitter; observer = n .observer; watch = due (m .due + p .w); heartbeat = n .heartbeat; list = n .list }
+      heartbeat-does : alive p (s .done) x ≡ true → m .kind ≡ H → (u : Turn) → Heard (p .w) (m .due) (m .from) n u → Goes u
+      unfolding taken numbered
+      heartbeat-does l k0 u (unheard e) = idles l (inl (k0, e))
+      heartbeat-does l k0 u (renews e) = let v : Node = withWatch n (due (m .due + p .w)) in record {
+        step = beat m record { has = has; live = l; kind = k0; of = e; least = dl; frame = fr (silent v) _ (live l v) };
+        last = refl;
+        spaced = λ sp. tt;
+        more = omega arith;
+      }
 
-          go : (c : Bool) → eqb (n .emitter) (m .from) ≡ c → Goes (silent (cond c (record { emitter = n .emitter; observer = n .observer; watch = due (m .due + p .w); heartbeat = n .heartbeat; list = n .list }) n))
-          go true q = record { step = beat m record { has = has; live = l; kind = k0; of = eqb-true (n .emitter) (m .from) q; least = dl; frame = fr (silent v) _ (live l v) }; last = refl; spaced = λ sp. tt; more = omega arith }
-          go false q = idles l (inl (k0, eqb-false (n .emitter) (m .from) q))
+      observer-does : alive p (s .done) x ≡ true → m .kind ≡ O → Goes (silent (withHeartbeat (withObserver n (m .from)) (due (m .due))))
+      unfolding taken numbered
+      observer-does l k1 = let v : Node = withHeartbeat (withObserver n (m .from)) (due (m .due)) in record {
+        step = watched m record {
+          has = has;
+          live = l;
+          kind = k1;
+          least = dl;
+          frame = fr (silent v) _ (live l v);
+        };
+        last = refl;
+        spaced = λ sp. tt;
+        more = omega arith;
+      }
 
-      observer-does : alive p (s .done) x ≡ true → m .kind ≡ O → Goes (onObserver (m .due) (m .from) n)
-      unfolding taken numbered onObserver
-      observer-does l k1 = record { step = watched m record { has = has; live = l; kind = k1; least = dl; frame = fr (onObserver (m .due) (m .from) n) _ (live l ((onObserver (m .due) (m .from) n) .node)) }; last = refl; spaced = λ sp. tt; more = omega arith }
-
-      report-does : alive p (s .done) x ≡ true → m .kind ≡ R → Goes (onReport (p .order) x (m .subject) n)
-      unfolding taken onReport
-      report-does l k2 = go (listed (n .list) (m .subject)) refl (eqb (m .subject) x) refl
-        where
-          u : Turn
-          u = record {
-            node = record { emitter = n .emitter; observer = n .observer; watch = n .watch; heartbeat = n .heartbeat; list = listing (n .list) (m .subject) };
-            sends = reports (m .subject) (targets (p .order) (listing (n .list) (m .subject)) (place (p .order) x));
+      report-does : alive p (s .done) x ≡ true → m .kind ≡ R → (u : Turn) → Reported (p .order) x (m .subject) n u → Goes u
+      unfolding taken
+      report-does l k2 u (known e) = idles l (inr (k2, inl e))
+      report-does l k2 u (own e) = idles l (inr (k2, inr e))
+      report-does l k2 u (relays fresh ne) =
+          let list : ℕ = listing (n .list) (m .subject) in
+          let un : listed list x ≡ false = listing-other (n .list) (m .subject) x ne ((r .live x l) .lists) in
+          record {
+            step = report m (listed list) _ record {
+              has = has;
+              live = l;
+              kind = k2;
+              adds = adds p ac s r (n .list) (m .subject);
+              fresh = fresh;
+              rs = told p ac s r x (m .due) (m .subject) list (s .next) (fl .to) un;
+              least = dl;
+              frame = fr (sending (withList n list) (reports (m .subject) (targets (p .order) list (place (p .order) x)))) _ (live l (withList n list));
+            };
+            last = refl;
+            spaced = λ sp. tt;
+            more = omega arith;
           }
 
-          go : (c : Bool) → listed (n .list) (m .subject) ≡ c → (d : Bool) → eqb (m .subject) x ≡ d → Goes (cond (c || d) (silent n) u)
-          go true e d q = idles l (inr (k2, inl e))
-          go false e true q = idles l (inr (k2, inr (eqb-true (m .subject) x q)))
-          go false e false q =
-              let un : listed (listing (n .list) (m .subject)) x ≡ false = add-other (n .list) (m .subject) x (eqb-false (m .subject) x q) ((r .live x l) .lists) in
-              record {
-                step = report m (listed (listing (n .list) (m .subject))) _ record {
-                  has = has;
-                  live = l;
-                  kind = k2;
-                  adds = adds p ac s r (n .list) (m .subject);
-                  fresh = e;
-                  rs = told p ac s r x (m .due) (m .subject) (listing (n .list) (m .subject)) (s .next) (fl .to) un;
-                  least = dl;
-                  frame = fr u _ (live l (u .node));
-                };
-                last = refl;
-                spaced = λ sp. tt;
-                more = omega arith;
-              }
-
       message-does : Does (apply p s (m .due) (messageE k))
-      unfolding apply received onMessage
-      message-does = go (alive p (s .done) x) refl (eqb (m .kind) H) refl (eqb (m .kind) O) refl
+      unfolding apply received
+      message-does =
+          go (alive p (s .done) x) refl (onMessage (p .order) (p .w) (m .due) x (m .kind) (m .from) (m .subject) n)
+          (messaged (p .order) (p .w) (m .due) x (m .kind) (m .from) (m .subject) n)
         where
-          go : (c : Bool) → alive p (s .done) x ≡ c → (d : Bool) → eqb (m .kind) H ≡ d → (e : Bool) → eqb (m .kind) O ≡ e
-              → Goes (cond c (cond d (onHeartbeat (p .w) (m .due) (m .from) n) (cond e (onObserver (m .due) (m .from) n) (onReport (p .order) x (m .subject) n))) (silent n))
-          go false l d h e g = drops l
-          go true l true h e g = heartbeat-does l (eqb-true (m .kind) H h)
-          go true l false h true g = observer-does l (eqb-true (m .kind) O g)
-          go true l false h false g = report-does l (which (fl .kind) (eqb-false (m .kind) H h) (eqb-false (m .kind) O g))
-            where
-              which : Known (m .kind) → m .kind ≢ H → m .kind ≢ O → m .kind ≡ R
-              which (inl e) a b = absurd (a e)
-              which (inr (inl e)) a b = absurd (b e)
-              which (inr (inr e)) a b = e
+          go : (c : Bool) → alive p (s .done) x ≡ c → (u : Turn) → Messaged (p .order) (p .w) (m .due) x (m .kind) (m .from) (m .subject) n u
+              → Goes (cond c u (silent n))
+          go false l u h = drops l
+          go true l u (beats e v h) = heartbeat-does l e v h
+          go true l u (observes e) = observer-does l e
+          go true l u (tells h o v g) = report-does l (other-is-report (m .kind) (fl .kind) h o) v g
 
     -- any event that is chosen
     pub event-does : (t : ℕ) (ev : Event) → Chosen p (ac .plain) s t ev → s .last ≤ t → t ≤ p .end → Does (apply p s t ev)
@@ -310,10 +325,13 @@ module _ (p : Plan) (ac : Accepted p) where
     event-does t (crashE k) ch a b = crash-does t a b k ch
     event-does t (watchE x) ch a b = watch-does t a b x ch
     event-does t (beatE x) ch a b = beat-does t a b x ch
-    event-does t (messageE k) ch a b = subst (λ u. Chosen p (ac .plain) s u (messageE k) → u ≤ p .end → Does (apply p s u (messageE k))) (due-is ch) (λ ch b. of-chosen ch b) ch b
+    event-does t (messageE k) ch a b =
+        subst (λ u. Chosen p (ac .plain) s u (messageE k) → u ≤ p .end → Does (apply p s u (messageE k))) (due-is ch)
+        (λ ch b. of-chosen ch b) ch b
       where
         due-is : Chosen p (ac .plain) s t (messageE k) → (messageAt s k) .due ≡ t
         due-is ch = ch .1
 
-        of-chosen : Chosen p (ac .plain) s ((messageAt s k) .due) (messageE k) → (messageAt s k) .due ≤ p .end → Does (apply p s ((messageAt s k) .due) (messageE k))
+        of-chosen : Chosen p (ac .plain) s ((messageAt s k) .due) (messageE k) → (messageAt s k) .due ≤ p .end
+            → Does (apply p s ((messageAt s k) .due) (messageE k))
         of-chosen ch b = message-does k (ch .0) b (ch .2)

@@ -7,7 +7,7 @@ use mathlib.Core.Bool.{Bool, true, false}
 use Prim.Native.Nat.{ℕ, suc, _+_, _*_, _^_, _≤_, _<_}
 use Rattle.node.specs.Node.{H, O, R}
 use Rattle.model.specs.Platform.{InFlight}
-use Rattle.model.proofs.RingOrder.{iter, First}
+use Rattle.ring.proofs.GoingBack.{iter, First}
 
 -- ---- states
 
@@ -44,6 +44,12 @@ m ∈ l = List·Memᴰ m l
 
 -- ---- what a run file fixes, and the laws of its ring
 
+-- a message that changes nothing: H not from the emitter, R of a listed node or of the receiver
+abbrev pub Ignored : View → InFlight → Type 0
+Ignored s m =
+    ((m .kind ≡ H) × ((s .node (m .to)) .emitter ≢ m .from))
+    ⊎ ((m .kind ≡ R) × (Lists s (m .to) (m .subject) ⊎ (m .subject ≡ m .to)))
+
 -- c k is the tick of node k's crash, where one is planned; gap j k is how many steps back from j the node k stands, a full round for j
 -- itself; cnt is the count of unlisted nodes, ahead l x k the node k unlisted nodes ahead of x
 pub record Params : Type 0 where
@@ -60,8 +66,10 @@ pub record Params : Type 0 where
   pub gap-add : (j i k : ℕ) → j < N → i < N → k < N → gap j i < gap j k → gap j k ≡ gap j i + gap i k
   pub cnt : (ℕ → Bool) → ℕ
   pub ahead : (ℕ → Bool) → ℕ → ℕ → ℕ
-  pub hops : (l : ℕ → Bool) (f : ℕ → ℕ) → First gap N l f → (y q : ℕ) → y < N → l y ≡ false → q < N → l q ≡ false → (d : ℕ) × (d < cnt l) × (iter f d y ≡ q)
-  pub ahead-is : (l : ℕ → Bool) (f : ℕ → ℕ) → First gap N l f → (y k : ℕ) → y < N → l y ≡ false → ahead l (iter f k y) k ≡ y
+  pub hops : (l : ℕ → Bool) (f : ℕ → ℕ) → First gap N l f → (y q : ℕ) → y < N → l y ≡ false → q < N → l q ≡ false
+      → (d : ℕ) × (d < cnt l) × (iter f d y ≡ q)
+  pub ahead-is : (l : ℕ → Bool) (f : ℕ → ℕ) → First gap N l f → (y k : ℕ) → y < N → l y ≡ false → k < cnt l
+      → ahead l (iter f k y) k ≡ y
   pub log : ℕ → ℕ
   pub log-is : (m : ℕ) → m ≤ 2 ^ log m
   pub D≥1 : 1 ≤ D
@@ -129,23 +137,64 @@ module _ (p : Params) where
   -- ---- the node after its event
 
   abbrev pub crashed : Seen → Seen
-  crashed n = record { alive = false; emitter = n .emitter; observer = n .observer; watchOn = n .watchOn; watch = n .watch; heartbeatOn = n .heartbeatOn; heartbeat = n .heartbeat; list = n .list }
+  crashed n =
+      record {
+        alive = false;
+        emitter = n .emitter;
+        observer = n .observer;
+        watchOn = n .watchOn;
+        watch = n .watch;
+        heartbeatOn = n .heartbeatOn;
+        heartbeat = n .heartbeat;
+        list = n .list;
+      }
 
   -- a heartbeat from the emitter came at t
   abbrev pub beaten : Seen → ℕ → Seen
-  beaten n t = record { alive = true; emitter = n .emitter; observer = n .observer; watchOn = true; watch = t + p .W; heartbeatOn = n .heartbeatOn; heartbeat = n .heartbeat; list = n .list }
+  beaten n t =
+      record {
+        alive = true;
+        emitter = n .emitter;
+        observer = n .observer;
+        watchOn = true;
+        watch = t + p .W;
+        heartbeatOn = n .heartbeatOn;
+        heartbeat = n .heartbeat;
+        list = n .list;
+      }
 
   -- an O of a came at t
   abbrev pub watching : Seen → ℕ → ℕ → Seen
-  watching n a t = record { alive = true; emitter = n .emitter; observer = a; watchOn = n .watchOn; watch = n .watch; heartbeatOn = true; heartbeat = t; list = n .list }
+  watching n a t =
+      record { alive = true; emitter = n .emitter; observer = a; watchOn = n .watchOn; watch = n .watch; heartbeatOn = true; heartbeat = t; list = n .list }
 
   -- its list became l
   abbrev pub listing : Seen → (ℕ → Bool) → Seen
-  listing n l = record { alive = true; emitter = n .emitter; observer = n .observer; watchOn = n .watchOn; watch = n .watch; heartbeatOn = n .heartbeatOn; heartbeat = n .heartbeat; list = l }
+  listing n l =
+      record {
+        alive = true;
+        emitter = n .emitter;
+        observer = n .observer;
+        watchOn = n .watchOn;
+        watch = n .watch;
+        heartbeatOn = n .heartbeatOn;
+        heartbeat = n .heartbeat;
+        list = l;
+      }
 
   -- its watch expired at t: the list became l, the emitter e
   abbrev pub moving : Seen → (ℕ → Bool) → ℕ → ℕ → Seen
-  moving n l e t = record { alive = true; emitter = e; observer = n .observer; watchOn = true; watch = t + 2 * p .W; heartbeatOn = n .heartbeatOn; heartbeat = n .heartbeat; list = l }
+  moving n l e t =
+      record {
+        alive = true;
+        emitter = e;
+        observer = n .observer;
+        watchOn = true;
+        watch = t + 2 * p .W;
+        heartbeatOn = n .heartbeatOn;
+        heartbeat = n .heartbeat;
+        list = l;
+      }
 
   -- alone
   abbrev pub left : ℕ → (ℕ → Bool) → Seen
@@ -153,7 +202,17 @@ module _ (p : Params) where
 
   -- its heartbeat was sent at t
   abbrev pub sending : Seen → ℕ → Seen
-  sending n t = record { alive = true; emitter = n .emitter; observer = n .observer; watchOn = n .watchOn; watch = n .watch; heartbeatOn = true; heartbeat = t + p .H; list = n .list }
+  sending n t =
+      record {
+        alive = true;
+        emitter = n .emitter;
+        observer = n .observer;
+        watchOn = n .watchOn;
+        watch = n .watch;
+        heartbeatOn = true;
+        heartbeat = t + p .H;
+        list = n .list;
+      }
 
   -- ---- the events
 
@@ -172,11 +231,10 @@ module _ (p : Params) where
     pub least : AtMessage s (m .due)
     pub frame : Frame s s' (m .due) (m .to) (s .node (m .to)) (m ∷ []) []
 
-  -- a message that changes nothing: H not from the emitter, R of a listed node or of the receiver
   pub record Idle (s s' : View) (m : InFlight) : Type 0 where
     pub has : m ∈ s .flight
     pub live : Live s (m .to)
-    pub why : ((m .kind ≡ H) × ((s .node (m .to)) .emitter ≢ m .from)) ⊎ ((m .kind ≡ R) × (Lists s (m .to) (m .subject) ⊎ (m .subject ≡ m .to)))
+    pub why : Ignored s m
     pub least : AtMessage s (m .due)
     pub frame : Frame s s' (m .due) (m .to) (s .node (m .to)) (m ∷ []) []
 

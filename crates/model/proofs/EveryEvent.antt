@@ -45,7 +45,8 @@ module _ (p : Params) where
     pub list : (j k : ℕ) → Lists s j k → Lists s' j k
     pub list' : (j k : ℕ) → Lists s' j k → Lists s j k ⊎ GoneBy s t k
     pub emitter : (j : ℕ) → ((s' .node j) .emitter ≡ (s .node j) .emitter) ⊎ Moved s s' j
-    pub observer : (a : ℕ) → ((s' .node a) .observer ≡ (s .node a) .observer) ⊎ (Tied p s ((s' .node a) .observer) a ⊎ Tied p s' ((s' .node a) .observer) a)
+    pub observer : (a : ℕ)
+        → ((s' .node a) .observer ≡ (s .node a) .observer) ⊎ (Tied p s ((s' .node a) .observer) a ⊎ Tied p s' ((s' .node a) .observer) a)
     pub came : (m : InFlight) → m ∈ s' .flight → (m ∈ s .flight) ⊎ NewMessage s s' t m
     pub message≥ : (m : InFlight) → m ∈ s .flight → t ≤ m .due
     pub crash≥ : (k : ℕ) → Live s k → p .planned k ≡ true → t ≤ p .c k
@@ -100,7 +101,8 @@ module _ (p : Params) where
       observer : (a : ℕ) → Tied p s' ((s' .node a) .observer) a
       observer a = go (f .observer a)
         where
-          go : ((s' .node a) .observer ≡ (s .node a) .observer) ⊎ (Tied p s ((s' .node a) .observer) a ⊎ Tied p s' ((s' .node a) .observer) a) → Tied p s' ((s' .node a) .observer) a
+          go : ((s' .node a) .observer ≡ (s .node a) .observer) ⊎ (Tied p s ((s' .node a) .observer) a ⊎ Tied p s' ((s' .node a) .observer) a)
+              → Tied p s' ((s' .node a) .observer) a
           go (inl same) = rw same (reached-mono ((s .node a) .observer) a (i .observer a))
           go (inr (inl g)) = reached-mono ((s' .node a) .observer) a g
           go (inr (inr g)) = g

@@ -11,10 +11,11 @@ use borrow.Author.Tests.{leb-false}
 use lib.Dec.{leb}
 use lib.ListN.{length, getD, take, drop, length-take}
 use Rattle.node.specs.Node.{alone}
-use Rattle.runfile.specs.Plan.{Plan}
-use Rattle.model.specs.Platform.{State, Entry, watch, heartbeat, did, refused, alive, messageEntries, timerEntry, timerEntries}
+use Rattle.model.specs.Platform.{State, Entry, entry, watch, heartbeat, did, refused, alive, messageEntries, timerEntry, timerEntries}
+use Rattle.plans.specs.Plan.{Plan}
 use Rattle.model.specs.Platform.{earlier, first, upTo, nextEvent, nodeOf, apply, fits, tried, try, left, start, steps, after}
-use Rattle.model.specs.Range.{Plain, Sound}
+use Rattle.plans.specs.Plain.{Plain}
+use Rattle.model.specs.Range.{Sound}
 use Rattle.model.proofs.NextEvent.{FirstOf, first-of, soon, next-soon, nextCrash, crash-in, msg-in, Ticks, timer-in, Chosen, Best, best}
 use Rattle.model.proofs.RangesKept.{not-early}
 use Rattle.model.proofs.Calls.{steps-add}
@@ -71,7 +72,7 @@ first-not-after xs ys w f h t = go (first (xs ++ (w ∷ ys))) h (first-of xs (w 
 
 module _ (p : Plan) (pl : Plain p) (s : State) (t x : ℕ) (h : x < length (s .nodes)) (l : alive p (s .done) x ≡ true) where
   abbrev beat : Entry
-  beat = record { tick = t; event = heartbeat x }
+  beat = entry t (heartbeat x)
 
   abbrev Others : List Entry
   Others = nextCrash (drop (s .done) (p .crashes)) ++ messageEntries 0 (s .flight)
@@ -85,7 +86,7 @@ module _ (p : Plan) (pl : Plain p) (s : State) (t x : ℕ) (h : x < length (s .n
   abbrev Mine : List Entry
   Mine = timerEntry (suc t) (watch x) ++ timerEntry ((nodeOf s x) .heartbeat) (heartbeat x)
 
-  watch-there : (nodeOf s x) .watch ≡ suc t → soon p s ≡ (Others ++ Before) ++ (record { tick = t; event = watch x } ∷ Rest)
+  watch-there : (nodeOf s x) .watch ≡ suc t → soon p s ≡ (Others ++ Before) ++ (entry t (watch x) ∷ Rest)
   unfolding soon timerEntry
   watch-there q = ap (λ (c : List Entry). nextCrash (drop (s .done) (p .crashes)) ++ (messageEntries 0 (s .flight) ++ c)) mine ∙ simp append-assoc
     where
@@ -110,11 +111,11 @@ module _ (p : Plan) (pl : Plain p) (s : State) (t x : ℕ) (h : x < length (s .n
       three (inr m) = let r = timer-in p (s .done) (take x (s .nodes)) 0 beat m in timer r (r .which (alone 0 0))
 
   -- where a node's heartbeat is the next event, its watch is not due at that tick
-  pub watch-first : nextEvent p s ≡ some (record { tick = t; event = heartbeat x }) → (nodeOf s x) .watch ≢ suc t
+  pub watch-first : nextEvent p s ≡ some (entry t (heartbeat x)) → (nodeOf s x) .watch ≢ suc t
   unfolding upTo
   watch-first n q = go (first (soon p s)) refl (sym (next-soon p pl s) ∙ n)
     where
-      never : List·Memᴰ beat (Others ++ Before) ⊎ (beat ≡ record { tick = t; event = watch x }) → ⊥
+      never : List·Memᴰ beat (Others ++ Before) ⊎ (beat ≡ entry t (watch x)) → ⊥
       never (inl m) = not-among m
       never (inr z) = let y : _≡_ {A = ℕ} 0 1 = cc (ap (λ (a : Entry). a .event) z) in omega arith
 
@@ -125,5 +126,5 @@ module _ (p : Plan) (pl : Plain p) (s : State) (t x : ℕ) (h : x < length (s .n
           at : (b : Bool) → cond b (some g) none ≡ some beat → ⊥
           at true u =
               let z : g ≡ beat = cc in
-              never (first-not-after (Others ++ Before) Rest (record { tick = t; event = watch x }) beat (ap first (sym (watch-there q)) ∙ f ∙ ap some z) refl)
+              never (first-not-after (Others ++ Before) Rest (entry t (watch x)) beat (ap first (sym (watch-there q)) ∙ f ∙ ap some z) refl)
           at false u = let z : _≡_ {A = ℕ} 0 1 = cc in omega arith

@@ -12,12 +12,12 @@ use Rattle.model.proofs.Events.{Seen, View, Live, Params, Beat, beaten}
 use Rattle.model.proofs.Invariant.{Inv, Covered, byTimer, byCrash}
 use Rattle.model.proofs.EveryEvent.{Alike, base'}
 use Rattle.model.proofs.OneState.{emitter-beats}
-use Rattle.model.proofs.OneNode.{each, alike, timers}
-use Rattle.model.proofs.WatchKept.{stays, came0, other-kind, Same, covered-map, answered-map}
+use Rattle.model.proofs.OneNode.{OnEach, each, alike, timers}
+use Rattle.model.proofs.WatchKept.{stays, came0, other-kind, Same, covered-map, answered-map, same-node}
 
 module _ (p : Params) (s s' : View) (i : Inv p s) where
   module _ (m : InFlight) (e : Beat p s s' m) where
-    beat-all : (Q : ℕ → Seen → Seen → Type 0) → Q (m .to) (s .node (m .to)) (beaten p (s .node (m .to)) (m .due)) → ((j : ℕ) → Q j (s .node j) (s .node j)) → (j : ℕ) → Q j (s .node j) (s' .node j)
+    beat-all : OnEach s s' (m .to) (beaten p (s .node (m .to)) (m .due))
     beat-all = each p s s' (m .due) (m .to) _ (m ∷ []) [] (e .frame)
 
     beat-now : s .last ≤ m .due
@@ -38,10 +38,12 @@ module _ (p : Params) (s s' : View) (i : Inv p s) where
     beat-em = beat-all (λ j n n'. n' .emitter ≡ n .emitter) refl (λ j. refl)
 
     beat-sames : (j : ℕ) → Same (s .node j) (s' .node j)
-    beat-sames = beat-all (λ j n n'. Same n n') record { alive = sym (e .live); observer = refl; heartbeat = refl } (λ j. record { alive = refl; observer = refl; heartbeat = refl })
+    beat-sames = beat-all (λ j n n'. Same n n') record { alive = sym (e .live); observer = refl; heartbeat = refl } (λ j. same-node _)
 
     -- the watcher that got it
-    beat-here : (j a : ℕ) → j ≡ m .to → a ≡ m .from → a ≢ j → Live s j → (s .node j) .emitter ≡ a → (b : Bool) → (s .node a) .alive ≡ b → Covered p (s' .flight) j a (m .due + p .W) (s .node a)
+    beat-here : (j a : ℕ) → j ≡ m .to → a ≡ m .from → a ≢ j → Live s j → (s .node j) .emitter ≡ a → (b : Bool)
+        → (s .node a) .alive ≡ b
+        → Covered p (s' .flight) j a (m .due + p .W) (s .node a)
     beat-here j a q r ne lj ej true la = byTimer la (rw (q, r) (i .answered m (e .has) (e .kind) (rw r at la) (e .live) (e .of) (rw (q, r) at ne)))
         (omega (arith, (i .timers a la) .heartbeat≤ (emitter-beats p s i j a lj ej ne la), beat-now, p .W≥))
     beat-here j a q r ne lj ej false da = byCrash da (omega (arith, (i .base .dead a da) .1, beat-now, p .W≥))
@@ -76,6 +78,7 @@ module _ (p : Params) (s s' : View) (i : Inv p s) where
         heartbeat≤ = λ o. omega (arith, beat-now, (i .timers (m .to) l) .heartbeat≤ o);
         to = (i .timers (m .to) l) .to;
       }) (λ h. e .live);
-      answered = answered-map p s s' (i .answered) (beat-alike .alive) beat-em (λ j. beat-sames j .observer) (λ g h q. came0 (s .flight) g (e .frame .came g h));
+      answered =
+          answered-map p s s' (i .answered) (beat-alike .alive) beat-em (λ j. beat-sames j .observer) (λ g h q. came0 (s .flight) g (e .frame .came g h));
       covered = beat-covered;
     }

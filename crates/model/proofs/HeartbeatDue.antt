@@ -9,14 +9,14 @@ use native.Mathlib.Decide.{ℕ-discrete}
 use Rattle.node.specs.Node.{H}
 use Rattle.model.specs.Platform.{InFlight}
 use Rattle.model.proofs.Events.{Seen, View, Live, _∈_, Params, Sends, sending}
-use Rattle.model.proofs.Invariant.{Inv, Covered, byHeartbeat, byTimer, byObserver, byCrash}
+use Rattle.model.proofs.Invariant.{Inv, Answered, Covered, byHeartbeat, byTimer, byObserver, byCrash}
 use Rattle.model.proofs.EveryEvent.{live-not-dead, Alike, base'}
-use Rattle.model.proofs.OneNode.{each, alike, timers}
-use Rattle.model.proofs.WatchKept.{stays0, covered-map}
+use Rattle.model.proofs.OneNode.{OnEach, each, alike, timers}
+use Rattle.model.proofs.WatchKept.{stays0, covered-map, same-node}
 
 module _ (p : Params) (s s' : View) (i : Inv p s) where
   module _ (t x : ℕ) (m : InFlight) (e : Sends p s s' t x m) where
-    sends-all : (Q : ℕ → Seen → Seen → Type 0) → Q x (s .node x) (sending p (s .node x) t) → ((j : ℕ) → Q j (s .node j) (s .node j)) → (j : ℕ) → Q j (s .node j) (s' .node j)
+    sends-all : OnEach s s' x (sending p (s .node x) t)
     sends-all = each p s s' t x _ [] (m ∷ []) (e .frame)
 
     sends-now : s .last ≤ t
@@ -53,7 +53,9 @@ module _ (p : Params) (s s' : View) (i : Inv p s) where
     -- the watcher of the node that sends
     sends-turn : (j a w : ℕ) (n : Seen) → a ≡ x → n .alive ≡ true → Covered p (s .flight) j a w (s .node a) → Covered p (s' .flight) j a w n
     sends-turn j a w n q la (byHeartbeat g h k f t u) = byHeartbeat g (stays0 (s' .flight) g (e .frame .keep g h)) k f t u
-    sends-turn j a w n q la (byTimer al o u) = byHeartbeat m (e .frame .add m (List·Memᴰ·head refl)) (e .kind) (e .by ∙ sym q) (e .to ∙ rw (sym q) o) (omega (arith, e .within, e .due, ap (λ y. (s .node y) .heartbeat) q))
+    sends-turn j a w n q la (byTimer al o u) =
+        byHeartbeat m (e .frame .add m (List·Memᴰ·head refl)) (e .kind) (e .by ∙ sym q) (e .to ∙ rw (sym q) o)
+        (omega (arith, e .within, e .due, ap (λ y. (s .node y) .heartbeat) q))
     sends-turn j a w n q la (byObserver al g h k f t u) = byObserver la g (stays0 (s' .flight) g (e .frame .keep g h)) k f t u
     sends-turn j a w n q la (byCrash d u) = absurd (live-not-dead (rw q (e .live)) d)
 
@@ -65,11 +67,11 @@ module _ (p : Params) (s s' : View) (i : Inv p s) where
 
         go : Dec (a ≡ x) → Covered p (s' .flight) j a ((s .node j) .watch) (s' .node a)
         go (yes q) = sends-turn j a _ _ q (rw (q, e .frame .here)) old
-        go (no n) = rw (e .frame .other a n) (covered-map p (s .flight) (s' .flight) j a _ _ _ _ old (omega arith) record { alive = refl; observer = refl; heartbeat = refl }
+        go (no n) = rw (e .frame .other a n) (covered-map p (s .flight) (s' .flight) j a _ _ _ _ old (omega arith) (same-node _)
             (λ g h k f to. stays0 (s' .flight) g (e .frame .keep g h))
             (λ la g h k f to. stays0 (s' .flight) g (e .frame .keep g h)))
 
-    sends-back : (g : InFlight) → g ∈ s' .flight → g .kind ≡ H → Live s' (g .from) → Live s' (g .to) → (s' .node (g .to)) .emitter ≡ g .from → g .from ≢ g .to → (s' .node (g .from)) .observer ≡ g .to
+    sends-back : Answered s'
     sends-back g h k lf lt em ne = sends-ob (g .from) ∙ go (e .frame .came g h)
       where
         go : (g ∈ s .flight) ⊎ (g ∈ (m ∷ [])) → (s .node (g .from)) .observer ≡ g .to

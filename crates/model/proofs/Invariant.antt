@@ -8,6 +8,12 @@ use Rattle.node.specs.Node.{H, O, R}
 use Rattle.model.specs.Platform.{InFlight}
 use Rattle.model.proofs.Events.{Seen, View, Live, Dead, Lists, _∈_, Params}
 
+-- a live node whose heartbeat is on its way to a live node that observes it has that node as its observer
+abbrev pub Answered : View → Type 0
+Answered s =
+    (m : InFlight) → m ∈ s .flight → m .kind ≡ H → Live s (m .from) → Live s (m .to)
+    → (s .node (m .to)) .emitter ≡ m .from → m .from ≢ m .to → (s .node (m .from)) .observer ≡ m .to
+
 module _ (p : Params) where
   -- b observes a, or has listed it
   abbrev pub Tied : View → ℕ → ℕ → Type 0
@@ -23,7 +29,8 @@ module _ (p : Params) where
   pub data Covered (l : List InFlight) (j i w : ℕ) (n : Seen) : Type 0 where
     byHeartbeat : (m : InFlight) → m ∈ l → m .kind ≡ H → m .from ≡ i → m .to ≡ j → m .due ≤ w → Covered l j i w n
     byTimer : n .alive ≡ true → n .observer ≡ j → n .heartbeat + p .D ≤ w → Covered l j i w n
-    byObserver : n .alive ≡ true → (m : InFlight) → m ∈ l → m .kind ≡ O → m .from ≡ j → m .to ≡ i → m .due + p .D ≤ w → Covered l j i w n
+    byObserver : n .alive ≡ true → (m : InFlight) → m ∈ l → m .kind ≡ O → m .from ≡ j → m .to ≡ i → m .due + p .D ≤ w
+        → Covered l j i w n
     byCrash : n .alive ≡ false → p .c i + p .D ≤ w → Covered l j i w n
 
   -- the part of the invariant that every event keeps for the same reason
@@ -73,7 +80,6 @@ module _ (p : Params) where
   pub record Inv (s : View) : Type 0 where
     pub base : Base s
     pub timers : (j : ℕ) → Live s j → Timers (s .last) j (s .node j)
-    -- a live node whose heartbeat is on its way to a live node that observes it has that node as its observer
-    pub answered : (m : InFlight) → m ∈ s .flight → m .kind ≡ H → Live s (m .from) → Live s (m .to) → (s .node (m .to)) .emitter ≡ m .from → m .from ≢ m .to → (s .node (m .from)) .observer ≡ m .to
+    pub answered : Answered s
     -- every watch of a live node on another is covered
     pub covered : (j i : ℕ) → Live s j → (s .node j) .emitter ≡ i → i ≢ j → Covered (s .flight) j i ((s .node j) .watch) (s .node i)

@@ -1,13 +1,5 @@
 -- In reading order.
 
--- ---- the ring in any order
-
--- steps back, counts
-pub mod RingOrder
--- searches node by node
-pub mod RingSearch
--- searches over lists
-pub mod RingLists
 -- ---- the invariant, and each kind of event that keeps it: safety
 
 -- states and events as the proof sees them
@@ -56,8 +48,6 @@ pub mod SpacedRuns
 
 -- nothing is left before the next event
 pub mod NextEvent
--- the rules of a node
-pub mod RulesInRange
 -- opening, and any event
 pub mod RangesKept
 -- the cap on the next number
@@ -82,7 +72,7 @@ pub mod SettledNode
 pub mod Theorems
 -- ---- for the layers above: tests for number 7, plans, the search of the next event
 
--- tests joined by && and ||
+-- tests joined by &&
 pub mod Bools
 -- plans of run files
 pub mod Plans
@@ -92,6 +82,8 @@ pub mod Tests
 pub mod Search
 -- an event that is done
 pub mod Happened
+-- the ranges of lines, and their text
+pub mod Lines
 -- ---- worked instances
 
 -- the starred logs, and a state that settles

@@ -7,11 +7,11 @@ use Prim.Native.Nat.{ℕ}
 use native.Mathlib.Omega.{arith}
 use Rattle.node.specs.Node.{H, O, R}
 use Rattle.model.specs.Platform.{InFlight}
-use Rattle.model.proofs.Events.{View, Live, Lists, _∈_, Params, Frame, AtMessage, Drop, Idle}
+use Rattle.model.proofs.Events.{View, Live, _∈_, Ignored, Params, Frame, AtMessage, Drop, Idle}
 use Rattle.model.proofs.Invariant.{Inv, Covered}
 use Rattle.model.proofs.EveryEvent.{live-not-dead, Alike, base'}
 use Rattle.model.proofs.OneNode.{each, alike, timers}
-use Rattle.model.proofs.WatchKept.{stays, came0, covered-map, answered-map}
+use Rattle.model.proofs.WatchKept.{stays, came0, covered-map, answered-map, same-node}
 
 module _ (p : Params) (s s' : View) (i : Inv p s) where
   -- a delivery that changes no node: m is neither the H nor the O on which a watch rests
@@ -34,8 +34,10 @@ module _ (p : Params) (s s' : View) (i : Inv p s) where
     }
 
     still-covered : (j a : ℕ) → Live s' j → (s' .node j) .emitter ≡ a → a ≢ j → Covered p (s' .flight) j a ((s' .node j) .watch) (s' .node a)
-    still-covered j a = rw (still-same j, still-same a) (λ lj ej ne. covered-map p (s .flight) (s' .flight) j a _ _ _ _ (i .covered j a lj ej ne) (omega arith) record { alive = refl; observer = refl; heartbeat = refl }
-        (λ g h k fr to. stays (s' .flight) m g (f .keep g h) (λ q. notH (rw q at k) (rw (rw q at to) lj) (rw (rw q at to) (ej ∙ sym fr ∙ ap (λ x. x .from) q))))
+    still-covered j a =
+        rw (still-same j, still-same a) (λ lj ej ne. covered-map p (s .flight) (s' .flight) j a _ _ _ _ (i .covered j a lj ej ne) (omega arith) (same-node _)
+        (λ g h k fr to.
+        stays (s' .flight) m g (f .keep g h) (λ q. notH (rw q at k) (rw (rw q at to) lj) (rw (rw q at to) (ej ∙ sym fr ∙ ap (λ x. x .from) q))))
         (λ la g h k fr to. stays (s' .flight) m g (f .keep g h) (λ q. notO (rw q at k) (rw (rw q at to) la))))
 
     pub still-inv : Inv p s'
@@ -49,7 +51,8 @@ module _ (p : Params) (s s' : View) (i : Inv p s) where
         heartbeat≤ = λ o. omega (arith, i .base .m-due m has, (i .timers (m .to) l) .heartbeat≤ o);
         to = (i .timers (m .to) l) .to;
       }) (λ h. h);
-      answered = answered-map p s s' (i .answered) (still-alike .alive) (λ j. rw (still-same j)) (λ j. rw (still-same j)) (λ g h q. came0 (s .flight) g (f .came g h));
+      answered = answered-map p s s' (i .answered) (still-alike .alive) (λ j. rw (still-same j)) (λ j. rw (still-same j))
+          (λ g h q. came0 (s .flight) g (f .came g h));
       covered = still-covered;
     }
 
@@ -59,10 +62,10 @@ module _ (p : Params) (s s' : View) (i : Inv p s) where
   pub idle-inv : (m : InFlight) → Idle p s s' m → Inv p s'
   idle-inv m e = still-inv m (e .has) (e .least) (e .frame) (no-H (e .why)) (no-O (e .why))
     where
-      no-H : ((m .kind ≡ H) × ((s .node (m .to)) .emitter ≢ m .from)) ⊎ ((m .kind ≡ R) × (Lists s (m .to) (m .subject) ⊎ (m .subject ≡ m .to))) → m .kind ≡ H → Live s (m .to) → (s .node (m .to)) .emitter ≡ m .from → ⊥
+      no-H : Ignored s m → m .kind ≡ H → Live s (m .to) → (s .node (m .to)) .emitter ≡ m .from → ⊥
       no-H (inl w) k l q = w .1 q
       no-H (inr w) k l q = omega arith
 
-      no-O : ((m .kind ≡ H) × ((s .node (m .to)) .emitter ≢ m .from)) ⊎ ((m .kind ≡ R) × (Lists s (m .to) (m .subject) ⊎ (m .subject ≡ m .to))) → m .kind ≡ O → Live s (m .to) → ⊥
+      no-O : Ignored s m → m .kind ≡ O → Live s (m .to) → ⊥
       no-O (inl w) k l = omega arith
       no-O (inr w) k l = omega arith

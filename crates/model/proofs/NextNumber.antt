@@ -1,22 +1,26 @@
 -- The next message number stays small: what an event sends is paid by what was due at its tick. Assumes nothing.
 use mathlib.Core.Path.{_≡_, refl, sym, subst}
-use mathlib.Core.Bool.{Bool, true, false, cond, _||_}
+use mathlib.Core.Bool.{Bool, true, false, cond}
 use mathlib.Core.List.{List, [], _∷_, _++_}
 use Prim.Native.Nat.{ℕ, zero, suc, _+_, _*_, _≤_, _<_}
 use native.Mathlib.Omega.{arith}
 use native.Mathlib.Decide.{ℕ-discrete}
 use borrow.Author.Tests.{eq-eqb, ne-eqb}
 use lib.Dec.{eqb}
-use lib.ListN.{length, getD, set, length-map}
-use Rattle.ring.specs.Ring.{listed, listing, place, back, targets}
-use Rattle.ring.proofs.Counts.{targets-few}
+use lib.ListN.{length, getD, set}
+use Rattle.limits.specs.Limits.{mostNodes, mostInFlight, mostNext}
+use Rattle.ring.specs.Ring.{listing, place, targets}
 use Rattle.node.specs.declared.Node.{Node}
 use Rattle.node.specs.declared.Message.{Message}
-use Rattle.node.specs.Node.{H, O, Turn, silent, alone, due, reports, onHeartbeat, onObserver, onReport, onMessage, onWatchDue, onHeartbeatDue}
-use Rattle.ring.specs.Limits.{mostNodes, mostInFlight, mostNext}
-use Rattle.runfile.specs.Plan.{Plan}
-use Rattle.model.specs.Platform.{InFlight, State, Event, crash, message, watch, heartbeat, alive, delayOf, start, numbered, nodeOf, taken, noMessage, messageAt, without, received, apply, Outcome, try, left, steps, after}
-use Rattle.model.specs.Range.{Plain, Sound}
+use Rattle.node.specs.Node.{Turn, alone, reports, onMessage, onWatchDue, onHeartbeatDue, leftList}
+use Rattle.node.proofs.Moves.{Heard, renews, unheard, Reported, known, own, relays, Messaged, beats, observes, tells, messaged, beaten, Left, stops, moves}
+use Rattle.node.proofs.Moves.{left as left-by}
+use Rattle.node.proofs.Sends.{reports-few}
+use Rattle.plans.specs.Plan.{Plan}
+use Rattle.model.specs.Platform.{InFlight, State, Event, crash, message, watch, heartbeat, alive, delayOf, start, numbered, nodeOf, taken, noMessage}
+use Rattle.model.specs.Platform.{messageAt, without, received, apply, Outcome, try, left, steps, after}
+use Rattle.plans.specs.Plain.{Plain}
+use Rattle.model.specs.Range.{Sound}
 use Rattle.model.proofs.NextEvent.{Chosen}
 use Rattle.model.proofs.RangesKept.{delay-ok, Tried, happened, none-left, too-many, try-ok, left-range, start-range, steps-range, at-mem, in-n}
 
@@ -79,80 +83,54 @@ timers-set t (suc x) (m ∷ ns) n z h = omega (arith, timers-set t x ns n z (ome
 -- ---- what a turn costs
 
 module _ (p : Plan) (pl : Plain p) (t x : ℕ) (n : Node) where
+  -- what it sends, and seven for each timer of its node that is then due at t
+  abbrev cost : Turn → ℕ
+  cost u = length (u .sends) + 7 * ringAt t (u .node)
+
   few : (k d : ℕ) → length (reports k (targets (p .order) d (place (p .order) x))) ≤ 6
-  unfolding reports
-  few k d = rw length-map (targets-few (p .order) d (place (p .order) x) (rw (pl .order .size) (pl .n≤)))
+  few k d = reports-few (p .order) (rw (pl .order .size) (pl .n≤)) k d (place (p .order) x)
 
   not-now : (a : ℕ) → 1 ≤ a → eqb (suc (t + a)) (suc t) ≡ false
   not-now a h = ne-eqb (suc (t + a)) (suc t) (λ e. omega arith)
 
-  beat-cost : n .heartbeat ≡ suc t → length ((onHeartbeatDue (p .h) t n) .sends) + 7 * ringAt t ((onHeartbeatDue (p .h) t n) .node) ≤ 7 * ringAt t n
-  unfolding onHeartbeatDue ringAt one
-  beat-cost e = rw (not-now (p .h) (pl .h≥), eq-eqb (n .heartbeat) (suc t) e) (omega arith)
+  off-not-now : eqb 0 (suc t) ≡ false
+  off-not-now = ne-eqb 0 (suc t) (λ e. omega arith)
 
-  watch-cost : n .watch ≡ suc t → length ((onWatchDue (p .order) (p .w) t x n) .sends) + 7 * ringAt t ((onWatchDue (p .order) (p .w) t x n) .node) ≤ 7 * ringAt t n
-  unfolding onWatchDue ringAt one
-  watch-cost e = rw (eq-eqb (n .watch) (suc t) e) (go (eqb (back (p .order) (listing (n .list) (n .emitter)) (place (p .order) (n .emitter))) x))
+  beat-cost : n .heartbeat ≡ suc t → cost (onHeartbeatDue (p .h) t n) ≤ 7 * ringAt t n
+  unfolding ringAt one
+  beat-cost e = rw (beaten (p .h) t n, not-now (p .h) (pl .h≥), eq-eqb (n .heartbeat) (suc t) e) (omega arith)
+
+  watch-cost : n .watch ≡ suc t → cost (onWatchDue (p .order) (p .w) t x n) ≤ 7 * ringAt t n
+  unfolding ringAt one
+  watch-cost e = go (onWatchDue (p .order) (p .w) t x n) (left-by (p .order) (p .w) t x n)
     where
-      d : ℕ
-      d = listing (n .list) (n .emitter)
+      double : (w : ℕ) → 1 ≤ w → 1 ≤ 2 * w
+      double w h = omega arith
 
-      y : ℕ
-      y = back (p .order) (listing (n .list) (n .emitter)) (place (p .order) (n .emitter))
+      go : (u : Turn) → Left (p .order) (p .w) t x n u → cost u ≤ 7 * ringAt t n
+      go u (stops z) = rw (eq-eqb (n .watch) (suc t) e, off-not-now) (omega arith)
+      go u (moves z) =
+          rw (eq-eqb (n .watch) (suc t) e, not-now (2 * p .w) (double (p .w) (pl .w≥))) (omega (arith, few (n .emitter) (leftList n)))
 
-      turn : Bool → Turn
-      turn c = cond c (silent (alone x (listing (n .list) (n .emitter)))) (record {
-        node = record { emitter = y; observer = n .observer; watch = due (t + 2 * p .w); heartbeat = n .heartbeat; list = listing (n .list) (n .emitter) };
-        sends = record { kind = O; to = y; subject = 0 } ∷ reports (n .emitter) (targets (p .order) (listing (n .list) (n .emitter)) (place (p .order) x));
-      })
+  heartbeat-cost : (from : ℕ) (u : Turn) → Heard (p .w) t from n u → cost u ≤ 7 * ringAt t n + 7
+  unfolding ringAt one
+  heartbeat-cost from u (renews e) = rw (not-now (p .w) (pl .w≥)) (omega arith)
+  heartbeat-cost from u (unheard e) = omega arith
 
-      zero-not : eqb 0 (suc t) ≡ false
-      zero-not = ne-eqb 0 (suc t) (λ e. omega arith)
+  report-cost : (subject : ℕ) (u : Turn) → Reported (p .order) x subject n u → cost u ≤ 7 * ringAt t n + 7
+  unfolding ringAt
+  report-cost subject u (known e) = omega arith
+  report-cost subject u (own e) = omega arith
+  report-cost subject u (relays e f) = omega (arith, few subject (listing (n .list) subject))
 
-      go : (c : Bool) → length ((turn c) .sends) + 7 * ringAt t ((turn c) .node) ≤ 7 * (1 + cond (eqb (n .heartbeat) (suc t)) 1 0)
-      go true = rw zero-not (omega arith)
-      go false = rw (not-now (2 * p .w) (two (p .w) (pl .w≥))) (omega (arith, few (n .emitter) (listing (n .list) (n .emitter))))
-        where
-          two : (w : ℕ) → 1 ≤ w → 1 ≤ 2 * w
-          two w h = omega arith
-
-  heartbeat-cost : (from : ℕ) → length ((onHeartbeat (p .w) t from n) .sends) + 7 * ringAt t ((onHeartbeat (p .w) t from n) .node) ≤ 7 * ringAt t n + 7
-  unfolding onHeartbeat ringAt one
-  heartbeat-cost from = go (eqb (n .emitter) from)
+  message-cost : (kind from subject : ℕ) → cost (onMessage (p .order) (p .w) t x kind from subject n) ≤ 7 * ringAt t n + 7
+  unfolding ringAt
+  message-cost kind from subject = go _ (messaged (p .order) (p .w) t x kind from subject n)
     where
-      v : Node
-      v = record { emitter = n .emitter; observer = n .observer; watch = due (t + p .w); heartbeat = n .heartbeat; list = n .list }
-
-      go : (c : Bool) → 0 + 7 * ringAt t (cond c v n) ≤ 7 * ringAt t n + 7
-      go true = rw (not-now (p .w) (pl .w≥)) (omega arith)
-      go false = omega arith
-
-  observer-cost : (from : ℕ) → length ((onObserver t from n) .sends) + 7 * ringAt t ((onObserver t from n) .node) ≤ 7 * ringAt t n + 7
-  unfolding onObserver ringAt
-  observer-cost from = omega (arith, one-le (eqb (suc t) (suc t)))
-
-  report-cost : (subject : ℕ) → length ((onReport (p .order) x subject n) .sends) + 7 * ringAt t ((onReport (p .order) x subject n) .node) ≤ 7 * ringAt t n + 7
-  unfolding onReport ringAt
-  report-cost subject = go (listed (n .list) subject || eqb subject x)
-    where
-      u : Turn
-      u = record {
-        node = record { emitter = n .emitter; observer = n .observer; watch = n .watch; heartbeat = n .heartbeat; list = listing (n .list) subject };
-        sends = reports subject (targets (p .order) (listing (n .list) subject) (place (p .order) x));
-      }
-
-      go : (c : Bool) → length ((cond c (silent n) u) .sends) + 7 * ringAt t ((cond c (silent n) u) .node) ≤ 7 * ringAt t n + 7
-      go true = omega arith
-      go false = omega (arith, few subject (listing (n .list) subject))
-
-  message-cost : (kind from subject : ℕ) → length ((onMessage (p .order) (p .w) t x kind from subject n) .sends) + 7 * ringAt t ((onMessage (p .order) (p .w) t x kind from subject n) .node) ≤ 7 * ringAt t n + 7
-  unfolding onMessage
-  message-cost kind from subject = go (eqb kind H) (eqb kind O)
-    where
-      go : (c d : Bool) → length ((cond c (onHeartbeat (p .w) t from n) (cond d (onObserver t from n) (onReport (p .order) x subject n))) .sends) + 7 * ringAt t ((cond c (onHeartbeat (p .w) t from n) (cond d (onObserver t from n) (onReport (p .order) x subject n))) .node) ≤ 7 * ringAt t n + 7
-      go true d = heartbeat-cost from
-      go false true = observer-cost from
-      go false false = report-cost subject
+      go : (u : Turn) → Messaged (p .order) (p .w) t x kind from subject n u → cost u ≤ 7 * ringAt t n + 7
+      go u (beats e v h) = heartbeat-cost from v h
+      go u (observes e) = omega (arith, one-le (eqb (suc t) (suc t)))
+      go u (tells e f v r) = report-cost subject v r
 
 -- ---- the count
 
@@ -179,26 +157,38 @@ module _ (p : Plan) (pl : Plain p) where
         go (yes e) = rw e sm
         go (no e) = omega (arith, due-le t (s .flight), r .few, timers-le t (s .nodes), r .nodes, pl .n≤)
 
-    taken-weight : (t x : ℕ) (rest : List InFlight) (u : Turn) (c : ℕ) → x < p .n → dueAt t rest + c ≡ dueAt t (s .flight) → length (u .sends) + 7 * ringAt t (u .node) ≤ 7 * ringAt t (nodeOf s x) + 7 * c → weight (taken p s t x rest u) t ≤ weight s t
+    taken-weight : (t x : ℕ) (rest : List InFlight) (u : Turn) (c : ℕ) → x < p .n → dueAt t rest + c ≡ dueAt t (s .flight)
+        → length (u .sends) + 7 * ringAt t (u .node) ≤ 7 * ringAt t (nodeOf s x) + 7 * c → weight (taken p s t x rest u) t ≤ weight s t
     unfolding weight taken
-    taken-weight t x rest u c xN e h = omega (arith, timers-set t x (s .nodes) (u .node) (alone x 0) (rw (r .nodes) xN), due-append t rest (numbered p t x (s .next) (u .sends)), due-sent p pl t x (s .next) (u .sends))
+    taken-weight t x rest u c xN e h =
+        let out : List InFlight = numbered p t x (s .next) (u .sends) in
+        omega (
+          arith,
+          timers-set t x (s .nodes) (u .node) (alone x 0) (rw (r .nodes) xN),
+          due-append t rest out,
+          due-sent p pl t x (s .next) (u .sends),
+        )
 
     event-weight : (t : ℕ) (ev : Event) → Chosen p pl s t ev → weight (apply p s t ev) t ≤ weight s t
     unfolding Chosen apply received weight
     event-weight t (crash k) ch = omega arith
-    event-weight t (watch x) ch = taken-weight t x (s .flight) (onWatchDue (p .order) (p .w) t x (nodeOf s x)) 0 (in-n p pl s r x (ch .0)) (omega arith) (omega (arith, watch-cost p pl t x (nodeOf s x) (ch .2)))
-    event-weight t (heartbeat x) ch = taken-weight t x (s .flight) (onHeartbeatDue (p .h) t (nodeOf s x)) 0 (in-n p pl s r x (ch .0)) (omega arith) (omega (arith, beat-cost p pl t x (nodeOf s x) (ch .2)))
-    event-weight t (message i) ch = go (alive p (s .done) ((messageAt s i) .to))
+    event-weight t (watch x) ch =
+        taken-weight t x (s .flight) (onWatchDue (p .order) (p .w) t x (nodeOf s x)) 0 (in-n p pl s r x (ch .0)) (omega arith)
+        (omega (arith, watch-cost p pl t x (nodeOf s x) (ch .2)))
+    event-weight t (heartbeat x) ch =
+        taken-weight t x (s .flight) (onHeartbeatDue (p .h) t (nodeOf s x)) 0 (in-n p pl s r x (ch .0)) (omega arith)
+        (omega (arith, beat-cost p pl t x (nodeOf s x) (ch .2)))
+    event-weight t (message i) ch =
+        go (alive p (s .done) ((messageAt s i) .to)) _ _ (message-cost p pl t _ (nodeOf s ((messageAt s i) .to)) _ _ _) (omega arith)
       where
-        toN : (messageAt s i) .to < p .n
-        toN = (r .flying (messageAt s i) (at-mem (s .flight) i (ch .0))) .to
+        below : (messageAt s i) .to < p .n
+        below = (r .flying (messageAt s i) (at-mem (s .flight) i (ch .0))) .to
 
-        turn : Bool → Turn
-        turn c = cond c (onMessage (p .order) (p .w) t ((messageAt s i) .to) ((messageAt s i) .kind) ((messageAt s i) .from) ((messageAt s i) .subject) (nodeOf s ((messageAt s i) .to))) (silent (nodeOf s ((messageAt s i) .to)))
-
-        go : (c : Bool) → weight (taken p s t ((messageAt s i) .to) (without i (s .flight)) (turn c)) t ≤ weight s t
-        go true = taken-weight t ((messageAt s i) .to) (without i (s .flight)) (turn true) 1 toN (due-without t i (s .flight) (ch .0) (ch .1)) (message-cost p pl t ((messageAt s i) .to) (nodeOf s ((messageAt s i) .to)) ((messageAt s i) .kind) ((messageAt s i) .from) ((messageAt s i) .subject))
-        go false = taken-weight t ((messageAt s i) .to) (without i (s .flight)) (turn false) 1 toN (due-without t i (s .flight) (ch .0) (ch .1)) (omega arith)
+        go : (c : Bool) (u v : Turn) → length (u .sends) + 7 * ringAt t (u .node) ≤ 7 * ringAt t (nodeOf s ((messageAt s i) .to)) + 7
+            → length (v .sends) + 7 * ringAt t (v .node) ≤ 7 * ringAt t (nodeOf s ((messageAt s i) .to)) + 7
+            → weight (taken p s t ((messageAt s i) .to) (without i (s .flight)) (cond c u v)) t ≤ weight s t
+        go true u v a b = taken-weight t _ (without i (s .flight)) u 1 below (due-without t i (s .flight) (ch .0) (ch .1)) a
+        go false u v a b = taken-weight t _ (without i (s .flight)) v 1 below (due-without t i (s .flight) (ch .0) (ch .1)) b
 
     event-now : (t : ℕ) (ev : Event) → (apply p s t ev) .last ≡ t
     unfolding apply taken
@@ -209,7 +199,9 @@ module _ (p : Plan) (pl : Plain p) where
 
     left-small : (a : ℕ) → Small a s → (o : Outcome) → Tried p pl s o → Small a (left s o)
     unfolding left Small
-    left-small a sm o (happened e b w ch f) = subst (λ u. weight (apply p s (e .tick) (e .event)) u ≤ a + perTick * (u + 1)) (sym (event-now (e .tick) (e .event))) (le (event-weight (e .tick) (e .event) ch) (weight-at a (e .tick) w sm))
+    left-small a sm o (happened e b w ch f) =
+        subst (λ u. weight (apply p s (e .tick) (e .event)) u ≤ a + perTick * (u + 1)) (sym (event-now (e .tick) (e .event)))
+        (le (event-weight (e .tick) (e .event) ch) (weight-at a (e .tick) w sm))
       where
         le : {a b c : ℕ} → a ≤ b → b ≤ c → a ≤ c
         le x y = omega arith
@@ -219,7 +211,8 @@ module _ (p : Plan) (pl : Plain p) where
   steps-small : (a k : ℕ) (s : State) → Sound p s → Small a s → Small a (steps p k s)
   unfolding steps
   steps-small a zero s r sm = sm
-  steps-small a (suc k) s r sm = steps-small a k (left s (try p s)) (left-range p pl s r (try p s) (try-ok p pl s r)) (left-small s r a sm (try p s) (try-ok p pl s r))
+  steps-small a (suc k) s r sm =
+      steps-small a k (left s (try p s)) (left-range p pl s r (try p s) (try-ok p pl s r)) (left-small s r a sm (try p s) (try-ok p pl s r))
 
   small-at : (a : ℕ) (s : State) → Sound p s → s .next ≤ a → Small a s
   unfolding Small weight

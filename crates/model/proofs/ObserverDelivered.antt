@@ -9,15 +9,15 @@ use native.Mathlib.Decide.{ℕ-discrete}
 use Rattle.node.specs.Node.{H, O}
 use Rattle.model.specs.Platform.{InFlight}
 use Rattle.model.proofs.Events.{Seen, View, Live, _∈_, Params, Watched, watching}
-use Rattle.model.proofs.Invariant.{Inv, Covered, byHeartbeat, byTimer, byObserver, byCrash}
+use Rattle.model.proofs.Invariant.{Inv, Answered, Covered, byHeartbeat, byTimer, byObserver, byCrash}
 use Rattle.model.proofs.EveryEvent.{live-not-dead, Alike, base'}
 use Rattle.model.proofs.OneState.{one-observes, emitter-beats}
-use Rattle.model.proofs.OneNode.{each, alike, timers}
-use Rattle.model.proofs.WatchKept.{stays, came0, other-kind, covered-map}
+use Rattle.model.proofs.OneNode.{OnEach, each, alike, timers}
+use Rattle.model.proofs.WatchKept.{stays, came0, other-kind, covered-map, same-node}
 
 module _ (p : Params) (s s' : View) (i : Inv p s) where
   module _ (m : InFlight) (e : Watched p s s' m) where
-    pub observer-all : (Q : ℕ → Seen → Seen → Type 0) → Q (m .to) (s .node (m .to)) (watching p (s .node (m .to)) (m .from) (m .due)) → ((j : ℕ) → Q j (s .node j) (s .node j)) → (j : ℕ) → Q j (s .node j) (s' .node j)
+    pub observer-all : OnEach s s' (m .to) (watching p (s .node (m .to)) (m .from) (m .due))
     observer-all = each p s s' (m .due) (m .to) _ (m ∷ []) [] (e .frame)
 
     observer-now : s .last ≤ m .due
@@ -45,8 +45,10 @@ module _ (p : Params) (s s' : View) (i : Inv p s) where
     observer-from j a q lj ej ne = one-observes p s (i .base) j a lj ej ne (rw q (e .live)) m (e .has) (e .kind) (sym q)
 
     -- w, the watch of j; n, the new state of its emitter a, which got this O of j
-    observer-turn : (j a w : ℕ) (n : Seen) → a ≡ m .to → Live s j → (s .node j) .emitter ≡ a → a ≢ j → n .alive ≡ true → n .observer ≡ j → n .heartbeat ≡ m .due → Covered p (s .flight) j a w (s .node a) → Covered p (s' .flight) j a w n
-    observer-turn j a w n q lj ej ne la o d (byHeartbeat g h k f t u) = byHeartbeat g (stays (s' .flight) m g (e .frame .keep g h) (other-kind g m H O k (e .kind) (omega arith))) k f t u
+    observer-turn : (j a w : ℕ) (n : Seen) → a ≡ m .to → Live s j → (s .node j) .emitter ≡ a → a ≢ j → n .alive ≡ true → n .observer ≡ j
+        → n .heartbeat ≡ m .due → Covered p (s .flight) j a w (s .node a) → Covered p (s' .flight) j a w n
+    observer-turn j a w n q lj ej ne la o d (byHeartbeat g h k f t u) =
+        byHeartbeat g (stays (s' .flight) m g (e .frame .keep g h) (other-kind g m H O k (e .kind) (omega arith))) k f t u
     observer-turn j a w n q lj ej ne la o d (byTimer al x u) = byTimer la o (omega (arith, e .least .heartbeat≥ a al (emitter-beats p s i j a lj ej ne al)))
     observer-turn j a w n q lj ej ne la o d (byObserver al g h k f t u) = go (e .frame .keep g h)
       where
@@ -65,17 +67,22 @@ module _ (p : Params) (s s' : View) (i : Inv p s) where
         ej0 = sym (observer-em j) ∙ ej
 
         go : Dec (a ≡ m .to) → Covered p (s' .flight) j a ((s .node j) .watch) (s' .node a)
-        go (yes q) = observer-turn j a _ _ q lj0 ej0 ne (rw (q, e .frame .here)) (rw (q, e .frame .here) (observer-from j a q lj0 ej0 ne)) (rw (q, e .frame .here)) (i .covered j a lj0 ej0 ne)
-        go (no n) = rw (e .frame .other a n) (covered-map p (s .flight) (s' .flight) j a _ _ _ _ (i .covered j a lj0 ej0 ne) (omega arith) record { alive = refl; observer = refl; heartbeat = refl }
+        go (yes q) =
+            observer-turn j a _ _ q lj0 ej0 ne (rw (q, e .frame .here)) (rw (q, e .frame .here) (observer-from j a q lj0 ej0 ne)) (rw (q, e .frame .here))
+            (i .covered j a lj0 ej0 ne)
+        go (no n) = rw (e .frame .other a n) (covered-map p (s .flight) (s' .flight) j a _ _ _ _ (i .covered j a lj0 ej0 ne) (omega arith) (same-node _)
             (λ g h k fr to. stays (s' .flight) m g (e .frame .keep g h) (other-kind g m H O k (e .kind) (omega arith)))
             (λ la g h k fr to. stays (s' .flight) m g (e .frame .keep g h) (λ x. n (sym to ∙ ap (λ y. y .to) x))))
 
-    observer-back : (g : InFlight) → g ∈ s' .flight → g .kind ≡ H → Live s' (g .from) → Live s' (g .to) → (s' .node (g .to)) .emitter ≡ g .from → g .from ≢ g .to → (s' .node (g .from)) .observer ≡ g .to
+    observer-back : Answered s'
     observer-back g h k lf lt eg ne = go (ℕ-discrete (g .from) (m .to))
       where
         go : Dec (g .from ≡ m .to) → (s' .node (g .from)) .observer ≡ g .to
         go (yes q) = rw (q, e .frame .here) (observer-from (g .to) (g .from) q (observer-alike .alive (g .to) lt) (sym (observer-em (g .to)) ∙ eg) ne)
-        go (no n) = rw (e .frame .other (g .from) n) (i .answered g (came0 (s .flight) g (e .frame .came g h)) k (observer-alike .alive (g .from) lf) (observer-alike .alive (g .to) lt) (sym (observer-em (g .to)) ∙ eg) ne)
+        go (no n) =
+            rw (e .frame .other (g .from) n)
+            (i .answered g (came0 (s .flight) g (e .frame .came g h)) k (observer-alike .alive (g .from) lf) (observer-alike .alive (g .to) lt)
+            (sym (observer-em (g .to)) ∙ eg) ne)
 
     pub observer-inv : Inv p s'
     observer-inv = record {

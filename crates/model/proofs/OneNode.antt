@@ -11,6 +11,11 @@ use Rattle.model.proofs.Events.{Seen, View, Live, Dead, Lists, _∈_, P
 use Rattle.model.proofs.Invariant.{Tied, Inv, Timers}
 use Rattle.model.proofs.EveryEvent.{NewMessage, GoneBy, Moved, Alike}
 
+-- what holds of the node x that became n', and of every node that stays, holds of all
+abbrev pub OnEach : View → View → ℕ → Seen → Type 1
+OnEach s s' x n' =
+    (Q : ℕ → Seen → Seen → Type 0) → Q x (s .node x) n' → ((j : ℕ) → Q j (s .node j) (s .node j)) → (j : ℕ) → Q j (s .node j) (s' .node j)
+
 module _ (p : Params) where
   pub record Local (s s' : View) (t x : ℕ) (n' : Seen) (out : List InFlight) : Type 0 where
     pub alive : n' .alive ≡ true → Live s x
@@ -23,7 +28,7 @@ module _ (p : Params) where
 
   module _ (s s' : View) (t x : ℕ) (n' : Seen) (gone out : List InFlight) (f : Frame p s s' t x n' gone out) where
     -- a statement of each node's state, before and after
-    pub each : (Q : ℕ → Seen → Seen → Type 0) → Q x (s .node x) n' → ((j : ℕ) → Q j (s .node j) (s .node j)) → (j : ℕ) → Q j (s .node j) (s' .node j)
+    pub each : OnEach s s' x n'
     each Q a b j = go (ℕ-discrete j x)
       where
         go : Dec (j ≡ x) → Q j (s .node j) (s' .node j)
@@ -50,7 +55,8 @@ module _ (p : Params) where
         came m (inr h) = inr (l .new m h)
 
     -- timers: the node's own, and time that passes for the others
-    pub timers : {msg crash : ℕ} → Least p s t msg crash → s .last ≤ t → Inv p s → (Live s x → n' .alive ≡ true → Timers p t x n') → (n' .alive ≡ true → Live s x) → (j : ℕ) → Live s' j → Timers p (s' .last) j (s' .node j)
+    pub timers : {msg crash : ℕ} → Least p s t msg crash → s .last ≤ t → Inv p s → (Live s x → n' .alive ≡ true → Timers p t x n')
+        → (n' .alive ≡ true → Live s x) → (j : ℕ) → Live s' j → Timers p (s' .last) j (s' .node j)
     timers le nt i own al = rw (f .last') (each (λ j n n'. n' .alive ≡ true → Timers p t j n') (λ h. own (al h) h) (λ j h. record {
       on = (i .timers j h) .on;
       off = (i .timers j h) .off;

@@ -23,14 +23,16 @@ module _ (p : Params) (s : View) (b : Base p s) where
       omega (arith, g .long, b .m-due m h)
 
   -- two nodes that observe i: the nearer one is listed by the other
-  pub one-lists-other : (j a i : ℕ) → j < p .N → a < p .N → j ≢ a → (s .node j) .emitter ≡ i → (s .node a) .emitter ≡ i → Lists s a j ⊎ Lists s j a
+  pub one-lists-other : (j a i : ℕ) → j < p .N → a < p .N → j ≢ a → (s .node j) .emitter ≡ i → (s .node a) .emitter ≡ i
+      → Lists s a j ⊎ Lists s j a
   one-lists-other j a i jN aN ne ej ea = go (p .gap-cyc j a i jN aN ne)
     where
       go : (p .gap a j < p .gap a i) ⊎ (p .gap j a < p .gap j i) → Lists s a j ⊎ Lists s j a
       go (inl h) = inl (b .between a j (rw ea h))
       go (inr h) = inr (b .between j a (rw ej h))
 
-  pub one-observes : (j i : ℕ) → Live s j → (s .node j) .emitter ≡ i → i ≢ j → Live s i → (m : InFlight) → m ∈ s .flight → m .kind ≡ O → m .to ≡ i → m .from ≡ j
+  pub one-observes : (j i : ℕ) → Live s j → (s .node j) .emitter ≡ i → i ≢ j → Live s i → (m : InFlight) → m ∈ s .flight → m .kind ≡ O
+      → m .to ≡ i → m .from ≡ j
   one-observes j i lj ej ne li m h k to = go (ℕ-discrete (m .from) j) (rw to at (b .m-O m h k))
     where
       jN : j < p .N
@@ -39,7 +41,8 @@ module _ (p : Params) (s : View) (b : Base p s) where
       go : Dec (m .from ≡ j) → Tied p s (m .from) i → m .from ≡ j
       go (yes e) r = e
       go (no n) (inr l) = absurd (live-unlisted (m .from) i l li)
-      go (no n) (inl ea) = last (one-lists-other j (m .from) i jN ((b .inN (m .from) (λ e. b .m-self m h (sym e ∙ ea ∙ sym to))) .0) (λ e. n (sym e)) ej ea)
+      go (no n) (inl ea) =
+          last (one-lists-other j (m .from) i jN ((b .inN (m .from) (λ e. b .m-self m h (sym e ∙ ea ∙ sym to))) .0) (λ e. n (sym e)) ej ea)
         where
           last : Lists s (m .from) j ⊎ Lists s j (m .from) → m .from ≡ j
           last (inl l) = absurd (live-unlisted (m .from) j l lj)

@@ -6,16 +6,18 @@ use mathlib.Core.List.{[]}
 use Prim.Native.Nat.{ℕ, _≤_, _<_}
 use native.Mathlib.Omega.{arith}
 use native.Mathlib.Decide.{decLt}
-use Rattle.ring.specs.Ring.{listed, InOrder}
+use Rattle.ring.specs.Ring.{listed, place, back, next, InOrder}
 use Rattle.node.specs.declared.Node.{Node}
-use Rattle.runfile.specs.Plan.{Plan, hits}
+use Rattle.node.specs.Node.{ringed}
+use Rattle.plans.specs.Plan.{Plan, hits}
 use Rattle.model.specs.Platform.{alive, start, nodeOf}
-use Rattle.model.specs.Range.{Plain, Accepted}
-use Rattle.model.proofs.RingOrder.{Order, gap, gap-far, gap-out}
-use Rattle.model.proofs.RingSearch.{up, down, up-at, down-at, gap≥1, gap≤N, gap-before, down-of-up, up-of-down}
-use Rattle.model.proofs.RingLists.{ordOf, listed-none, open-back, open-next, down-other}
+use Rattle.plans.specs.Plain.{Plain}
+use Rattle.model.specs.Range.{Accepted}
+use Rattle.ring.proofs.Neighbours.{open-next-below, open-back-below, open-back-nearest, back-next, next-back, open-back-other}
+use Rattle.ring.proofs.Lists.{listed-none}
+use Rattle.ring.proofs.Gaps.{gap, gap-far, gap-out, gap≥1, gap≤n}
 use Rattle.model.proofs.InvariantKept.{Opened}
-use Rattle.model.proofs.RangesKept.{ringed, Shape, shape}
+use Rattle.model.proofs.RangesKept.{Shape, shape}
 use Rattle.model.proofs.Viewed.{P, view, isOn, tickOf}
 
 start-now : (p : Plan) → (start p) .last ≡ 0
@@ -37,23 +39,26 @@ module _ (p : Plan) (ac : Accepted p) where
   abbrev io : InOrder (p .n) (p .order)
   io = pl .order
 
-  abbrev o : Order (p .n)
-  o = ordOf (p .n) (p .order) io
-
   abbrev nd : ℕ → Node
   nd j = nodeOf (start p) j
 
   -- the neighbours of a node in a ring of two or more
-  em-is : (j : ℕ) → j < p .n → nd j ≡ ringed p pl j → (nd j) .emitter ≡ down (p .n) o j
-  em-is j h e = ap (λ (a : Node). a .emitter) e ∙ open-back (p .n) (p .order) io j h
+  abbrev before : ℕ → ℕ
+  before j = back (p .order) 0 (place (p .order) j)
 
-  ob-is : (j : ℕ) → j < p .n → nd j ≡ ringed p pl j → (nd j) .observer ≡ up (p .n) o j
-  ob-is j h e = ap (λ (a : Node). a .observer) e ∙ open-next (p .n) (p .order) io j h
+  abbrev behind : ℕ → ℕ
+  behind j = next (p .order) 0 (place (p .order) j)
 
-  in-ring : (j : ℕ) → 1 < p .n → j < p .n → nd j ≡ ringed p pl j
+  em-is : (j : ℕ) → nd j ≡ ringed (p .order) (p .h) (p .w) j → (nd j) .emitter ≡ before j
+  em-is j e = ap (λ (a : Node). a .emitter) e
+
+  ob-is : (j : ℕ) → nd j ≡ ringed (p .order) (p .h) (p .w) j → (nd j) .observer ≡ behind j
+  ob-is j e = ap (λ (a : Node). a .observer) e
+
+  in-ring : (j : ℕ) → 1 < p .n → j < p .n → nd j ≡ ringed (p .order) (p .h) (p .w) j
   in-ring j b h = go (shape p pl j)
     where
-      go : Shape p pl j → nd j ≡ ringed p pl j
+      go : Shape p pl j → nd j ≡ ringed (p .order) (p .h) (p .w) j
       go (inl x) = x .2
       go (inr x) = absurd (x .1 b h)
 
@@ -86,28 +91,30 @@ module _ (p : Plan) (ac : Accepted p) where
       em j k (inr x) = rw (x .0) (listed-none k)
 
       iN : (j : ℕ) → Shape p pl j → (nd j) .emitter ≢ j → (j < p .n) × ((nd j) .emitter < p .n)
-      iN j (inl x) n = rw (em-is j (x .1) (x .2)) (x .1, (down-at (p .n) o j (x .1)) .0)
+      iN j (inl x) n = rw (em-is j (x .2)) (x .1, open-back-below (p .n) (p .order) io j (x .1))
       iN j (inr x) n = absurd (n (rw (x .0)))
 
-      bf : (j k : ℕ) → Shape p pl j → gap (p .n) o j ((nd j) .emitter) ≤ gap (p .n) o j k
-      bf j k (inl x) = rw (em-is j (x .1) (x .2), gap-before (p .n) o j (x .1)) (low (decLt k (p .n)))
-        where
-          low : Dec (k < p .n) → 1 ≤ gap (p .n) o j k
-          low (yes h) = gap≥1 (p .n) o j k (x .1) h
-          low (no h) = omega (arith, gap-out (p .n) o j k (x .1) h)
+      bf : (j k : ℕ) → Shape p pl j → gap (p .n) io j ((nd j) .emitter) ≤ gap (p .n) io j k
+      bf j k (inl x) = rw (em-is j (x .2)) (open-back-nearest (p .n) (p .order) io j (x .1) k)
       bf j k (inr x) = rw (x .0) (go (decLt j (p .n)) (decLt k (p .n)))
         where
-          go : Dec (j < p .n) → Dec (k < p .n) → gap (p .n) o j j ≤ gap (p .n) o j k
-          go (no h) d = omega (arith, gap-far (p .n) o j j h)
-          go (yes h) (yes e) = let one : ¬ (1 < p .n) = λ b. x .1 b h in omega (arith, gap≤N (p .n) o j j h h, gap≥1 (p .n) o j k h e)
-          go (yes h) (no e) = omega (arith, gap≤N (p .n) o j j h h, gap-out (p .n) o j k h e)
+          go : Dec (j < p .n) → Dec (k < p .n) → gap (p .n) io j j ≤ gap (p .n) io j k
+          go (no h) d = omega (arith, gap-far (p .n) io j j h)
+          go (yes h) (yes e) = let one : ¬ (1 < p .n) = λ b. x .1 b h in omega (arith, gap≤n (p .n) io j j h h, gap≥1 (p .n) io j k h e)
+          go (yes h) (no e) = omega (arith, gap≤n (p .n) io j j h h, gap-out (p .n) io j k h e)
 
       ml : (j : ℕ) → Shape p pl j → (nd ((nd j) .emitter)) .observer ≡ j
-      ml j (inl x) = let dN : down (p .n) o j < p .n = (down-at (p .n) o j (x .1)) .0 in rw (em-is j (x .1) (x .2), ob-is (down (p .n) o j) dN (in-ring (down (p .n) o j) (x .0) dN)) (up-of-down (p .n) o j (x .1))
+      ml j (inl x) =
+          let there : nd (before j) ≡ ringed (p .order) (p .h) (p .w) (before j) =
+          in-ring (before j) (x .0) (open-back-below (p .n) (p .order) io j (x .1)) in
+          rw (em-is j (x .2), ob-is (before j) there) (next-back (p .n) 0 (p .order) io j (x .1) (listed-none j))
       ml j (inr x) = let e : (nd j) .emitter ≡ j = ap (λ (a : Node). a .emitter) (x .0) in rw (e, x .0)
 
       mr : (j : ℕ) → Shape p pl j → (nd ((nd j) .observer)) .emitter ≡ j
-      mr j (inl x) = let uN : up (p .n) o j < p .n = (up-at (p .n) o j (x .1)) .0 in rw (ob-is j (x .1) (x .2), em-is (up (p .n) o j) uN (in-ring (up (p .n) o j) (x .0) uN)) (down-of-up (p .n) o j (x .1))
+      mr j (inl x) =
+          let there : nd (behind j) ≡ ringed (p .order) (p .h) (p .w) (behind j) =
+          in-ring (behind j) (x .0) (open-next-below (p .n) (p .order) io j (x .1)) in
+          rw (ob-is j (x .2), em-is (behind j) there) (back-next (p .n) 0 (p .order) io j (x .1) (listed-none j))
       mr j (inr x) = let e : (nd j) .observer ≡ j = ap (λ (a : Node). a .observer) (x .0) in rw (e, x .0)
 
       ww : (j : ℕ) → Shape p pl j → (nd j) .emitter ≢ j → (isOn ((nd j) .watch) ≡ true) × (tickOf ((nd j) .watch) ≡ p .w)
@@ -119,5 +126,5 @@ module _ (p : Plan) (ac : Accepted p) where
       hh j (inr x) n = absurd (n (rw (x .0)))
 
       of : (j : ℕ) → Shape p pl j → (nd j) .emitter ≡ j → (isOn ((nd j) .watch) ≡ false) × (isOn ((nd j) .heartbeat) ≡ false)
-      of j (inl x) n = absurd (down-other (p .n) (p .order) io j (x .1) (x .0) (sym (em-is j (x .1) (x .2)) ∙ n))
+      of j (inl x) n = absurd (open-back-other (p .n) (p .order) io j (x .1) (x .0) (sym (em-is j (x .2)) ∙ n))
       of j (inr x) n = rw (x .0) (refl, refl)

@@ -8,11 +8,11 @@ use Prim.Native.Nat.{ℕ, _+_, _*_, _^_, _≤_, _<_}
 use native.Mathlib.Omega.{arith}
 use Rattle.node.specs.Node.{H, O, R}
 use Rattle.model.specs.Platform.{InFlight}
-use Rattle.model.proofs.RingOrder.{iter}
-use Rattle.model.proofs.Events.{Seen, View, Live, Dead, Lists, _∈_, Params, Frame, Drop, Idle, Beat, Sends, beaten, sending}
+use Rattle.model.proofs.Events.{Seen, View, Live, Dead, Lists, _∈_, Ignored, Params, Frame, Drop, Idle, Beat, Sends, beaten, sending}
+use Rattle.ring.proofs.GoingBack.{iter}
 use Rattle.model.proofs.Invariant.{Inv}
 use Rattle.model.proofs.EveryEvent.{live-not-dead}
-use Rattle.model.proofs.OneNode.{each}
+use Rattle.model.proofs.OneNode.{OnEach, each}
 use Rattle.model.proofs.WatchKept.{stays, stays0, came0, other-kind}
 
 -- the crashed nodes as a list
@@ -25,6 +25,9 @@ pub record Core (n n' : Seen) : Type 0 where
   pub emitter : n' .emitter ≡ n .emitter
   pub observer : n' .observer ≡ n .observer
   pub list : n' .list ≡ n .list
+
+core-is : {n n' : Seen} → n' ≡ n → Core n n'
+core-is e = record { alive = ap (λ n. n .alive) e; emitter = ap (λ n. n .emitter) e; observer = ap (λ n. n .observer) e; list = ap (λ n. n .list) e }
 
 module _ (p : Params) where
   -- S, for m survivors
@@ -61,7 +64,8 @@ module _ (p : Params) where
     pub lists : (j k : ℕ) → Up s j → Dead s k → k ≢ z → Lists s j k
     pub unknown : (j : ℕ) → Up s j → Lists s j z → ⊥
     pub emitter : (j : ℕ) → Up s j → j ≢ q → Up s ((s .node j) .emitter)
-    pub observer : (j : ℕ) → Up s j → (Up s ((s .node j) .observer) × ((s .node ((s .node j) .observer)) .emitter ≡ j)) ⊎ ((s .node z) .emitter ≡ j)
+    pub observer : (j : ℕ) → Up s j
+        → (Up s ((s .node j) .observer) × ((s .node ((s .node j) .observer)) .emitter ≡ j)) ⊎ ((s .node z) .emitter ≡ j)
     pub prev : Up s ((s .node z) .emitter)
     pub kinds : (m : InFlight) → m ∈ s .flight → (m .kind ≢ O) × (m .kind ≢ R)
     pub wq : (s .node q) .watch + 1 ≤ c + p .W + p .D
@@ -88,7 +92,8 @@ module _ (p : Params) where
     pub observer : (j : ℕ) → Up s j → (Up s ((s .node j) .observer) × (f ((s .node j) .observer) ≡ j)) ⊎ ((f q ≡ j) × Coming s O j (T + p .D))
     pub observers : (g : InFlight) → g ∈ s .flight → g .kind ≡ O → (g .from ≡ q) × (g .to ≡ f q) × (g .due ≤ T + p .D)
     pub reports : (g : InFlight) → g ∈ s .flight → g .kind ≡ R → (g .subject ≡ z) × (g .due ≤ T + (p .log m + 1) * p .D)
-    pub relay : (x y d j b : ℕ) → Up s x → Lists s x z → iter f d x ≡ q → d < 2 ^ j → Up s y → iter f (2 ^ b) y ≡ x → 2 ^ b < m → Lists s y z ⊎ Coming s R y (T + (j + 1) * p .D)
+    pub relay : (x y d j b : ℕ) → Up s x → Lists s x z → iter f d x ≡ q → d < 2 ^ j → Up s y → iter f (2 ^ b) y ≡ x → 2 ^ b < m
+        → Lists s y z ⊎ Coming s R y (T + (j + 1) * p .D)
     pub watch : (j : ℕ) → Up s j → j ≢ q → (s .node j) .emitter ≢ j → (s .node j) .watch ≤ s .last + p .W
     pub wq : Rests s T q (f q)
 
@@ -98,9 +103,15 @@ module _ (p : Params) where
     pub t≥ : s .last ≤ t
     pub core : (j : ℕ) → Core (s .node j) (s' .node j)
     pub came : (m : InFlight) → m ∈ s' .flight → (m ∈ s .flight) ⊎ (m .kind ≡ H)
-    pub watch : (j : ℕ) → ((s' .node j) .watch ≡ (s .node j) .watch) ⊎ (((s' .node j) .watch ≡ t + p .W) × (p .planned ((s .node j) .emitter) ≡ true → t < p .c ((s .node j) .emitter) + p .D))
-    pub heartbeat : (j : ℕ) → ((s' .node j) .heartbeat ≡ (s .node j) .heartbeat) ⊎ ((m : InFlight) × (m ∈ s' .flight) × (m .kind ≡ H) × (m .from ≡ j) × (m .to ≡ (s .node j) .observer) × (m .due ≤ (s .node j) .heartbeat + p .D))
-    pub keepH : (m : InFlight) → m ∈ s .flight → m .kind ≡ H → Live s (m .to) → (s .node (m .to)) .emitter ≡ m .from → (m ∈ s' .flight) ⊎ ((s' .node (m .to)) .watch ≡ t + p .W)
+    pub watch : (j : ℕ)
+        → ((s' .node j) .watch ≡ (s .node j) .watch)
+        ⊎ (((s' .node j) .watch ≡ t + p .W) × (p .planned ((s .node j) .emitter) ≡ true → t < p .c ((s .node j) .emitter) + p .D))
+    pub heartbeat : (j : ℕ)
+        → ((s' .node j) .heartbeat ≡ (s .node j) .heartbeat)
+        ⊎ ((m : InFlight) × (m ∈ s' .flight) × (m .kind ≡ H) × (m .from ≡ j) × (m .to ≡ (s .node j) .observer)
+        × (m .due ≤ (s .node j) .heartbeat + p .D))
+    pub keepH : (m : InFlight) → m ∈ s .flight → m .kind ≡ H → Live s (m .to) → (s .node (m .to)) .emitter ≡ m .from
+        → (m ∈ s' .flight) ⊎ ((s' .node (m .to)) .watch ≡ t + p .W)
     pub keepO : (m : InFlight) → m ∈ s .flight → m .kind ≡ O → Live s (m .to) → m ∈ s' .flight
     pub keepR : (m : InFlight) → m ∈ s .flight → m .kind ≡ R → Live s (m .to) → (m ∈ s' .flight) ⊎ Lists s (m .to) (m .subject)
 
@@ -110,11 +121,12 @@ module _ (p : Params) where
       still : (j : ℕ) → s' .node j ≡ s .node j
       still = each p s s' (m .due) (m .to) _ (m ∷ []) [] f (λ j n n'. n' ≡ n) refl (λ j. refl)
 
-      still-quiet : (m .kind ≡ H → Live s (m .to) → (s .node (m .to)) .emitter ≡ m .from → ⊥) → (m .kind ≡ O → Live s (m .to) → ⊥) → (m .kind ≡ R → Live s (m .to) → Lists s (m .to) (m .subject)) → Quiet s s' (m .due)
+      still-quiet : (m .kind ≡ H → Live s (m .to) → (s .node (m .to)) .emitter ≡ m .from → ⊥) → (m .kind ≡ O → Live s (m .to) → ⊥)
+          → (m .kind ≡ R → Live s (m .to) → Lists s (m .to) (m .subject)) → Quiet s s' (m .due)
       still-quiet noH noO noR = record {
         last' = f .last';
         t≥ = i .base .m-due m has;
-        core = λ j. record { alive = ap (λ n. n .alive) (still j); emitter = ap (λ n. n .emitter) (still j); observer = ap (λ n. n .observer) (still j); list = ap (λ n. n .list) (still j) };
+        core = λ j. core-is (still j);
         came = λ g h. inl (came0 (s .flight) g (f .came g h));
         watch = λ j. inl (ap (λ n. n .watch) (still j));
         heartbeat = λ j. inl (ap (λ n. n .heartbeat) (still j));
@@ -123,24 +135,23 @@ module _ (p : Params) where
         keepR = λ g h k l. kR g k l (f .keep g h);
       }
         where
-          kR : (g : InFlight) → g .kind ≡ R → Live s (g .to) → (g ∈ (m ∷ [])) ⊎ (g ∈ s' .flight) → (g ∈ s' .flight) ⊎ Lists s (g .to) (g .subject)
+          kR : (g : InFlight) → g .kind ≡ R → Live s (g .to) → (g ∈ (m ∷ [])) ⊎ (g ∈ s' .flight)
+              → (g ∈ s' .flight) ⊎ Lists s (g .to) (g .subject)
           kR g k l (inr h) = inl h
           kR g k l (inl h) = inr (let r : g ≡ m = List·Memᴰ·eq-of-singleton h in rw r (noR (rw r at k) (rw r at l)))
 
     pub drop-quiet : (m : InFlight) → Drop p s s' m → Quiet s s' (m .due)
-    drop-quiet m e = still-quiet m (e .has) (e .frame) (λ k l q. live-not-dead l (e .dead)) (λ k l. live-not-dead l (e .dead)) (λ k l. absurd (live-not-dead l (e .dead)))
+    drop-quiet m e =
+        still-quiet m (e .has) (e .frame) (λ k l q. live-not-dead l (e .dead)) (λ k l. live-not-dead l (e .dead)) (λ k l. absurd (live-not-dead l (e .dead)))
 
     pub idle-quiet : (m : InFlight) → Idle p s s' m → Quiet s s' (m .due)
     idle-quiet m e = still-quiet m (e .has) (e .frame) (no-H (e .why)) (no-O (e .why)) (no-R (e .why))
       where
-        Why : Type 0
-        Why = ((m .kind ≡ H) × ((s .node (m .to)) .emitter ≢ m .from)) ⊎ ((m .kind ≡ R) × (Lists s (m .to) (m .subject) ⊎ (m .subject ≡ m .to)))
-
-        no-H : Why → m .kind ≡ H → Live s (m .to) → (s .node (m .to)) .emitter ≡ m .from → ⊥
+        no-H : Ignored s m → m .kind ≡ H → Live s (m .to) → (s .node (m .to)) .emitter ≡ m .from → ⊥
         no-H (inl w) k l q = w .1 q
         no-H (inr w) k l q = omega (arith, w .0)
 
-        no-O : Why → m .kind ≡ O → Live s (m .to) → ⊥
+        no-O : Ignored s m → m .kind ≡ O → Live s (m .to) → ⊥
         no-O (inl w) k l = omega (arith, w .0)
         no-O (inr w) k l = omega (arith, w .0)
 
@@ -148,7 +159,7 @@ module _ (p : Params) where
         self k l (inl h) = h
         self k l (inr q) = absurd (live-not-dead l (rw q at ((i .base .reported m (e .has) k) .dead)))
 
-        no-R : Why → m .kind ≡ R → Live s (m .to) → Lists s (m .to) (m .subject)
+        no-R : Ignored s m → m .kind ≡ R → Live s (m .to) → Lists s (m .to) (m .subject)
         no-R (inl w) k l = absurd (omega (arith, w .0))
         no-R (inr w) k l = self k l (w .1)
 
@@ -156,16 +167,19 @@ module _ (p : Params) where
     beat-quiet m e = record {
       last' = e .frame .last';
       t≥ = i .base .m-due m (e .has);
-      core = all (λ j n n'. Core n n') record { alive = sym (e .live); emitter = refl; observer = refl; list = refl } (λ j. record { alive = refl; emitter = refl; observer = refl; list = refl });
+      core = all (λ j n n'. Core n n') record { alive = sym (e .live); emitter = refl; observer = refl; list = refl } (λ j. core-is refl);
       came = λ g h. inl (came0 (s .flight) g (e .frame .came g h));
-      watch = all (λ j n n'. (n' .watch ≡ n .watch) ⊎ ((n' .watch ≡ m .due + p .W) × (p .planned (n .emitter) ≡ true → m .due < p .c (n .emitter) + p .D))) (inr (refl, rw (e .of) (i .base .m-from m (e .has)))) (λ j. inl refl);
+      watch =
+          all
+          (λ j n n'. (n' .watch ≡ n .watch) ⊎ ((n' .watch ≡ m .due + p .W) × (p .planned (n .emitter) ≡ true → m .due < p .c (n .emitter) + p .D)))
+          (inr (refl, rw (e .of) (i .base .m-from m (e .has)))) (λ j. inl refl);
       heartbeat = λ j. inl (all (λ j n n'. n' .heartbeat ≡ n .heartbeat) refl (λ j. refl) j);
       keepH = λ g h k l q. kH g (e .frame .keep g h);
       keepO = λ g h k l. stays (s' .flight) m g (e .frame .keep g h) (other-kind g m O H k (e .kind) (omega arith));
       keepR = λ g h k l. inl (stays (s' .flight) m g (e .frame .keep g h) (other-kind g m R H k (e .kind) (omega arith)));
     }
       where
-        all : (Q : ℕ → Seen → Seen → Type 0) → Q (m .to) (s .node (m .to)) (beaten p (s .node (m .to)) (m .due)) → ((j : ℕ) → Q j (s .node j) (s .node j)) → (j : ℕ) → Q j (s .node j) (s' .node j)
+        all : OnEach s s' (m .to) (beaten p (s .node (m .to)) (m .due))
         all = each p s s' (m .due) (m .to) _ (m ∷ []) [] (e .frame)
 
         kH : (g : InFlight) → (g ∈ (m ∷ [])) ⊎ (g ∈ s' .flight) → (g ∈ s' .flight) ⊎ ((s' .node (g .to)) .watch ≡ m .due + p .W)
@@ -176,17 +190,19 @@ module _ (p : Params) where
     sends-quiet t x m e = record {
       last' = e .frame .last';
       t≥ = omega (arith, (i .timers x (e .live)) .heartbeat≥ (e .on), e .due);
-      core = all (λ j n n'. Core n n') record { alive = sym (e .live); emitter = refl; observer = refl; list = refl } (λ j. record { alive = refl; emitter = refl; observer = refl; list = refl });
+      core = all (λ j n n'. Core n n') record { alive = sym (e .live); emitter = refl; observer = refl; list = refl } (λ j. core-is refl);
       came = λ g h. cm g (e .frame .came g h);
       watch = λ j. inl (all (λ j n n'. n' .watch ≡ n .watch) refl (λ j. refl) j);
-      heartbeat = all (λ j n n'. (n' .heartbeat ≡ n .heartbeat) ⊎ ((g : InFlight) × (g ∈ s' .flight) × (g .kind ≡ H) × (g .from ≡ j) × (g .to ≡ n .observer) × (g .due ≤ n .heartbeat + p .D)))
+      heartbeat =
+          all (λ j n n'. (n' .heartbeat ≡ n .heartbeat)
+          ⊎ ((g : InFlight) × (g ∈ s' .flight) × (g .kind ≡ H) × (g .from ≡ j) × (g .to ≡ n .observer) × (g .due ≤ n .heartbeat + p .D)))
           (inr (m, e .frame .add m (List·Memᴰ·head refl), e .kind, e .by, e .to, omega (arith, e .within, e .due))) (λ j. inl refl);
       keepH = λ g h k l q. inl (stays0 (s' .flight) g (e .frame .keep g h));
       keepO = λ g h k l. stays0 (s' .flight) g (e .frame .keep g h);
       keepR = λ g h k l. inl (stays0 (s' .flight) g (e .frame .keep g h));
     }
       where
-        all : (Q : ℕ → Seen → Seen → Type 0) → Q x (s .node x) (sending p (s .node x) t) → ((j : ℕ) → Q j (s .node j) (s .node j)) → (j : ℕ) → Q j (s .node j) (s' .node j)
+        all : OnEach s s' x (sending p (s .node x) t)
         all = each p s s' t x _ [] (m ∷ []) (e .frame)
 
         cm : (g : InFlight) → (g ∈ s .flight) ⊎ (g ∈ (m ∷ [])) → (g ∈ s .flight) ⊎ (g .kind ≡ H)

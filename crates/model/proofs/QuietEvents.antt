@@ -32,11 +32,14 @@ module _ (p : Params) (s s' : View) (t : ℕ) (i : Inv p s) (e : Quiet p s s' t)
   watch : (j : ℕ) → (s .node j) .watch ≤ s .last + p .W → (s' .node j) .watch ≤ s' .last + p .W
   watch j h = go (e .watch j)
     where
-      go : ((s' .node j) .watch ≡ (s .node j) .watch) ⊎ (((s' .node j) .watch ≡ t + p .W) × (p .planned ((s .node j) .emitter) ≡ true → t < p .c ((s .node j) .emitter) + p .D)) → (s' .node j) .watch ≤ s' .last + p .W
+      go : ((s' .node j) .watch ≡ (s .node j) .watch)
+          ⊎ (((s' .node j) .watch ≡ t + p .W) × (p .planned ((s .node j) .emitter) ≡ true → t < p .c ((s .node j) .emitter) + p .D))
+          → (s' .node j) .watch ≤ s' .last + p .W
       go (inl q) = omega (arith, e .last', e .t≥)
       go (inr q) = omega (arith, e .last', q .0)
 
-  kinds : ((m : InFlight) → m ∈ s .flight → (m .kind ≢ O) × (m .kind ≢ R)) → (m : InFlight) → m ∈ s' .flight → (m .kind ≢ O) × (m .kind ≢ R)
+  kinds : ((m : InFlight) → m ∈ s .flight → (m .kind ≢ O) × (m .kind ≢ R)) → (m : InFlight) → m ∈ s' .flight
+      → (m .kind ≢ O) × (m .kind ≢ R)
   kinds k m h = go (e .came m h)
     where
       go : (m ∈ s .flight) ⊎ (m .kind ≡ H) → (m .kind ≢ O) × (m .kind ≢ R)
@@ -56,13 +59,16 @@ module _ (p : Params) (s s' : View) (t : ℕ) (i : Inv p s) (e : Quiet p s s' t)
     a-wq : (s' .node q) .watch + 1 ≤ c + p .W + p .D
     a-wq = go (e .watch q)
       where
-        go : ((s' .node q) .watch ≡ (s .node q) .watch) ⊎ (((s' .node q) .watch ≡ t + p .W) × (p .planned ((s .node q) .emitter) ≡ true → t < p .c ((s .node q) .emitter) + p .D)) → (s' .node q) .watch + 1 ≤ c + p .W + p .D
+        go : ((s' .node q) .watch ≡ (s .node q) .watch)
+            ⊎ (((s' .node q) .watch ≡ t + p .W) × (p .planned ((s .node q) .emitter) ≡ true → t < p .c ((s .node q) .emitter) + p .D))
+            → (s' .node q) .watch + 1 ≤ c + p .W + p .D
         go (inl r) = omega (arith, a .wq)
         go (inr r) =
             let soon : t < p .c z + p .D = (rw (a .of) at (r .1)) ((i .base .dead z (a .dead)) .0) in
             omega (arith, r .0, a .at)
 
-    a-ob : (j : ℕ) → Up p s j → (Up p s ((s .node j) .observer) × ((s .node ((s .node j) .observer)) .emitter ≡ j)) ⊎ ((s .node z) .emitter ≡ j) → (Up p s' ((s .node j) .observer) × ((s' .node ((s .node j) .observer)) .emitter ≡ j)) ⊎ ((s' .node z) .emitter ≡ j)
+    a-ob : (j : ℕ) → Up p s j → (Up p s ((s .node j) .observer) × ((s .node ((s .node j) .observer)) .emitter ≡ j)) ⊎ ((s .node z) .emitter ≡ j)
+        → (Up p s' ((s .node j) .observer) × ((s' .node ((s .node j) .observer)) .emitter ≡ j)) ⊎ ((s' .node z) .emitter ≡ j)
     a-ob j u (inl h) = inl (up _ (h .0), e .core ((s .node j) .observer) .emitter ∙ h .1)
     a-ob j u (inr h) = inr (e .core z .emitter ∙ h)
 
@@ -94,7 +100,8 @@ module _ (p : Params) (s s' : View) (t : ℕ) (i : Inv p s) (e : Quiet p s s' t)
         go (inl h) = inr record { m = g .m; has = h; kind = g .kind; to = g .to; due = g .due }
         go (inr h) = inl (lst y z (rw (g .to, (b .reports (g .m) (g .has) (g .kind)) .0) at h))
 
-    b-ob : (j : ℕ) → Up p s j → (Up p s ((s .node j) .observer) × (f ((s .node j) .observer) ≡ j)) ⊎ ((f q ≡ j) × Coming p s O j (T + p .D)) → (Up p s' ((s .node j) .observer) × (f ((s .node j) .observer) ≡ j)) ⊎ ((f q ≡ j) × Coming p s' O j (T + p .D))
+    b-ob : (j : ℕ) → Up p s j → (Up p s ((s .node j) .observer) × (f ((s .node j) .observer) ≡ j)) ⊎ ((f q ≡ j) × Coming p s O j (T + p .D))
+        → (Up p s' ((s .node j) .observer) × (f ((s .node j) .observer) ≡ j)) ⊎ ((f q ≡ j) × Coming p s' O j (T + p .D))
     b-ob j u (inl h) = inl (up _ (h .0), h .1)
     b-ob j u (inr h) = inr (h .0, flyO j _ (u .1) (h .1))
 
@@ -113,7 +120,10 @@ module _ (p : Params) (s s' : View) (t : ℕ) (i : Inv p s) (e : Quiet p s s' t)
     b-wq (byObserver g) = byObserver (flyO (f q) _ ((b .emitter q (b .up)) .1) g)
     b-wq (byTimer o h) = go (e .heartbeat (f q))
       where
-        go : ((s' .node (f q)) .heartbeat ≡ (s .node (f q)) .heartbeat) ⊎ ((g : InFlight) × (g ∈ s' .flight) × (g .kind ≡ H) × (g .from ≡ f q) × (g .to ≡ (s .node (f q)) .observer) × (g .due ≤ (s .node (f q)) .heartbeat + p .D)) → Rests p s' T q (f q)
+        go : ((s' .node (f q)) .heartbeat ≡ (s .node (f q)) .heartbeat)
+            ⊎ ((g : InFlight) × (g ∈ s' .flight) × (g .kind ≡ H) × (g .from ≡ f q) × (g .to ≡ (s .node (f q)) .observer)
+            × (g .due ≤ (s .node (f q)) .heartbeat + p .D))
+            → Rests p s' T q (f q)
         go (inl r) = byTimer (e .core (f q) .observer ∙ o) (omega arith)
         go (inr r) = byHeartbeat (r .0) (r .1) (r .2) (r .3) (r .4 ∙ o) (omega (arith, r .5))
     b-wq (byHeartbeat g h k fr to d) = go (e .keepH g h k (rw to (b .up .1)) (rw to (b .em-is q ∙ sym fr)))

@@ -4,9 +4,10 @@ use mathlib.Core.Path.{_≡_, sym, ap, _∙_, subst}
 use mathlib.Core.Bool.{true}
 use Prim.Native.Nat.{ℕ, zero, suc, _+_, _≤_, _<_}
 use native.Mathlib.Omega.{arith}
-use Rattle.runfile.specs.Plan.{Plan}
+use Rattle.plans.specs.Plan.{Plan}
 use Rattle.model.specs.Platform.{State, alive, survivors, start, apply, Outcome, try, left, steps, after}
-use Rattle.model.specs.Range.{rowAt, Plain, Accepted, NotBefore, Sound}
+use Rattle.plans.specs.Plain.{rowAt, Plain}
+use Rattle.model.specs.Range.{Accepted, NotBefore, Sound}
 use Rattle.model.specs.Claims.{Spaced, S, settledBy}
 use Rattle.model.proofs.Invariant.{Inv}
 use Rattle.model.proofs.InvariantKept.{opened-inv, step-inv}
@@ -23,7 +24,8 @@ module _ (p : Plan) (ac : Accepted p) where
 
   one-inv : (s : State) → Sound p s → Inv (P p ac) (view p s) → (q : Outcome) → Tried p pl s q → Inv (P p ac) (view p (left s q))
   unfolding left
-  one-inv s r i q (happened e b a ch f) = step-inv (P p ac) (view p s) (view p (apply p s (e .tick) (e .event))) i ((event-does p ac s r i (e .tick) (e .event) ch a b) .step)
+  one-inv s r i q (happened e b a ch f) =
+      step-inv (P p ac) (view p s) (view p (apply p s (e .tick) (e .event))) i ((event-does p ac s r i (e .tick) (e .event) ch a b) .step)
   one-inv s r i q (none-left h) = i
   one-inv s r i q (too-many e ch h) = i
 
@@ -47,13 +49,19 @@ module _ (p : Plan) (ac : Accepted p) where
   steps-done : (k : ℕ) (s : State) → Sound p s → Inv (P p ac) (view p s) → s .done ≤ (steps p k s) .done
   unfolding steps
   steps-done zero s r i = omega arith
-  steps-done (suc k) s r i = omega (arith, one-done s r i (try p s) (try-ok p pl s r), steps-done k (left s (try p s)) (left-range p pl s r (try p s) (try-ok p pl s r)) (one-inv s r i (try p s) (try-ok p pl s r)))
+  steps-done (suc k) s r i =
+      omega (
+        arith,
+        one-done s r i (try p s) (try-ok p pl s r),
+        steps-done k (left s (try p s)) (left-range p pl s r (try p s) (try-ok p pl s r)) (one-inv s r i (try p s) (try-ok p pl s r)),
+      )
 
   fewer : (a b : ℕ) → a ≤ b → Spaced p b → Spaced p a
   unfolding Spaced
   fewer a b h f i l = f i (omega arith)
 
-  one-run : (s : State) → Sound p s → Run (P p ac) (view p s) (lastOf p (s .done)) → (q : Outcome) → Tried p pl s q → Spaced p ((left s q) .done) → Run (P p ac) (view p (left s q)) (lastOf p ((left s q) .done))
+  one-run : (s : State) → Sound p s → Run (P p ac) (view p s) (lastOf p (s .done)) → (q : Outcome) → Tried p pl s q → Spaced p ((left s q) .done)
+      → Run (P p ac) (view p (left s q)) (lastOf p ((left s q) .done))
   unfolding left
   one-run s r i q (happened e b a ch f) sp =
       let d : Does p ac s r (run-inv (P p ac) i) (apply p s (e .tick) (e .event)) = event-does p ac s r (run-inv (P p ac) i) (e .tick) (e .event) ch a b in
@@ -61,7 +69,8 @@ module _ (p : Plan) (ac : Accepted p) where
   one-run s r i q (none-left h) sp = i
   one-run s r i q (too-many e ch h) sp = i
 
-  steps-run : (k : ℕ) (s : State) → Sound p s → Run (P p ac) (view p s) (lastOf p (s .done)) → Spaced p ((steps p k s) .done) → Run (P p ac) (view p (steps p k s)) (lastOf p ((steps p k s) .done))
+  steps-run : (k : ℕ) (s : State) → Sound p s → Run (P p ac) (view p s) (lastOf p (s .done)) → Spaced p ((steps p k s) .done)
+      → Run (P p ac) (view p (steps p k s)) (lastOf p ((steps p k s) .done))
   unfolding steps
   steps-run zero s r i sp = i
   steps-run (suc k) s r i sp =
@@ -78,10 +87,15 @@ module _ (p : Plan) (ac : Accepted p) where
   after-run e sp = steps-run e (start p) (start-range p pl) start-run sp
 
   passed : (s : State) (u : ℕ) → Sound p s → NotBefore p s u u u → Passed (P p ac) (view p s) u
-  passed s u r nb = record { flight = (least p ac s r u u u nb) .message≥; watch = (least p ac s r u u u nb) .watch≥; heartbeat = (least p ac s r u u u nb) .heartbeat≥ }
+  passed s u r nb =
+      record
+      { flight = (least p ac s r u u u nb) .message≥; watch = (least p ac s r u u u nb) .watch≥; heartbeat = (least p ac s r u u u nb) .heartbeat≥ }
 
   -- where i + 1 crashes are done and spaced, and nothing is left before the tick of S after the last, every survivor is settled
   pub settled : (e i : ℕ) → (after p e) .done ≡ suc i → Spaced p (suc i) → NotBefore p (after p e) (settledBy p i) (settledBy p i) (settledBy p i)
       → (j : ℕ) → j < p .n → alive p ((after p e) .done) j ≡ true → SettledIn (P p ac) (view p (after p e)) j
   unfolding settledBy S
-  settled e i d sp nb j jN l = settles (P p ac) (subst (λ n. Run (P p ac) (view p (after p e)) (lastOf p n)) d (after-run e (rw d sp))) (subst (λ m. Passed (P p ac) (view p (after p e)) ((rowAt p i) .tick + span (P p ac) m)) (sym (survivors-cnt p ac (after p e) ∙ ap (survivors p) d)) (passed (after p e) (settledBy p i) (after-range p pl e) nb)) j (jN, l)
+  settled e i d sp nb j jN l =
+      settles (P p ac) (subst (λ n. Run (P p ac) (view p (after p e)) (lastOf p n)) d (after-run e (rw d sp)))
+      (subst (λ m. Passed (P p ac) (view p (after p e)) ((rowAt p i) .tick + span (P p ac) m)) (sym (survivors-cnt p ac (after p e) ∙ ap (survivors p) d))
+      (passed (after p e) (settledBy p i) (after-range p pl e) nb)) j (jN, l)

@@ -10,19 +10,20 @@ use Rattle.model.specs.Platform.{InFlight}
 use Rattle.model.proofs.Events.{Seen, View, Live, Lists, _∈_, Params, Report, listing}
 use Rattle.model.proofs.Invariant.{Inv, Covered}
 use Rattle.model.proofs.EveryEvent.{GoneBy, Alike, base'}
-use Rattle.model.proofs.OneNode.{each, alike, timers}
-use Rattle.model.proofs.WatchKept.{stays, other-kind, Same, covered-map, answered-map}
+use Rattle.model.proofs.OneNode.{OnEach, each, alike, timers}
+use Rattle.model.proofs.WatchKept.{stays, other-kind, Same, covered-map, answered-map, same-node}
 
 module _ (p : Params) (s s' : View) (i : Inv p s) where
   module _ (m : InFlight) (list' : ℕ → Bool) (out : List InFlight) (e : Report p s s' m list' out) where
-    pub report-all : (Q : ℕ → Seen → Seen → Type 0) → Q (m .to) (s .node (m .to)) (listing p (s .node (m .to)) list') → ((j : ℕ) → Q j (s .node j) (s .node j)) → (j : ℕ) → Q j (s .node j) (s' .node j)
+    pub report-all : OnEach s s' (m .to) (listing p (s .node (m .to)) list')
     report-all = each p s s' (m .due) (m .to) _ (m ∷ []) out (e .frame)
 
     report-now : s .last ≤ m .due
     report-now = i .base .m-due m (e .has)
 
     pub report-late : GoneBy p s (m .due) (m .subject)
-    report-late = record { dead = (i .base .reported m (e .has) (e .kind)) .dead; long = omega (arith, (i .base .reported m (e .has) (e .kind)) .long, report-now) }
+    report-late =
+        record { dead = (i .base .reported m (e .has) (e .kind)) .dead; long = omega (arith, (i .base .reported m (e .has) (e .kind)) .long, report-now) }
 
     pub report-alike : Alike p s s' (m .due)
     report-alike = alike p s s' (m .due) (m .to) _ (m ∷ []) out (e .frame) (e .least) (omega arith) (omega arith) report-now record {
@@ -34,7 +35,9 @@ module _ (p : Params) (s s' : View) (i : Inv p s) where
       observer = inl refl;
       new = λ g h. record {
         due = omega (arith, (e .rs .each g h) .after);
-        from = λ pl. let pl' : p .planned (m .to) ≡ true = rw (sym ((e .rs .each g h) .by)) pl in omega (arith, (e .rs .each g h) .within, e .least .crash≥ (m .to) (e .live) pl', ap (p .c) ((e .rs .each g h) .by));
+        from = λ pl. let pl' : p .planned (m .to) ≡ true =
+            rw (sym ((e .rs .each g h) .by)) pl in
+            omega (arith, (e .rs .each g h) .within, e .least .crash≥ (m .to) (e .live) pl', ap (p .c) ((e .rs .each g h) .by));
         self = λ q. (e .rs .each g h) .self (sym q ∙ (e .rs .each g h) .by);
         heartbeat = λ k. absurd (omega (arith, e .rs .kinds g h));
         observer = λ k. absurd (omega (arith, e .rs .kinds g h));
@@ -54,10 +57,13 @@ module _ (p : Params) (s s' : View) (i : Inv p s) where
     report-w = report-all (λ j n n'. n' .watch ≡ n .watch) refl (λ j. refl)
 
     report-sames : (j : ℕ) → Same (s .node j) (s' .node j)
-    report-sames = report-all (λ j n n'. Same n n') record { alive = sym (e .live); observer = refl; heartbeat = refl } (λ j. record { alive = refl; observer = refl; heartbeat = refl })
+    report-sames = report-all (λ j n n'. Same n n') record { alive = sym (e .live); observer = refl; heartbeat = refl } (λ j. same-node _)
 
     report-covered : (j a : ℕ) → Live s' j → (s' .node j) .emitter ≡ a → a ≢ j → Covered p (s' .flight) j a ((s' .node j) .watch) (s' .node a)
-    report-covered j a lj ej ne = rw (report-w j) (covered-map p (s .flight) (s' .flight) j a _ _ _ _ (i .covered j a (report-alike .alive j lj) (sym (report-em j) ∙ ej) ne) (omega arith) (report-sames a)
+    report-covered j a lj ej ne =
+        rw (report-w j)
+        (covered-map p (s .flight) (s' .flight) j a _ _ _ _ (i .covered j a (report-alike .alive j lj) (sym (report-em j) ∙ ej) ne) (omega arith)
+        (report-sames a)
         (λ g h k fr to. stays (s' .flight) m g (e .frame .keep g h) (other-kind g m H R k (e .kind) (omega arith)))
         (λ la g h k fr to. stays (s' .flight) m g (e .frame .keep g h) (other-kind g m O R k (e .kind) (omega arith))))
 
@@ -76,6 +82,7 @@ module _ (p : Params) (s s' : View) (i : Inv p s) where
         heartbeat≤ = λ o. omega (arith, report-now, (i .timers (m .to) l) .heartbeat≤ o);
         to = (i .timers (m .to) l) .to;
       }) (λ h. e .live);
-      answered = answered-map p s s' (i .answered) (report-alike .alive) report-em (λ j. report-sames j .observer) (λ g h q. report-old g q (e .frame .came g h));
+      answered =
+          answered-map p s s' (i .answered) (report-alike .alive) report-em (λ j. report-sames j .observer) (λ g h q. report-old g q (e .frame .came g h));
       covered = report-covered;
     }

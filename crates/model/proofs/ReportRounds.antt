@@ -10,12 +10,12 @@ use native.Mathlib.Nat.{mul-le-mul-right}
 use native.Mathlib.Decide.{ℕ-discrete, decLt}
 use Rattle.node.specs.Node.{H, O, R}
 use Rattle.model.specs.Platform.{InFlight}
-use Rattle.model.proofs.RingOrder.{iter, First, iter-add}
+use Rattle.ring.proofs.GoingBack.{iter, First, iter-add}
 use Rattle.model.proofs.Events.{Seen, View, Live, Dead, Lists, _∈_, Params, Watched, Report, watching, listing}
 use Rattle.model.proofs.Invariant.{Inv}
 use Rattle.model.proofs.EveryEvent.{live-not-dead}
 use Rattle.model.proofs.OneState.{emitter-beats}
-use Rattle.model.proofs.OneNode.{each}
+use Rattle.model.proofs.OneNode.{OnEach, each}
 use Rattle.model.proofs.WatchKept.{came0, stays, other-kind}
 use Rattle.model.proofs.ObserverDelivered.{observer-all}
 use Rattle.model.proofs.ReportDelivered.{report-all, report-alike}
@@ -67,7 +67,8 @@ module _ (p : Params) (s : View) (i : Inv p s) (z c T q m : ℕ) (f : ℕ → �
     rounds (suc j) tu = round j tu (rounds j (omega arith))
 
   -- nothing is left before u, and u is late enough
-  pub settled : (u : ℕ) → c + span p m ≤ u → ((g : InFlight) → g ∈ s .flight → u ≤ g .due) → ((j : ℕ) → Live s j → (s .node j) .heartbeatOn ≡ true → u ≤ (s .node j) .heartbeat) → Calm p s
+  pub settled : (u : ℕ) → c + span p m ≤ u → ((g : InFlight) → g ∈ s .flight → u ≤ g .due)
+      → ((j : ℕ) → Live s j → (s .node j) .heartbeatOn ≡ true → u ≤ (s .node j) .heartbeat) → Calm p s
   settled u cu pend pendh = record {
     lists = λ j k uj d. ls j k uj d (ℕ-discrete k z);
     emitter = λ j uj. rw (b .em-is j) (b .emitter j uj);
@@ -78,9 +79,12 @@ module _ (p : Params) (s : View) (i : Inv p s) (z c T q m : ℕ) (f : ℕ → �
     where
       ls : (j k : ℕ) → Up p s j → Dead s k → Dec (k ≡ z) → Lists s j k
       ls j k uj d (no n) = b .lists j k uj d n
-      ls j k uj d (yes r) = rw r (rounds u pend (p .log m) (omega (arith, b .early)) j ((hop j uj) .0) uj ((hop j uj) .2) (omega (arith, (hop j uj) .1, p .log-is m)) ((hop j uj) .1))
+      ls j k uj d (yes r) =
+          rw r
+          (rounds u pend (p .log m) (omega (arith, b .early)) j ((hop j uj) .0) uj ((hop j uj) .2) (omega (arith, (hop j uj) .1, p .log-is m)) ((hop j uj) .1))
 
-      obs : (j : ℕ) → (Up p s ((s .node j) .observer) × (f ((s .node j) .observer) ≡ j)) ⊎ ((f q ≡ j) × Coming p s O j (T + p .D)) → Up p s ((s .node j) .observer) × ((s .node ((s .node j) .observer)) .emitter ≡ j)
+      obs : (j : ℕ) → (Up p s ((s .node j) .observer) × (f ((s .node j) .observer) ≡ j)) ⊎ ((f q ≡ j) × Coming p s O j (T + p .D))
+          → Up p s ((s .node j) .observer) × ((s .node ((s .node j) .observer)) .emitter ≡ j)
       obs j (inl h) = (h .0, b .em-is _ ∙ h .1)
       obs j (inr h) = absurd (omega (arith, pend (h .1 .m) (h .1 .has), h .1 .due, b .early))
 
@@ -98,7 +102,12 @@ module _ (p : Params) (s : View) (i : Inv p s) (z c T q m : ℕ) (f : ℕ → �
 
       wq : Rests p s T q (f q) → (s .node q) .watch ≤ s .last + p .W
       wq (byObserver g) = absurd (omega (arith, pend (g .m) (g .has), g .due, b .early))
-      wq (byTimer o h) = absurd (omega (arith, pendh (f q) ((b .emitter q (b .up)) .1) (emitter-beats p s i q (f q) (b .up .1) (b .em-is q) (b .two) ((b .emitter q (b .up)) .1)), b .early))
+      wq (byTimer o h) =
+          absurd (omega (
+            arith,
+            pendh (f q) ((b .emitter q (b .up)) .1) (emitter-beats p s i q (f q) (b .up .1) (b .em-is q) (b .two) ((b .emitter q (b .up)) .1)),
+            b .early,
+          ))
       wq (byHeartbeat g h k fr to d) = absurd (omega (arith, pend g h, b .early, mul-le-mul-right (p .D) log≥))
       wq (rested h) = h
 
@@ -107,7 +116,7 @@ module _ (p : Params) (s : View) (i : Inv p s) (z c T q m : ℕ) (f : ℕ → �
       ws j uj ne (yes r) = rw r (wq (b .wq))
 
   module _ (s' : View) (g : InFlight) (e : Watched p s s' g) where
-    w-all : (Q : ℕ → Seen → Seen → Type 0) → Q (g .to) (s .node (g .to)) (watching p (s .node (g .to)) (g .from) (g .due)) → ((j : ℕ) → Q j (s .node j) (s .node j)) → (j : ℕ) → Q j (s .node j) (s' .node j)
+    w-all : OnEach s s' (g .to) (watching p (s .node (g .to)) (g .from) (g .due))
     w-all = observer-all p s s' i g e
 
     w-alive : (j : ℕ) → (s' .node j) .alive ≡ (s .node j) .alive
@@ -132,19 +141,28 @@ module _ (p : Params) (s : View) (i : Inv p s) (z c T q m : ℕ) (f : ℕ → �
     w-old h x = came0 (s .flight) h (e .frame .came h x)
 
     w-fly : (y u : ℕ) → Coming p s R y u → Coming p s' R y u
-    w-fly y u h = record { m = h .m; has = stays (s' .flight) g (h .m) (e .frame .keep (h .m) (h .has)) (other-kind (h .m) g R O (h .kind) (e .kind) (omega arith)); kind = h .kind; to = h .to; due = h .due }
+    w-fly y u h =
+        record {
+          m = h .m;
+          has = stays (s' .flight) g (h .m) (e .frame .keep (h .m) (h .has)) (other-kind (h .m) g R O (h .kind) (e .kind) (omega arith));
+          kind = h .kind;
+          to = h .to;
+          due = h .due;
+        }
 
     w-relay : (y u : ℕ) → Lists s y z ⊎ Coming p s R y u → Lists s' y z ⊎ Coming p s' R y u
     w-relay y u (inl h) = inl (rw (w-list y) h)
     w-relay y u (inr h) = inr (w-fly y u h)
 
-    w-ob : (j : ℕ) → Up p s j → Dec (j ≡ g .to) → (Up p s' ((s' .node j) .observer) × (f ((s' .node j) .observer) ≡ j)) ⊎ ((f q ≡ j) × Coming p s' O j (T + p .D))
+    w-ob : (j : ℕ) → Up p s j → Dec (j ≡ g .to)
+        → (Up p s' ((s' .node j) .observer) × (f ((s' .node j) .observer) ≡ j)) ⊎ ((f q ≡ j) × Coming p s' O j (T + p .D))
     w-ob j u (yes r) =
         let o : (s' .node j) .observer ≡ q = rw (r, e .frame .here) ((b .observers g (e .has) (e .kind)) .0) in
         inl (rw o (w-up q (b .up), sym ((b .observers g (e .has) (e .kind)) .1) ∙ sym r))
     w-ob j u (no n) = rw (e .frame .other j n) (go (b .observer j u))
       where
-        go : (Up p s ((s .node j) .observer) × (f ((s .node j) .observer) ≡ j)) ⊎ ((f q ≡ j) × Coming p s O j (T + p .D)) → (Up p s' ((s .node j) .observer) × (f ((s .node j) .observer) ≡ j)) ⊎ ((f q ≡ j) × Coming p s' O j (T + p .D))
+        go : (Up p s ((s .node j) .observer) × (f ((s .node j) .observer) ≡ j)) ⊎ ((f q ≡ j) × Coming p s O j (T + p .D))
+            → (Up p s' ((s .node j) .observer) × (f ((s .node j) .observer) ≡ j)) ⊎ ((f q ≡ j) × Coming p s' O j (T + p .D))
         go (inl h) = inl (w-up _ (h .0), h .1)
         go (inr h) = absurd (n (sym (h .0) ∙ sym ((b .observers g (e .has) (e .kind)) .1)))
 
@@ -164,11 +182,12 @@ module _ (p : Params) (s : View) (i : Inv p s) (z c T q m : ℕ) (f : ℕ → �
       reports = λ h x k. b .reports h (w-old h x) k;
       relay = λ x y d j n ux lx hd dj uy hy bm. w-relay y _ (b .relay x y d j n (w-up' x ux) (rw (w-list x) at lx) hd dj (w-up' y uy) hy bm);
       watch = λ j u n ne. rw (w-w j, e .frame .last') (omega (arith, i .base .m-due g (e .has), b .watch j (w-up' j u) n (λ r. ne (w-em j ∙ r))));
-      wq = byTimer (rw (sym ((b .observers g (e .has) (e .kind)) .1), e .frame .here) ((b .observers g (e .has) (e .kind)) .0)) (rw (sym ((b .observers g (e .has) (e .kind)) .1), e .frame .here) ((b .observers g (e .has) (e .kind)) .2));
+      wq = byTimer (rw (sym ((b .observers g (e .has) (e .kind)) .1), e .frame .here) ((b .observers g (e .has) (e .kind)) .0))
+          (rw (sym ((b .observers g (e .has) (e .kind)) .1), e .frame .here) ((b .observers g (e .has) (e .kind)) .2));
     }
 
   module _ (s' : View) (g : InFlight) (list' : ℕ → Bool) (out : List InFlight) (e : Report p s s' g list' out) where
-    r-all : (Q : ℕ → Seen → Seen → Type 0) → Q (g .to) (s .node (g .to)) (listing p (s .node (g .to)) list') → ((j : ℕ) → Q j (s .node j) (s .node j)) → (j : ℕ) → Q j (s .node j) (s' .node j)
+    r-all : OnEach s s' (g .to) (listing p (s .node (g .to)) list')
     r-all = report-all p s s' i g list' out e
 
     r-alive : (j : ℕ) → (s' .node j) .alive ≡ (s .node j) .alive
@@ -243,7 +262,9 @@ module _ (p : Params) (s : View) (i : Inv p s) (z c T q m : ℕ) (f : ℕ → �
         go (inr x) = inr record { m = h .m; has = x; kind = h .kind; to = h .to; due = h .due }
         go (inl x) = inl (rw (sym (h .to), List·Memᴰ·eq-of-singleton x) knows-x)
 
-    r-relay : (x y d j n : ℕ) → Dec (x ≡ g .to) → Up p s x → Lists s' x z → iter f d x ≡ q → d < 2 ^ j → Up p s y → iter f (2 ^ n) y ≡ x → 2 ^ n < m → Lists s' y z ⊎ Coming p s' R y (T + (j + 1) * p .D)
+    r-relay : (x y d j n : ℕ) → Dec (x ≡ g .to) → Up p s x → Lists s' x z → iter f d x ≡ q → d < 2 ^ j → Up p s y → iter f (2 ^ n) y ≡ x
+        → 2 ^ n < m
+        → Lists s' y z ⊎ Coming p s' R y (T + (j + 1) * p .D)
     r-relay x y d j n (no ne) u lx hd dj uy hy bm = go (b .relay x y d j n u (rw (e .frame .other x ne) at lx) hd dj uy hy bm)
       where
         go : Lists s y z ⊎ Coming p s R y (T + (j + 1) * p .D) → Lists s' y z ⊎ Coming p s' R y (T + (j + 1) * p .D)
@@ -261,12 +282,20 @@ module _ (p : Params) (s : View) (i : Inv p s) (z c T q m : ℕ) (f : ℕ → �
         t = let below : 2 ^ n < p .cnt list' = rw (list-is, b .count) bm in e .rs .complete n (omega arith)
 
         tgt : p .ahead list' (g .to) (2 ^ n) ≡ y
-        tgt = rw (list-is, sym r, sym hy) (p .ahead-is (crashedIn s) f first-f y (2 ^ n) (uy .0) (ap not (uy .1)))
+        tgt = rw (list-is, sym r, sym hy) (p .ahead-is (crashedIn s) f first-f y (2 ^ n) (uy .0) (ap not (uy .1)) (rw (b .count) bm))
 
     r-ofly : (y u : ℕ) → Coming p s O y u → Coming p s' O y u
-    r-ofly y u h = record { m = h .m; has = stays (s' .flight) g (h .m) (e .frame .keep (h .m) (h .has)) (other-kind (h .m) g O R (h .kind) (e .kind) (omega arith)); kind = h .kind; to = h .to; due = h .due }
+    r-ofly y u h =
+        record {
+          m = h .m;
+          has = stays (s' .flight) g (h .m) (e .frame .keep (h .m) (h .has)) (other-kind (h .m) g O R (h .kind) (e .kind) (omega arith));
+          kind = h .kind;
+          to = h .to;
+          due = h .due;
+        }
 
-    r-obs : (j : ℕ) → (Up p s ((s .node j) .observer) × (f ((s .node j) .observer) ≡ j)) ⊎ ((f q ≡ j) × Coming p s O j (T + p .D)) → (Up p s' ((s .node j) .observer) × (f ((s .node j) .observer) ≡ j)) ⊎ ((f q ≡ j) × Coming p s' O j (T + p .D))
+    r-obs : (j : ℕ) → (Up p s ((s .node j) .observer) × (f ((s .node j) .observer) ≡ j)) ⊎ ((f q ≡ j) × Coming p s O j (T + p .D))
+        → (Up p s' ((s .node j) .observer) × (f ((s .node j) .observer) ≡ j)) ⊎ ((f q ≡ j) × Coming p s' O j (T + p .D))
     r-obs j (inl h) = inl (r-up _ (h .0), h .1)
     r-obs j (inr h) = inr (h .0, r-ofly j _ (h .1))
 

@@ -7,7 +7,8 @@ use Prim.Native.Nat.{ℕ, _+_, _≤_, _<_}
 use native.Mathlib.Omega.{arith}
 use native.Mathlib.Decide.{ℕ-discrete}
 use Rattle.model.specs.Platform.{InFlight}
-use Rattle.model.proofs.Events.{View, Live, Dead, Lists, _∈_, Params, Expiry, Crash, Step, crash, drop, idle, beat, watched, report, moves, alone, sends}
+use Rattle.model.proofs.Events.{View, Live, Dead, Lists, _∈_, Params, Expiry, Crash, Step, crash, drop, idle, beat, watched, report, moves, alone}
+use Rattle.model.proofs.Events.{sends}
 use Rattle.model.proofs.Invariant.{Inv}
 use Rattle.model.proofs.EveryEvent.{live-not-dead}
 use Rattle.model.proofs.WatchDue.{expiry-other, expiry-late}
@@ -58,9 +59,13 @@ module _ (p : Params) where
     spreading : {c : ℕ} → (z T q m : ℕ) (f : ℕ → ℕ) → Spreading p z c T q m f s → Phase s (at c)
 
   -- where nothing is left before S ticks after the last crash, all is calm
-  pub late-calm : (s : View) (c u : ℕ) → Inv p s → Phase s (at c) → c + span p (p .cnt (crashedIn s)) ≤ u → ((g : InFlight) → g ∈ s .flight → u ≤ g .due) → ((j : ℕ) → Live s j → (s .node j) .watchOn ≡ true → u ≤ (s .node j) .watch) → ((j : ℕ) → Live s j → (s .node j) .heartbeatOn ≡ true → u ≤ (s .node j) .heartbeat) → Calm p s
+  pub late-calm : (s : View) (c u : ℕ) → Inv p s → Phase s (at c) → c + span p (p .cnt (crashedIn s)) ≤ u
+      → ((g : InFlight) → g ∈ s .flight → u ≤ g .due)
+      → ((j : ℕ) → Live s j → (s .node j) .watchOn ≡ true → u ≤ (s .node j) .watch)
+      → ((j : ℕ) → Live s j → (s .node j) .heartbeatOn ≡ true → u ≤ (s .node j) .heartbeat) → Calm p s
   late-calm s c u i (calm x) cu pm pw ph = x
-  late-calm s c u i (unnoticed z q a) cu pm pw ph = absurd (omega (arith, a .wq, pw q (a .up .1) (((i .timers q (a .up .1)) .on (λ r. live-not-dead (a .up .1) (rw (sym r ∙ a .of) (a .dead)))) .0)))
+  late-calm s c u i (unnoticed z q a) cu pm pw ph =
+      absurd (omega (arith, a .wq, pw q (a .up .1) (((i .timers q (a .up .1)) .on (λ r. live-not-dead (a .up .1) (rw (sym r ∙ a .of) (a .dead)))) .0)))
   late-calm s c u i (spreading z T q m f b) cu pm pw ph = settled p s i z c T q m f b u (rw (b .count) at cu) pm ph
 
   module _ (s s' : View) (i : Inv p s) where
@@ -94,7 +99,8 @@ module _ (p : Params) where
     step-phase l (report m a o e) sp (unnoticed z q x) = absurd ((x .kinds m (e .has)) .1 (e .kind))
     step-phase l (report m a o e) sp (spreading z T q n f b) = spreading z T q n f (report-spreading p s i z _ T q n f b s' m a o e)
     step-phase l (moves t x a y o r e) sp (calm c) = absurd (no-expiry t x a y (e .expiry) (c .emitter))
-    step-phase l (moves t x a y o r e) sp (unnoticed z q h) = spreading z t x _ _ (moves-spreading p s s' i (step-inv p s s' i (moves t x a y o r e)) z _ q h t x a y o r e)
+    step-phase l (moves t x a y o r e) sp (unnoticed z q h) =
+        spreading z t x _ _ (moves-spreading p s s' i (step-inv p s s' i (moves t x a y o r e)) z _ q h t x a y o r e)
     step-phase l (moves t x a y o r e) sp (spreading z T q n f b) = absurd (no-expiry t x a y (e .expiry) (λ j u. rw (b .em-is j) (b .emitter j u)))
     step-phase l (alone t x a e) sp (calm c) = absurd (no-expiry t x a x (e .expiry) (c .emitter))
     step-phase l (alone t x a e) sp (unnoticed z q h) = calm (alone-calm p s s' i (step-inv p s s' i (alone t x a e)) z _ q h t x a e)

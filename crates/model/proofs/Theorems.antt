@@ -2,9 +2,10 @@
 -- specs/Claims.antt. Assumes nothing.
 use Prim.Native.Nat.{ℕ}
 use Rattle.ring.proofs.Counts.{jumps-covers, jumps-le}
-use Rattle.runfile.specs.Plan.{Plan}
+use Rattle.plans.specs.Plan.{Plan}
 use Rattle.model.specs.Platform.{firstEvents, after}
-use Rattle.model.specs.Range.{Plain, Accepted}
+use Rattle.plans.specs.Plain.{Plain}
+use Rattle.model.specs.Range.{Accepted}
 use Rattle.model.specs.Claims.{CrashedAre, Safe, LogRoundedUp, K, Settles, NeverOutOfRange}
 use Rattle.model.proofs.NextEvent.{by-parts}
 use Rattle.model.proofs.RangesKept.{steps-range, after-range}
@@ -27,7 +28,11 @@ safety p ac e = record { unlisted = λ j k h. ((after-inv p ac e) .base .listed 
 
 -- after any number of events, where the crashes are spaced and S ticks have passed since the last, every survivor is settled
 pub settling : (p : Plan) → Accepted p → (e : ℕ) → Settles p (after p e)
-settling p ac e = record { settled = λ i d sp nl j jN l. settled-at p ac (after p e) (after-range p (ac .plain) e) j jN l (settled p ac e i d sp (by-parts p (ac .plain) (after p e) _ nl) j jN l) }
+settling p ac e =
+    record {
+      settled = λ i d sp nl j jN l. settled-at p ac (after p e) (after-range p (ac .plain) e) j jN l
+          (settled p ac e i d sp (by-parts p (ac .plain) (after p e) _ nl) j jN l);
+    }
 
 -- whatever W, every state that a file leads to is in range, and events keep every range but the cap from any state
 pub ranges : (p : Plan) → Plain p → NeverOutOfRange p

@@ -3,26 +3,29 @@
 use mathlib.Core.Path.{_≡_, refl, sym, ap, _∙_}
 use mathlib.Core.Logic.{_⊎_, inl, inr, _≢_}
 use mathlib.Core.Bool.{Bool, true, false, cond, true≢false}
-use mathlib.Core.List.{List, [], _∷_, _++_, List·Memᴰ, List·Memᴰ·append-cases, Memᴰ·append-left, Memᴰ·append-right, Memᴰ·map, Memᴰ·of-map}
+use mathlib.Core.List.{List, [], _∷_, _++_, List·Memᴰ, List·Memᴰ·append-cases, Memᴰ·append-left, Memᴰ·append-right}
 use Prim.Native.Nat.{ℕ, zero, suc, _^_, _≤_, _<_}
 use native.Mathlib.Omega.{arith}
 use borrow.Author.Tests.{eq-eqb, ne-eqb}
 use lib.Dec.{eqb}
 use lib.ListN.{length, getD}
-use Rattle.ring.specs.Ring.{jumps, listed, listing, place, targets, InOrder}
-use Rattle.ring.proofs.Counts.{jumps-covers}
+use Rattle.ring.specs.Ring.{jumps, listed, unlisted, listing, place, ahead, count, targets, InOrder}
+use Rattle.ring.proofs.Counts.{jumps-covers, jumps-above}
+use Rattle.ring.proofs.Targets.{ahead-target, target-below}
 use Rattle.node.specs.declared.Node.{Node}
 use Rattle.node.specs.declared.Message.{Message}
-use Rattle.node.specs.Node.{H, R, Turn, due, reports}
-use Rattle.runfile.specs.Plan.{Crash, Plan, hits}
-use Rattle.model.specs.Platform.{InFlight, State, alive, delayOf, numbered, nodeOf, taken}
-use Rattle.model.specs.Range.{noCrash, Plain, Accepted, NotBefore, Sound}
-use Rattle.model.proofs.RingOrder.{Order, gap, gap-inj, gap-cyc, gap-add, cnt, hops}
-use Rattle.model.proofs.RingSearch.{ahead as aheadOf, ahead-is}
-use Rattle.model.proofs.RingLists.{ordOf}
+use Rattle.node.specs.Node.{R, Turn, reports, message}
+use Rattle.node.proofs.Sends.{report-of, report-to, target-apart}
+use Rattle.plans.specs.Plan.{Crash, Plan, hits}
+use Rattle.model.specs.Platform.{InFlight, State, alive, numbered, nodeOf, taken}
+use Rattle.plans.specs.Plain.{noCrash, Plain}
+use Rattle.model.specs.Range.{Accepted, NotBefore, Sound}
+use Rattle.ring.proofs.Unlisted.{countBy, aheadBy}
+use Rattle.ring.proofs.GoingBack.{hops, ahead-iter}
+use Rattle.ring.proofs.Lists.{listing-keeps, listing-lists, listing-only}
+use Rattle.ring.proofs.Gaps.{gap, gap-inj, gap-cyc, gap-add}
 use Rattle.model.proofs.Events.{View, Params, Frame, Least, Sent, Reports, Adds, crash, sends, Seen}
 use Rattle.model.proofs.NextEvent.{hit-where, undone}
-use Rattle.model.proofs.RulesInRange.{add-kept, add-is, add-only, Target, target-ok, target-has}
 use Rattle.model.proofs.RangesKept.{delay-ok, Given, numbered-in, numbered-has, here, other}
 
 -- ---- rows as a function of the node
@@ -31,21 +34,24 @@ unfoldable pub tickIn : List Crash → ℕ → ℕ
 tickIn [] k = 0
 tickIn (r ∷ rs) k = cond (eqb (r .node) k) (r .tick) (tickIn rs k)
 
-pub tick-of : (rows : List Crash) (z : Crash) (i k : ℕ) → ((a b : ℕ) → a < b → b < length rows → (getD rows a z) .node ≢ (getD rows b z) .node) → i < length rows → (getD rows i z) .node ≡ k → tickIn rows k ≡ (getD rows i z) .tick
+pub tick-of : (rows : List Crash) (z : Crash) (i k : ℕ) → ((a b : ℕ) → a < b → b < length rows → (getD rows a z) .node ≢ (getD rows b z) .node)
+    → i < length rows → (getD rows i z) .node ≡ k → tickIn rows k ≡ (getD rows i z) .tick
 unfolding tickIn
 tick-of [] z i k o h e = absurd (omega arith)
 tick-of (r ∷ rs) z zero k o h e = rw (eq-eqb (r .node) k e)
-tick-of (r ∷ rs) z (suc i) k o h e = rw (ne-eqb (r .node) k (λ q. o 0 (suc i) (omega arith) h (q ∙ sym e))) (tick-of rs z i k (λ a b x y. o (suc a) (suc b) (omega arith) (omega arith)) (omega arith) e)
+tick-of (r ∷ rs) z (suc i) k o h e =
+    rw (ne-eqb (r .node) k (λ q. o 0 (suc i) (omega arith) h (q ∙ sym e)))
+    (tick-of rs z i k (λ a b x y. o (suc a) (suc b) (omega arith) (omega arith)) (omega arith) e)
 
 module _ (p : Plan) (ac : Accepted p) where
   abbrev pub pl : Plain p
   pl = ac .plain
 
-  abbrev o : Order (p .n)
-  o = ordOf (p .n) (p .order) (pl .order)
+  abbrev o : InOrder (p .n) (p .order)
+  o = pl .order
 
   pub planned-N : (k : ℕ) → hits (p .crashes) k ≡ true → k < p .n
-  planned-N k h = let w : (i : ℕ) × (i < length (p .crashes)) × ((getD (p .crashes) i noCrash) .node ≡ k) = hit-where (p .crashes) noCrash k h in rw (sym (w .2)) (pl .node (w .0) (w .1))
+  planned-N k h = let w = hit-where (p .crashes) noCrash k h in rw (sym (w .2)) (pl .node (w .0) (w .1))
 
   abbrev pub P : Params
   P = record {
@@ -60,10 +66,10 @@ module _ (p : Plan) (ac : Accepted p) where
     gap-inj = gap-inj (p .n) o;
     gap-cyc = gap-cyc (p .n) o;
     gap-add = gap-add (p .n) o;
-    cnt = cnt (p .n) o;
-    ahead = aheadOf (p .n) o;
+    cnt = countBy (p .n);
+    ahead = λ l x k. aheadBy (p .order) l (place (p .order) x) k;
     hops = λ l f fs. hops (p .n) o l f fs;
-    ahead-is = λ l f fs. ahead-is (p .n) o l f fs;
+    ahead-is = λ l f fs. ahead-iter (p .n) o l f fs;
     log = jumps;
     log-is = jumps-covers;
     D≥1 = pl .d≥;
@@ -88,7 +94,16 @@ pub on-of : (v t : ℕ) → v ≡ suc t → (isOn v ≡ true) × (tickOf v ≡ t
 on-of v t e = rw e (refl, refl)
 
 abbrev pub seen : Bool → Node → Seen
-seen b a = record { alive = b; emitter = a .emitter; observer = a .observer; watchOn = isOn (a .watch); watch = tickOf (a .watch); heartbeatOn = isOn (a .heartbeat); heartbeat = tickOf (a .heartbeat); list = listed (a .list) }
+seen b a = record {
+  alive = b;
+  emitter = a .emitter;
+  observer = a .observer;
+  watchOn = isOn (a .watch);
+  watch = tickOf (a .watch);
+  heartbeatOn = isOn (a .heartbeat);
+  heartbeat = tickOf (a .heartbeat);
+  list = listed (a .list);
+}
 
 abbrev pub view : Plan → State → View
 view p s = record { last = s .last; node = λ j. seen (alive p (s .done) j) (nodeOf s j); flight = s .flight }
@@ -111,12 +126,17 @@ module _ (p : Plan) (ac : Accepted p) (s : State) (r : Sound p s) where
           off : (v : ℕ) → v ≡ 0 → isOn v ≡ true → ⊥
           off v z o = omega (arith, on-is v o)
 
-      cr : (k : ℕ) → alive p (s .done) k ≡ true → (i : ℕ) × (i < length (p .crashes)) × ((getD (p .crashes) i noCrash) .node ≡ k) → c ≤ tickIn (p .crashes) k
-      cr k l w = rw (tick-of (p .crashes) noCrash (w .0) k ((ac .plain) .once) (w .1) (w .2)) (nb .crash (w .0) (undone p (ac .plain) (s .done) (w .0) (w .1) (rw (w .2) l)) (w .1))
+      cr : (k : ℕ) → alive p (s .done) k ≡ true → (i : ℕ) × (i < length (p .crashes)) × ((getD (p .crashes) i noCrash) .node ≡ k)
+          → c ≤ tickIn (p .crashes) k
+      cr k l w =
+          rw (tick-of (p .crashes) noCrash (w .0) k ((ac .plain) .once) (w .1) (w .2))
+          (nb .crash (w .0) (undone p (ac .plain) (s .done) (w .0) (w .1) (rw (w .2) l)) (w .1))
 
   -- a turn of one node
-  pub frame : (t x : ℕ) (gone rest : List InFlight) (u : Turn) (n' : Seen) → x < p .n → s .last ≤ t → t ≤ p .end → seen (alive p (s .done) x) (u .node) ≡ n'
-      → ((g : InFlight) → List·Memᴰ g (s .flight) → List·Memᴰ g gone ⊎ List·Memᴰ g rest) → ((g : InFlight) → List·Memᴰ g rest → List·Memᴰ g (s .flight))
+  pub frame : (t x : ℕ) (gone rest : List InFlight) (u : Turn) (n' : Seen) → x < p .n → s .last ≤ t → t ≤ p .end
+      → seen (alive p (s .done) x) (u .node) ≡ n'
+      → ((g : InFlight) → List·Memᴰ g (s .flight) → List·Memᴰ g gone ⊎ List·Memᴰ g rest)
+      → ((g : InFlight) → List·Memᴰ g rest → List·Memᴰ g (s .flight))
       → Frame Q (view p s) (view p (taken p s t x rest u)) t x n' gone (numbered p t x (s .next) (u .sends))
   unfolding taken
   frame t x gone rest u n' xN a b e kp cm = record {
@@ -131,51 +151,68 @@ module _ (p : Plan) (ac : Accepted p) (s : State) (r : Sound p s) where
       out : List InFlight
       out = numbered p t x (s .next) (u .sends)
 
-      k : (g : InFlight) → List·Memᴰ g gone ⊎ List·Memᴰ g rest → List·Memᴰ g gone ⊎ List·Memᴰ g (rest ++ numbered p t x (s .next) (u .sends))
+      k : (g : InFlight) → List·Memᴰ g gone ⊎ List·Memᴰ g rest
+          → List·Memᴰ g gone ⊎ List·Memᴰ g (rest ++ numbered p t x (s .next) (u .sends))
       k g (inl h) = inl h
       k g (inr h) = inr (Memᴰ·append-left (numbered p t x (s .next) (u .sends)) h)
 
-      c : (g : InFlight) → List·Memᴰ g rest ⊎ List·Memᴰ g (numbered p t x (s .next) (u .sends)) → List·Memᴰ g (s .flight) ⊎ List·Memᴰ g (numbered p t x (s .next) (u .sends))
+      c : (g : InFlight) → List·Memᴰ g rest ⊎ List·Memᴰ g (numbered p t x (s .next) (u .sends))
+          → List·Memᴰ g (s .flight) ⊎ List·Memᴰ g (numbered p t x (s .next) (u .sends))
       c g (inl h) = inl (cm g h)
       c g (inr h) = inr h
 
-  -- reports to the forward targets
-  pub told : (x t k d nr : ℕ) → x < p .n → listed d x ≡ false → Reports Q x t k (listed d) (numbered p t x nr (reports k (targets (p .order) d (place (p .order) x))))
-  unfolding reports
-  told x t k d nr xN un = record {
-    each = λ m h. one m (numbered-in p t x us nr m h);
-    kinds = λ m h. kd m (numbered-in p t x us nr m h);
-    subject = λ m h. sj m (numbered-in p t x us nr m h);
-    complete = λ b h. full b h;
-  }
-    where
-      io : InOrder (p .n) (p .order)
-      io = (ac .plain) .order
+  -- reports of k to the forward targets of x, by a list d that does not have it
+  module _ (x t k d nr : ℕ) (xN : x < p .n) (un : listed d x ≡ false) where
+    abbrev ring : List ℕ
+    ring = p .order
 
-      us : List Message
-      us = reports k (targets (p .order) d (place (p .order) x))
+    abbrev to : List ℕ
+    to = targets ring d (place ring x)
 
-      src : (u : Message) → List·Memᴰ u us → (y : ℕ) × List·Memᴰ y (targets (p .order) d (place (p .order) x)) × (record { kind = R; to = y; subject = k } ≡ u)
-      src u h = Memᴰ·of-map (λ y. record { kind = R; to = y; subject = k }) (targets (p .order) d (place (p .order) x)) h
+    abbrev out : List InFlight
+    out = numbered p t x nr (reports k to)
 
-      one : (m : InFlight) → Given p t x nr us m → Sent Q x t m
-      one m g =
-          let q : (y : ℕ) × List·Memᴰ y (targets (p .order) d (place (p .order) x)) × (record { kind = R; to = y; subject = k } ≡ g .u) = src (g .u) (g .has) in
-          let z : Target (p .n) (p .order) ((ac .plain) .order) d x xN un (q .0) = target-ok (p .n) (p .order) ((ac .plain) .order) d x xN un (q .0) (q .1) in
-          let e : m .to ≡ q .0 = g .to ∙ ap (λ (v : Message). v .to) (sym (q .2)) in
-          let dl : (1 ≤ delayOf p (m .number)) × (delayOf p (m .number) ≤ p .d) = delay-ok p (ac .plain) (m .number) in
-          record { by = g .from; after = omega (arith, g .due); within = omega (arith, g .due); self = λ w. z .other (sym e ∙ w); inN = rw e (z .inN) }
+    -- what is sent is a report to a target
+    record Telling (m : InFlight) : Type 0 where
+      given : Given p t x nr (reports k to) m
+      target : List·Memᴰ (m .to) to
+      kind : m .kind ≡ R
+      subject : m .subject ≡ k
 
-      kd : (m : InFlight) → Given p t x nr us m → m .kind ≡ R
-      kd m g = let q : (y : ℕ) × List·Memᴰ y (targets (p .order) d (place (p .order) x)) × (record { kind = R; to = y; subject = k } ≡ g .u) = src (g .u) (g .has) in g .kind ∙ ap (λ (v : Message). v .kind) (sym (q .2))
+    telling : (m : InFlight) → List·Memᴰ m out → Telling m
+    telling m h =
+        let g = numbered-in p t x (reports k to) nr m h in
+        let q = report-of k to (g .u) (g .has) in
+        record {
+          given = g;
+          target = rw (g .to ∙ ap (λ (v : Message). v .to) (sym (q .2))) (q .1);
+          kind = g .kind ∙ ap (λ (v : Message). v .kind) (sym (q .2));
+          subject = g .subject ∙ ap (λ (v : Message). v .subject) (sym (q .2));
+        }
 
-      sj : (m : InFlight) → Given p t x nr us m → m .subject ≡ k
-      sj m g = let q : (y : ℕ) × List·Memᴰ y (targets (p .order) d (place (p .order) x)) × (record { kind = R; to = y; subject = k } ≡ g .u) = src (g .u) (g .has) in g .subject ∙ ap (λ (v : Message). v .subject) (sym (q .2))
+    sent : (m : InFlight) → Telling m → Sent Q x t m
+    sent m g =
+        let dl = delay-ok p (ac .plain) (m .number) in
+        record {
+          by = g .given .from;
+          after = omega (arith, g .given .due, dl .0);
+          within = omega (arith, g .given .due, dl .1);
+          self = target-apart (p .n) ring ((ac .plain) .order) x xN d un (m .to) (g .target);
+          inN = target-below (p .n) d ring ((ac .plain) .order) (place ring x) (m .to) (g .target);
+        }
 
-      full : (b : ℕ) → 2 ^ b < cnt (p .n) (ordOf (p .n) (p .order) ((ac .plain) .order)) (listed d) → (m : InFlight) × List·Memᴰ m (numbered p t x nr us) × (m .to ≡ aheadOf (p .n) (ordOf (p .n) (p .order) ((ac .plain) .order)) (listed d) x (2 ^ b))
-      full b h =
-          let y : ℕ = aheadOf (p .n) (ordOf (p .n) (p .order) ((ac .plain) .order)) (listed d) x (2 ^ b) in
-          numbered-has p t x us nr (record { kind = R; to = y; subject = k }) (Memᴰ·map (λ y. record { kind = R; to = y; subject = k }) (target-has (p .n) (p .order) ((ac .plain) .order) d x xN un b h))
+    -- a jump below the count leads to a target
+    jump-target : (b : ℕ) → 2 ^ b < countBy (p .n) (listed d) → List·Memᴰ (aheadBy ring (listed d) (place ring x) (2 ^ b)) to
+    unfolding ahead unlisted count aheadBy countBy
+    jump-target b h = ahead-target ring d (place ring x) b (rw (ac .plain .order .size) h)
+
+    pub told : Reports Q x t k (listed d) out
+    told = record {
+      each = λ m h. sent m (telling m h);
+      kinds = λ m h. (telling m h) .kind;
+      subject = λ m h. (telling m h) .subject;
+      complete = λ b h. numbered-has p t x (reports k to) nr (message R _ k) (report-to k to _ (jump-target b h));
+    }
 
   pub adds : (d k : ℕ) → Adds Q (listed d) (listed (listing d k)) k
-  adds d k = record { kept = λ a h. add-kept d k a h; is = add-is d k; only = λ a h. add-only d k a h }
+  adds d k = record { kept = listing-keeps d k; is = listing-lists d k; only = listing-only d k }

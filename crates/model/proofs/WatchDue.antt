@@ -10,11 +10,11 @@ use native.Mathlib.Decide.{ℕ-discrete, decLt}
 use Rattle.node.specs.Node.{H}
 use Rattle.model.specs.Platform.{InFlight}
 use Rattle.model.proofs.Events.{Seen, View, Live, Lists, _∈_, Params, Expiry, Moves, Alone, moving, left}
-use Rattle.model.proofs.Invariant.{Tied, Inv, Covered, byHeartbeat, byTimer, byObserver, byCrash}
+use Rattle.model.proofs.Invariant.{Tied, Inv, Answered, Covered, byHeartbeat, byTimer, byObserver, byCrash}
 use Rattle.model.proofs.EveryEvent.{live-not-dead, NewMessage, GoneBy, Alike, base'}
 use Rattle.model.proofs.OneState.{live-unlisted, emitter-beats}
-use Rattle.model.proofs.OneNode.{each, alike, timers}
-use Rattle.model.proofs.WatchKept.{stays0, came0, Same, covered-map}
+use Rattle.model.proofs.OneNode.{OnEach, each, alike, timers}
+use Rattle.model.proofs.WatchKept.{stays0, came0, Same, covered-map, same-node}
 
 module _ (p : Params) (s s' : View) (i : Inv p s) where
   module _ (t x : ℕ) (list' : ℕ → Bool) (y : ℕ) (e : Expiry p s t x list' y) where
@@ -30,7 +30,8 @@ module _ (p : Params) (s s' : View) (i : Inv p s) where
       where
         go : Covered p (s .flight) x ((s .node x) .emitter) ((s .node x) .watch) (s .node ((s .node x) .emitter)) → GoneBy p s t ((s .node x) .emitter)
         go (byHeartbeat m h k f to u) = absurd (omega (arith, e .least .message≥ m h, e .due))
-        go (byTimer la o u) = absurd (omega (arith, e .due, p .D≥1, e .least .heartbeat≥ ((s .node x) .emitter) la (emitter-beats p s i x _ (e .live) refl expiry-other la)))
+        go (byTimer la o u) =
+            absurd (omega (arith, e .due, p .D≥1, e .least .heartbeat≥ ((s .node x) .emitter) la (emitter-beats p s i x _ (e .live) refl expiry-other la)))
         go (byObserver la m h k f to u) = absurd (omega (arith, e .least .message≥ m h, e .due))
         go (byCrash d u) = record { dead = d; long = omega (arith, e .due) }
 
@@ -57,7 +58,7 @@ module _ (p : Params) (s s' : View) (i : Inv p s) where
         go (no n) (no m) = rw (p .gap-inj x k ((s .node x) .emitter) ((i .base .inN x expiry-other) .0) (omega arith)) (e .adds .is)
 
   module _ (t x : ℕ) (list' : ℕ → Bool) (y : ℕ) (o : InFlight) (out : List InFlight) (e : Moves p s s' t x list' y o out) where
-    pub moves-all : (Q : ℕ → Seen → Seen → Type 0) → Q x (s .node x) (moving p (s .node x) list' y t) → ((j : ℕ) → Q j (s .node j) (s .node j)) → (j : ℕ) → Q j (s .node j) (s' .node j)
+    pub moves-all : OnEach s s' x (moving p (s .node x) list' y t)
     moves-all = each p s s' t x _ [] (o ∷ out) (e .frame)
 
     moves-now : s .last ≤ t
@@ -66,7 +67,9 @@ module _ (p : Params) (s s' : View) (i : Inv p s) where
     moves-new : (m : InFlight) → (m ≡ o) ⊎ (m ∈ out) → NewMessage p s s' t m
     moves-new m (inl q) = rw q (record {
       due = omega (arith, e .o-after);
-      from = λ pl. let pl' : p .planned x ≡ true = rw (sym (e .o-by)) pl in omega (arith, e .o-within, e .expiry .least .crash≥ x (e .expiry .live) pl', ap (p .c) (e .o-by));
+      from = λ pl. let pl' : p .planned x ≡ true =
+          rw (sym (e .o-by)) pl in
+          omega (arith, e .o-within, e .expiry .least .crash≥ x (e .expiry .live) pl', ap (p .c) (e .o-by));
       self = λ q. e .other (sym (e .o-to) ∙ sym q ∙ e .o-by);
       heartbeat = λ k. absurd (omega (arith, e .o-kind));
       observer = λ k. inl (rw (e .o-by, e .frame .here) (sym (e .o-to)));
@@ -75,7 +78,9 @@ module _ (p : Params) (s s' : View) (i : Inv p s) where
     })
     moves-new m (inr h) = record {
       due = omega (arith, (e .rs .each m h) .after);
-      from = λ pl. let pl' : p .planned x ≡ true = rw (sym ((e .rs .each m h) .by)) pl in omega (arith, (e .rs .each m h) .within, e .expiry .least .crash≥ x (e .expiry .live) pl', ap (p .c) ((e .rs .each m h) .by));
+      from = λ pl. let pl' : p .planned x ≡ true =
+          rw (sym ((e .rs .each m h) .by)) pl in
+          omega (arith, (e .rs .each m h) .within, e .expiry .least .crash≥ x (e .expiry .live) pl', ap (p .c) ((e .rs .each m h) .by));
       self = λ q. (e .rs .each m h) .self (sym q ∙ (e .rs .each m h) .by);
       heartbeat = λ k. absurd (omega (arith, e .rs .kinds m h));
       observer = λ k. absurd (omega (arith, e .rs .kinds m h));
@@ -99,7 +104,7 @@ module _ (p : Params) (s s' : View) (i : Inv p s) where
     }
 
     pub moves-sames : (j : ℕ) → Same (s .node j) (s' .node j)
-    moves-sames = moves-all (λ j n n'. Same n n') record { alive = sym (e .expiry .live); observer = refl; heartbeat = refl } (λ j. record { alive = refl; observer = refl; heartbeat = refl })
+    moves-sames = moves-all (λ j n n'. Same n n') record { alive = sym (e .expiry .live); observer = refl; heartbeat = refl } (λ j. same-node _)
 
     -- the new emitter, live or not
     moves-here : (b : Bool) → (s .node y) .alive ≡ b → Covered p (s' .flight) x y ((moving p (s .node x) list' y t) .watch) (s .node y)
@@ -115,7 +120,8 @@ module _ (p : Params) (s s' : View) (i : Inv p s) where
             rw (ay, e .frame .other y (e .other), q, e .frame .here) (moves-here _ refl)
         go (no n) =
             let same : s' .node j ≡ s .node j = e .frame .other j n in
-            rw same (covered-map p (s .flight) (s' .flight) j a _ _ _ _ (i .covered j a (moves-alike .alive j lj) (rw same at ej) ne) (omega arith) (moves-sames a)
+            rw same
+            (covered-map p (s .flight) (s' .flight) j a _ _ _ _ (i .covered j a (moves-alike .alive j lj) (rw same at ej) ne) (omega arith) (moves-sames a)
             (λ m h k f to. stays0 (s' .flight) m (e .frame .keep m h))
             (λ la m h k f to. stays0 (s' .flight) m (e .frame .keep m h)))
 
@@ -135,7 +141,7 @@ module _ (p : Params) (s s' : View) (i : Inv p s) where
         go (inl q) = live-not-dead (e .expiry .adds .is) (rw (sym q) at (e .expiry .back .unlisted))
         go (inr l) = live-not-dead (e .expiry .adds .kept y l) (e .expiry .back .unlisted)
 
-    moves-back : (m : InFlight) → m ∈ s' .flight → m .kind ≡ H → Live s' (m .from) → Live s' (m .to) → (s' .node (m .to)) .emitter ≡ m .from → m .from ≢ m .to → (s' .node (m .from)) .observer ≡ m .to
+    moves-back : Answered s'
     moves-back m h k lf lt em ne = moves-sames (m .from) .observer ∙ go (ℕ-discrete (m .to) x)
       where
         m0 : m ∈ s .flight
@@ -198,17 +204,21 @@ module _ (p : Params) (s s' : View) (i : Inv p s) where
         go (no n) (yes r) = absurd (alone-only j (alone-alike .alive j lj) (rw (e .frame .other j n) at (ej ∙ r)) n)
         go (no n) (no r) =
             let same : s' .node j ≡ s .node j = e .frame .other j n in
-            rw (same, e .frame .other a r) (covered-map p (s .flight) (s' .flight) j a _ _ _ _ (i .covered j a (alone-alike .alive j lj) (rw same at ej) ne) (omega arith) record { alive = refl; observer = refl; heartbeat = refl }
+            rw (same, e .frame .other a r)
+            (covered-map p (s .flight) (s' .flight) j a _ _ _ _ (i .covered j a (alone-alike .alive j lj) (rw same at ej) ne) (omega arith) (same-node _)
             (λ m h k f to. stays0 (s' .flight) m (e .frame .keep m h))
             (λ la m h k f to. stays0 (s' .flight) m (e .frame .keep m h)))
 
-    alone-back : (m : InFlight) → m ∈ s' .flight → m .kind ≡ H → Live s' (m .from) → Live s' (m .to) → (s' .node (m .to)) .emitter ≡ m .from → m .from ≢ m .to → (s' .node (m .from)) .observer ≡ m .to
+    alone-back : Answered s'
     alone-back m h k lf lt em ne = go (ℕ-discrete (m .to) x) (ℕ-discrete (m .from) x)
       where
         go : Dec (m .to ≡ x) → Dec (m .from ≡ x) → (s' .node (m .from)) .observer ≡ m .to
         go (yes q) d = absurd (ne (sym em ∙ rw (q, e .frame .here)))
         go (no n) (yes r) = absurd (alone-only (m .to) (alone-alike .alive (m .to) lt) (rw (e .frame .other (m .to) n) at (em ∙ r)) n)
-        go (no n) (no r) = rw (e .frame .other (m .from) r) (i .answered m (came0 (s .flight) m (e .frame .came m h)) k (alone-alike .alive (m .from) lf) (alone-alike .alive (m .to) lt) (rw (e .frame .other (m .to) n) at em) ne)
+        go (no n) (no r) =
+            rw (e .frame .other (m .from) r)
+            (i .answered m (came0 (s .flight) m (e .frame .came m h)) k (alone-alike .alive (m .from) lf) (alone-alike .alive (m .to) lt)
+            (rw (e .frame .other (m .to) n) at em) ne)
 
     pub alone-inv : Inv p s'
     alone-inv = record {

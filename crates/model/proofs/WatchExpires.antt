@@ -8,7 +8,7 @@ use native.Mathlib.Omega.{arith}
 use native.Mathlib.Decide.{ℕ-discrete, decLt}
 use Rattle.node.specs.Node.{O, R}
 use Rattle.model.specs.Platform.{InFlight}
-use Rattle.model.proofs.RingOrder.{iter, First}
+use Rattle.ring.proofs.GoingBack.{iter, First}
 use Rattle.model.proofs.Events.{View, Live, Dead, Lists, _∈_, Params, Moves, Alone, Expiry}
 use Rattle.model.proofs.Invariant.{Base, Inv}
 use Rattle.model.proofs.EveryEvent.{live-not-dead, not-true, Alike, GoneBy}
@@ -34,7 +34,8 @@ exact s l sound full = fun-ext (λ k. go k ((s .node k) .alive) refl)
     go k true q = rw q (not-true (l k) (λ h. live-not-dead q (sound k h)))
 
 -- where every live node observes a live one, the emitter is the live node before
-pub first : (p : Params) (s : View) → Base p s → ((j : ℕ) → Up p s j → Up p s ((s .node j) .emitter)) → First (p .gap) (p .N) (crashedIn s) (λ j. (s .node j) .emitter)
+pub first : (p : Params) (s : View) → Base p s → ((j : ℕ) → Up p s j → Up p s ((s .node j) .emitter))
+    → First (p .gap) (p .N) (crashedIn s) (λ j. (s .node j) .emitter)
 first p s b up = record {
   inN = λ y yN h. (up y (yN, X-live s y h)) .0;
   unlisted = λ y yN h. ap not ((up y (yN, X-live s y h)) .1);
@@ -150,7 +151,9 @@ module _ (p : Params) (s s' : View) (i : Inv p s) (i' : Inv p s') (z c q : ℕ) 
     m : ℕ
     m = p .cnt (crashedIn s')
 
-    obs : (j : ℕ) → Up p s' j → (Up p s ((s .node j) .observer) × ((s .node ((s .node j) .observer)) .emitter ≡ j)) ⊎ ((s .node z) .emitter ≡ j) → (Up p s' ((s .node j) .observer) × ((s' .node ((s .node j) .observer)) .emitter ≡ j)) ⊎ (((s' .node x) .emitter ≡ j) × Coming p s' O j (t + p .D))
+    obs : (j : ℕ) → Up p s' j → (Up p s ((s .node j) .observer) × ((s .node ((s .node j) .observer)) .emitter ≡ j)) ⊎ ((s .node z) .emitter ≡ j)
+        → (Up p s' ((s .node j) .observer) × ((s' .node ((s .node j) .observer)) .emitter ≡ j))
+        ⊎ (((s' .node x) .emitter ≡ j) × Coming p s' O j (t + p .D))
     obs j u (inr r) =
         let yj : y ≡ j = y-is t x list' y (e .expiry) ∙ r in
         inr (em-x ∙ yj, record { m = o; has = e .frame .add o (List·Memᴰ·head refl); kind = e .o-kind; to = e .o-to ∙ yj; due = e .o-within })
@@ -162,8 +165,16 @@ module _ (p : Params) (s s' : View) (i : Inv p s) (i' : Inv p s') (z c q : ℕ) 
             let ezj : z ≡ j = sym (x-em t x list' y (e .expiry)) ∙ (rw r at (h .1)) in
             absurd (live-not-dead ((up' j u) .1) (rw (sym ezj) (a .dead)))
 
-    relay : (g w d j b : ℕ) → Up p s' g → Lists s' g z → d < 2 ^ j → Up p s' w → iter (λ j. (s' .node j) .emitter) (2 ^ b) w ≡ g → 2 ^ b < p .cnt (crashedIn s') → Coming p s' R w (t + (j + 1) * p .D)
-    relay g w d j b ug lg dj uw hw bm = record { m = r .0; has = e .frame .add (r .0) (List·Memᴰ·tail (r .1)); kind = e .rs .kinds (r .0) (r .1); to = r .2 ∙ tgt; due = omega (arith, (e .rs .each (r .0) (r .1)) .within) }
+    relay : (g w d j b : ℕ) → Up p s' g → Lists s' g z → d < 2 ^ j → Up p s' w → iter (λ j. (s' .node j) .emitter) (2 ^ b) w ≡ g
+        → 2 ^ b < p .cnt (crashedIn s') → Coming p s' R w (t + (j + 1) * p .D)
+    relay g w d j b ug lg dj uw hw bm =
+        record {
+          m = r .0;
+          has = e .frame .add (r .0) (List·Memᴰ·tail (r .1));
+          kind = e .rs .kinds (r .0) (r .1);
+          to = r .2 ∙ tgt;
+          due = omega (arith, (e .rs .each (r .0) (r .1)) .within);
+        }
       where
         gx : Dec (g ≡ x) → g ≡ x
         gx (yes q) = q
@@ -173,7 +184,9 @@ module _ (p : Params) (s s' : View) (i : Inv p s) (i' : Inv p s') (z c q : ℕ) 
         r = let below : 2 ^ b < p .cnt list' = rw list-is bm in e .rs .complete b (omega arith)
 
         tgt : p .ahead list' x (2 ^ b) ≡ w
-        tgt = rw (list-is, sym (gx (ℕ-discrete g x)), sym hw) (p .ahead-is (crashedIn s') _ (first p s' (i' .base) em-up) w (2 ^ b) (uw .0) (ap not (uw .1)))
+        tgt =
+            rw (list-is, sym (gx (ℕ-discrete g x)), sym hw)
+            (p .ahead-is (crashedIn s') _ (first p s' (i' .base) em-up) w (2 ^ b) (uw .0) (ap not (uw .1)) bm)
 
     pub moves-spreading : Spreading p z c t x (p .cnt (crashedIn s')) (λ j. (s' .node j) .emitter) s'
     moves-spreading = record {
@@ -198,12 +211,15 @@ module _ (p : Params) (s s' : View) (i : Inv p s) (i' : Inv p s') (z c q : ℕ) 
         fo g k (inl r) = rw r (e .o-by, e .o-to ∙ sym em-x, e .o-within)
         fo g k (inr h) = absurd (omega (arith, e .rs .kinds g h))
 
-        fr : (g : InFlight) → g .kind ≡ R → (g ≡ o) ⊎ (g ∈ out) → (g .subject ≡ z) × (g .due ≤ t + (p .log (p .cnt (crashedIn s')) + 1) * p .D)
+        fr : (g : InFlight) → g .kind ≡ R → (g ≡ o) ⊎ (g ∈ out)
+            → (g .subject ≡ z) × (g .due ≤ t + (p .log (p .cnt (crashedIn s')) + 1) * p .D)
         fr g k (inl r) = absurd (omega (arith, e .o-kind, ap (λ m. m .kind) r))
         fr g k (inr h) = (e .rs .subject g h ∙ x-em t x list' y (e .expiry), omega (arith, (e .rs .each g h) .within))
 
         ws : (j : ℕ) → Up p s' j → j ≢ x → (s' .node j) .emitter ≢ j → (s' .node j) .watch ≤ s' .last + p .W
-        ws j u n = rw (e .frame .other j n, e .frame .last') (λ ne. omega (arith, a .watch j (up' j u) (λ r. n (r ∙ sym (x-q t x list' y (e .expiry)))) ne, sf .t≥))
+        ws j u n =
+            rw (e .frame .other j n, e .frame .last')
+            (λ ne. omega (arith, a .watch j (up' j u) (λ r. n (r ∙ sym (x-q t x list' y (e .expiry)))) ne, sf .t≥))
 
   module _ (t x : ℕ) (list' : ℕ → Bool) (e : Alone p s s' t x list') where
     only : (j : ℕ) → Up p s' j → j ≡ x

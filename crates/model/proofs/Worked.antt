@@ -8,14 +8,16 @@ use Prim.Native.Nat.{ℕ, _<_}
 use native.Mathlib.Omega.{arith}
 use Rattle.ring.specs.Ring.{keep, numbers, listed, listing, unlisted, round, place, ahead, back, next, count, powers, jumps, targets}
 use Rattle.node.specs.declared.Node.{Node}
-use Rattle.node.specs.Node.{reports, opening, onHeartbeat, onObserver, onReport, onHeartbeatDue, onWatchDue, onMessage}
-use Rattle.runfile.specs.Plan.{Plan, within, startRanges, longEnough, crashRange, risingFrom, rising, hits, noneTwice, crashOrder, delayOrder, fewDelays, every, startTest, crashTest, delayTest, planTest}
-use Rattle.model.specs.Platform.{alive, survivors, start, crashEntries, messageEntries, timerEntry, timerEntries, pending, earlier, first, upTo, nextEvent, delayIn, delayOf, numbered, nodeOf, taken, without, received, apply, fits, tried, try, left, steps, after}
+use Rattle.node.specs.Node.{reports, opening, onHeartbeat, onObserver, onReport, onHeartbeatDue, onMessage, leaving}
+use Rattle.model.specs.Platform.{alive, survivors, start, crashEntries, messageEntries, timerEntry, timerEntries, pending, earlier, first, upTo}
+use Rattle.model.specs.Platform.{nextEvent, delayIn, delayOf, numbered, nodeOf, taken, without, received, apply, fits, tried, try, left, steps, after}
+use Rattle.plans.specs.Plan.{sameNumbers, orderTest, Plan, within, startRanges, longEnough, crashRange, risingFrom, rising, hits, noneTwice, crashOrder}
+use Rattle.plans.specs.Plan.{delayOrder, fewDelays, every, startTest, crashTest, delayTest, planTest}
 use Rattle.model.specs.Range.{Accepted, NotBefore}
 use Rattle.model.specs.Claims.{S, settledBy, Spaced, NoneLeftBefore, SettledAt}
 use Rattle.model.proofs.NextEvent.{Best, best}
 use Rattle.model.proofs.Theorems.{settling}
-use Rattle.model.proofs.Plans.{accepted}
+use Rattle.model.proofs.Plans.{plan-accepted}
 use Rattle.model.proofs.Search.{none-left-before}
 
 -- ---- 63 survivors, W 100, D 5: S is 140
@@ -42,12 +44,15 @@ pub four-state : (fields (nodeOf (after four 200) 0) ≡ 3 ∷ 1 ∷ 4 ∷ [])
     × ((after four 200) .done ≡ 1)
     × (settledBy four 0 ≡ 17)
     × (nextEvent four (after four 200) ≡ none)
-unfolding four fields keep numbers listed listing unlisted round place ahead back next count powers jumps targets reports opening onHeartbeat onObserver onReport onHeartbeatDue onWatchDue onMessage hits alive survivors start crashEntries messageEntries timerEntry timerEntries pending earlier first upTo nextEvent delayIn delayOf numbered taken without received apply fits tried try left steps after S settledBy
+unfolding four fields keep numbers listed listing unlisted round place ahead back next count powers jumps targets reports opening onHeartbeat
+    onObserver onReport onHeartbeatDue leaving onMessage hits alive survivors start crashEntries messageEntries timerEntry timerEntries pending
+    earlier first upTo nextEvent delayIn delayOf numbered taken without received apply fits tried try left steps after S settledBy
 four-state = (refl, refl, refl, refl, refl, refl)
 
 pub four-accepted : Accepted four
-unfolding four planTest startTest startRanges within longEnough crashTest every crashRange crashOrder rising risingFrom noneTwice hits delayTest delayOrder fewDelays numbers
-four-accepted = accepted four refl refl
+unfolding four planTest startTest startRanges within longEnough orderTest sameNumbers numbers crashTest every crashRange crashOrder rising risingFrom
+    noneTwice hits delayTest delayOrder fewDelays
+four-accepted = plan-accepted four refl
 
 four-left : NotBefore four (after four 200) 17 17 17
 unfolding Best four
@@ -60,4 +65,7 @@ four-spaced i h = absurd (omega arith)
 -- the same by the theorem: its hypotheses are met
 pub four-settled : (j : ℕ) → j < 4 → alive four ((after four 200) .done) j ≡ true → SettledAt four (after four 200) j
 unfolding four
-four-settled j h l = (settling four four-accepted 200) .settled 0 (four-state .3) four-spaced (subst (NoneLeftBefore four (after four 200)) (sym (four-state .4)) (none-left-before four (four-accepted .plain) (after four 200) 17 four-left)) j h l
+four-settled j h l =
+    (settling four four-accepted 200) .settled 0 (four-state .3) four-spaced
+    (subst (NoneLeftBefore four (after four 200)) (sym (four-state .4)) (none-left-before four (four-accepted .plain) (after four 200) 17 four-left)) j h
+    l

@@ -6,22 +6,19 @@ use mathlib.Core.Bool.{true, false}
 use mathlib.Core.List.{List, List·Memᴰ}
 use Prim.Native.Nat.{ℕ, suc, _+_, _*_, _^_, _≤_, _<_}
 use Rattle.ring.specs.Ring.{listed, jumps}
-use Rattle.runfile.specs.Plan.{Crash, Plan}
-use Rattle.model.specs.Platform.{State, Entry, crash, alive, survivors, nextSurvivor, survivorBefore, crashedList, nodeOf, pending, steps, after}
-use Rattle.model.specs.Range.{rowAt, Sound, InRange}
+use Rattle.model.specs.Platform.{State, Entry, crashEntry, alive, survivors, nextSurvivor, survivorBefore, crashedList, nodeOf, pending, steps, after}
+use Rattle.plans.specs.Plain.{rowAt}
+use Rattle.model.specs.Range.{Sound, InRange}
+use Rattle.plans.specs.Plan.{Crash, Plan}
 
 -- ---- crashed nodes
-
--- the event of a C line
-abbrev pub crashOf : Crash → Entry
-crashOf r = record { tick = r .tick; event = crash (r .node) }
 
 -- 'Crashed is each node whose C line's event is among them'; `alive` goes by how many C lines are done
 pub record CrashedAmong (p : Plan) (es : List Entry) (k : ℕ) : Type 0 where
   pub row : Crash
   pub planned : List·Memᴰ row (p .crashes)
   pub node : row .node ≡ k
-  pub among : List·Memᴰ (crashOf row) es
+  pub among : List·Memᴰ (crashEntry row) es
 
 -- after these events, the nodes that `alive` calls dead are exactly those
 pub record CrashedAre (p : Plan) (es : List Entry) (s : State) : Type 0 where

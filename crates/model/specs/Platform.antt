@@ -10,8 +10,8 @@ use Rattle.ring.specs.Ring.{keep, numbers, listing, round, place, none as nobod
 use Rattle.node.specs.declared.Node.{Node}
 use Rattle.node.specs.declared.Message.{Message}
 use Rattle.node.specs.Node.{Turn, silent, alone, opening, onMessage, onWatchDue, onHeartbeatDue}
-use Rattle.runfile.specs.Plan.{Crash, Delay, Plan, hits}
-use Rattle.ring.specs.Limits.{mostInFlight, lineRoom}
+use Rattle.plans.specs.Plan.{Crash, Delay, Plan, hits}
+use Rattle.limits.specs.Limits.{mostInFlight, lineRoom}
 
 -- ---- the state
 
@@ -91,25 +91,33 @@ pub record Entry : Type 0 where
   pub tick : ℕ
   pub event : Event
 
+abbrev pub entry : ℕ → Event → Entry
+entry t e = record { tick = t; event = e }
+
+-- a C line's event
+abbrev pub crashEntry : Crash → Entry
+crashEntry r = entry (r .tick) (crash (r .node))
+
 -- 1. crashes planned, by node: C lines rise by tick, then node
 unfoldable pub crashEntries : List Crash → List Entry
 crashEntries [] = []
-crashEntries (r ∷ rs) = record { tick = r .tick; event = crash (r .node) } ∷ crashEntries rs
+crashEntries (r ∷ rs) = crashEntry r ∷ crashEntries rs
 
 -- 2. messages, by message number; i is the place of the first
 unfoldable pub messageEntries : ℕ → List InFlight → List Entry
 messageEntries i [] = []
-messageEntries i (m ∷ ms) = record { tick = m .due; event = message i } ∷ messageEntries (suc i) ms
+messageEntries i (m ∷ ms) = entry (m .due) (message i) ∷ messageEntries (suc i) ms
 
 -- a timer, where it is on
 unfoldable pub timerEntry : ℕ → Event → List Entry
 timerEntry zero e = []
-timerEntry (suc t) e = record { tick = t; event = e } ∷ []
+timerEntry (suc t) e = entry t e ∷ []
 
 -- 3. timers of live nodes, by node, watch before heartbeat; i is the number of the first node
 unfoldable pub timerEntries : Plan → ℕ → ℕ → List Node → List Entry
 timerEntries p done i [] = []
-timerEntries p done i (n ∷ ns) = cond (alive p done i) (timerEntry (n .watch) (watch i) ++ timerEntry (n .heartbeat) (heartbeat i)) [] ++ timerEntries p done (suc i) ns
+timerEntries p done i (n ∷ ns) =
+    cond (alive p done i) (timerEntry (n .watch) (watch i) ++ timerEntry (n .heartbeat) (heartbeat i)) [] ++ timerEntries p done (suc i) ns
 
 unfoldable pub pending : Plan → State → List Entry
 pending p s = crashEntries (drop (s .done) (p .crashes)) ++ (messageEntries 0 (s .flight) ++ timerEntries p (s .done) 0 (s .nodes))
@@ -145,7 +153,8 @@ delayOf p number = delayIn (p .d) (p .delays) number
 -- the messages that node x sends at tick t, numbered from k on in order of sending, each due at t + its delay
 unfoldable pub numbered : Plan → ℕ → ℕ → ℕ → List Message → List InFlight
 numbered p t x k [] = []
-numbered p t x k (m ∷ ms) = record { number = k; kind = m .kind; from = x; to = m .to; subject = m .subject; due = t + delayOf p k } ∷ numbered p t x (suc k) ms
+numbered p t x k (m ∷ ms) =
+    record { number = k; kind = m .kind; from = x; to = m .to; subject = m .subject; due = t + delayOf p k } ∷ numbered p t x (suc k) ms
 
 -- node x has taken a turn at tick t; `rest` is what is left of the messages in flight, and what it sends joins them
 unfoldable pub taken : Plan → State → ℕ → ℕ → List InFlight → Turn → State
@@ -158,12 +167,13 @@ taken p s t x rest u = record {
 }
 
 -- a message delivered or dropped frees its place
-unfoldable pub without : ℕ → List InFlight → List InFlight
-without i ms = take i ms ++ drop (suc i) ms
+unfoldable pub without : {A : Type 0} → ℕ → List A → List A
+without i l = take i l ++ drop (suc i) l
 
 -- a message is delivered; to a crashed node it is dropped
 unfoldable pub received : Plan → State → ℕ → InFlight → Turn
-received p s t m = cond (alive p (s .done) (m .to)) (onMessage (p .order) (p .w) t (m .to) (m .kind) (m .from) (m .subject) (nodeOf s (m .to))) (silent (nodeOf s (m .to)))
+received p s t m =
+    cond (alive p (s .done) (m .to)) (onMessage (p .order) (p .w) t (m .to) (m .kind) (m .from) (m .subject) (nodeOf s (m .to))) (silent (nodeOf s (m .to)))
 
 unfoldable pub apply : Plan → State → ℕ → Event → State
 apply p s t (crash k) = record { done = suc (s .done); last = t; next = s .next; nodes = s .nodes; flight = s .flight }
@@ -221,38 +231,38 @@ after p e = steps p e (start p)
 
 -- how a run of k tries ends: spent where k events are done and another remains, finished ('done') where none is left, overfull at a
 -- refused event (number 8)
-pub data Answer : Type 0 where
-  spent : Answer
-  finished : Answer
-  overfull : Answer
+pub data Ending : Type 0 where
+  spent : Ending
+  finished : Ending
+  overfull : Ending
 
-unfoldable pub runAnswer : Plan → ℕ → State → Answer
+unfoldable pub runAnswer : Plan → ℕ → State → Ending
 runAnswer p zero s = elim (nextEvent p s) [ none ↦ finished | some e ↦ spent ]
 runAnswer p (suc k) s = elim (try p s) [ did e s' ↦ runAnswer p k s' | ended ↦ finished | refused ↦ overfull ]
 
 -- a step with a log part of some length; a run with a budget
-pub data Call : Type 0 where
-  step : ℕ → Call
-  run : ℕ → Call
+pub data SizedCall : Type 0 where
+  step : ℕ → SizedCall
+  run : ℕ → SizedCall
 
 -- what a call does to the state
-unfoldable pub called : Plan → Call → State → State
+unfoldable pub called : Plan → SizedCall → State → State
 called p (step room) s = cond (ltb room lineRoom) s (left s (try p s))
 called p (run budget) s = steps p budget s
 
-unfoldable pub calls : Plan → List Call → State → State
+unfoldable pub calls : Plan → List SizedCall → State → State
 calls p [] s = s
 calls p (c ∷ cs) s = calls p cs (called p c s)
 
 -- how many events a call asks for: a step not refused by 9 one, a run its budget
-unfoldable pub asks : Call → ℕ
+unfoldable pub asks : SizedCall → ℕ
 asks (step room) = cond (ltb room lineRoom) 0 1
 asks (run budget) = budget
 
-unfoldable pub asked : List Call → ℕ
+unfoldable pub asked : List SizedCall → ℕ
 asked [] = 0
 asked (c ∷ cs) = asks c + asked cs
 
 -- e, from the plan and the calls alone: none goes past the last event up to the end tick, nor past one that is refused by 8
-unfoldable pub events : Plan → List Call → ℕ
+unfoldable pub events : Plan → List SizedCall → ℕ
 events p cs = eventCount p (asked cs) (start p)

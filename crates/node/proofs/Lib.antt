@@ -1,2 +1,6 @@
 pub mod Messages
 pub mod Rules
+pub mod Tests
+pub mod Moves
+pub mod Sends
+pub mod Ranges

@@ -11,7 +11,8 @@ use Rattle.ring.proofs.Counts.{length-targets, jumps-count-le}
 use Rattle.node.specs.declared.Message.{Message}
 use Rattle.node.specs.declared.Node.{Node}
 use Rattle.node.specs.declared.Turned.{Turned}
-use Rattle.node.specs.Node.{Turn, mostSent, R, message, reports, sending, places, turned, relayed}
+use Rattle.node.specs.Node.{Turn, R, message, reports, sending, places, turned, relayed}
+use Rattle.limits.specs.Limits.{mostSent}
 
 -- ---- the targets of a row
 
@@ -67,16 +68,18 @@ places-more ms ns h =
       e,
       ← replicate-append-replicate (length ns) (7 - (length ms + length ns)) none,
     )
-    (ap (λ (l : List Message). (ms ++ ns) ++ l) (drop-at (replicate (length ns) none) (replicate (7 - (length ms + length ns)) none) (length ns) (length-replicate (length ns) none)))
+    (ap (λ (l : List Message). (ms ++ ns) ++ l)
+    (drop-at (replicate (length ns) none) (replicate (7 - (length ms + length ns)) none) (length ns) (length-replicate (length ns) none)))
 
 -- a node that sends one message at most, with reports after it
 pub relayed-turned : (order : List ℕ) (me subject : ℕ) (n : Node) (ms : List Message) → length ms ≤ 1 → length order ≤ 64
     → relayed order me subject (turned (sending n ms)) ≡ turned (sending n (ms ++ reports subject (targets order (n .list) (place order me))))
 unfolding relayed turned
 relayed-turned order me subject n ms h l =
-    let rs : List Message = reports subject (targets order (n .list) (place order me)) in
+    let to : List ℕ = targets order (n .list) (place order me) in
+    let rs : List Message = reports subject to in
     let e : length rs ≤ 6 =
-    rw (length-reports subject (targets order (n .list) (place order me)), length-targets order (n .list) (place order me)) (jumps-count-le (length order) (n .list) l) in
+    rw (length-reports subject to, length-targets order (n .list) (place order me)) (jumps-count-le (length order) (n .list) l) in
     rw (places-more ms rs (omega arith), length-append ms rs)
 
 -- how many reports there are

@@ -1,19 +1,18 @@
 -- What the code of each rule gives is what its definition says. Assumes nothing.
 use mathlib.Core.Path.{_≡_, sym, _∙_}
-use mathlib.Core.Bool.{Bool, true, false, cond, _||_}
+use mathlib.Core.Bool.{Bool, true, false}
 use mathlib.Core.List.{List, [], _∷_}
-use Prim.Native.Nat.{ℕ, suc, _+_, _*_, _≤_, _<_}
+use Prim.Native.Nat.{ℕ, _+_, _*_, _≤_, _<_}
 use native.Mathlib.Numerals.{add-one}
 use native.Mathlib.Omega.{arith}
 use borrow.Author.Tests.{eq-eqb, ne-eqb, lt-ltb, le-ltb}
-use lib.Dec.{eqb}
 use lib.ListN.{length}
-use Rattle.ring.specs.Limits.{mostNodes}
-use Rattle.ring.specs.Ring.{listed, listing, place, back, next, targets}
+use Rattle.limits.specs.Limits.{mostNodes, mostSent}
+use Rattle.ring.specs.Ring.{listed, listing, place, back, next}
 use Rattle.node.specs.declared.Node.{Node}
-use Rattle.node.specs.Node.{mostSent, reports, H, O, message, silent, sending, alone, withObserver, withWatch, withHeartbeat, withList, turned, relayed, opening, onHeartbeat, onObserver, onReport, onHeartbeatDue, onWatchDue, onMessage}
-use Rattle.ring.proofs.Counts.{length-targets, jumps-count-le}
-use Rattle.node.proofs.Messages.{length-reports, relayed-turned}
+use Rattle.node.specs.Node.{H, O, message, silent, sending, alone, withObserver, withWatch, withHeartbeat, withList, turned, relayed, opening}
+use Rattle.node.specs.Node.{onHeartbeat, onObserver, onReport, onHeartbeatDue, onMessage, leftList, newEmitter, moved, leaving}
+use Rattle.node.proofs.Messages.{relayed-turned}
 
 -- ---- opening
 
@@ -51,7 +50,7 @@ module _ (order : List ℕ) (me subject : ℕ) (n : Node) (b : Bool) (bq : b ≡
   unfolding onReport
   report-own t e = rw (sym bq ∙ t, eq-eqb subject me e)
 
-  pub report-new : b ≡ false → (subject ≡ me → ⊥) → (d : ℕ) → d ≡ listing (n .list) subject → length order ≤ 64
+  pub report-new : b ≡ false → (subject ≡ me → ⊥) → (d : ℕ) → d ≡ listing (n .list) subject → length order ≤ mostNodes
       → turned (onReport order me subject n) ≡ relayed order me subject (turned (silent (withList n d)))
   unfolding onReport
   report-new t e d dq l =
@@ -59,25 +58,31 @@ module _ (order : List ℕ) (me subject : ℕ) (n : Node) (b : Bool) (bq : b ≡
 
 -- ---- timers
 
-pub heartbeat-sent : (h tick : ℕ) (n : Node) → onHeartbeatDue h tick n ≡ sending (withHeartbeat n (tick + h + 1)) (message H (n .observer) 0 ∷ [])
+pub heartbeat-sent : (h tick : ℕ) (n : Node)
+    → onHeartbeatDue h tick n ≡ sending (withHeartbeat n (tick + h + 1)) (message H (n .observer) 0 ∷ [])
 unfolding onHeartbeatDue
 heartbeat-sent h tick n = rw (add-one (tick + h))
 
-module _ (order : List ℕ) (w tick me : ℕ) (n : Node) (d p e : ℕ) (dq : d ≡ listing (n .list) (n .emitter)) (pq : p ≡ place order (n .emitter)) (eq : e ≡ back order d p) where
-  new-emitter : back order (listing (n .list) (n .emitter)) (place order (n .emitter)) ≡ e
+-- ---- leaving the emitter: d is the list with it, p its place, e the new one
+
+module _ (order : List ℕ) (w tick me : ℕ) (n : Node) (d p e : ℕ) (dq : d ≡ leftList n) (pq : p ≡ place order (n .emitter))
+    (eq : e ≡ back order d p) where
+  new-emitter : newEmitter order n ≡ e
   new-emitter = rw (← dq, ← pq) (sym eq)
 
-  pub watch-alone : e ≡ me → onWatchDue order w tick me n ≡ silent (alone me d)
-  unfolding onWatchDue
-  watch-alone z = rw (new-emitter, eq-eqb e me z, ← dq)
+  pub leaving-alone : e ≡ me → leaving order w tick me n ≡ silent (alone me d)
+  unfolding leaving
+  leaving-alone z = rw (new-emitter, eq-eqb e me z, ← dq)
 
-  pub watch-moves : (e ≡ me → ⊥) → length order ≤ 64
-      → turned (onWatchDue order w tick me n) ≡ relayed order me (n .emitter)
-      (turned (sending (record { emitter = e; observer = n .observer; watch = tick + 2 * w + 1; heartbeat = n .heartbeat; list = d }) (message O e 0 ∷ [])))
-  unfolding onWatchDue
-  watch-moves z l =
-      rw (new-emitter, ne-eqb e me z, ← dq, add-one (tick + 2 * w))
-      (sym (relayed-turned order me (n .emitter) (record { emitter = e; observer = n .observer; watch = suc (tick + 2 * w); heartbeat = n .heartbeat; list = d }) (message O e 0 ∷ []) (omega arith) l))
+  -- the node and its message O, as the code has them; the reports follow
+  pub leaving-moves : (e ≡ me → ⊥) → length order ≤ mostNodes → (m : Node)
+      → m ≡ record { emitter = e; observer = n .observer; watch = tick + 2 * w + 1; heartbeat = n .heartbeat; list = d }
+      → turned (leaving order w tick me n) ≡ relayed order me (n .emitter) (turned (sending m (message O e 0 ∷ [])))
+  unfolding leaving
+  leaving-moves z l m mq =
+      let moves : m ≡ moved w tick e d n = rw (add-one (tick + 2 * w)) at mq in
+      rw (new-emitter, ne-eqb e me z, ← dq, moves)
+      (sym (relayed-turned order me (n .emitter) (moved w tick e d n) (message O e 0 ∷ []) (omega arith) l))
 
 -- ---- a message of a kind
 
@@ -93,47 +98,3 @@ module _ (order : List ℕ) (w tick me kind from subject : ℕ) (n : Node) where
   pub message-report : (kind ≡ H → ⊥) → (kind ≡ O → ⊥) → onMessage order w tick me kind from subject n ≡ onReport order me subject n
   unfolding onMessage
   message-report h o = rw (ne-eqb kind H h, ne-eqb kind O o)
-
--- ---- a rule sends at most seven messages
-
-module _ (order : List ℕ) (l : length order ≤ mostNodes) where
-  reports-few : (subject d p : ℕ) → length (reports subject (targets order d p)) ≤ 6
-  reports-few subject d p = rw (length-reports, length-targets) (jumps-count-le (length order) d l)
-
-  pub report-few : (me subject : ℕ) (n : Node) → length (onReport order me subject n .sends) ≤ mostSent
-  unfolding onReport
-  report-few me subject n = go (listed (n .list) subject || eqb subject me)
-    where
-      d : ℕ
-      d = listing (n .list) subject
-
-      go : (b : Bool) → length (cond b (silent n) (sending (withList n d) (reports subject (targets order d (place order me)))) .sends) ≤ mostSent
-      go true = omega arith
-      go false = omega (arith, reports-few subject d (place order me))
-
-  pub watch-few : (w tick me : ℕ) (n : Node) → length (onWatchDue order w tick me n .sends) ≤ mostSent
-  unfolding onWatchDue
-  watch-few w tick me n = go (eqb e me)
-    where
-      d : ℕ
-      d = listing (n .list) (n .emitter)
-
-      e : ℕ
-      e = back order d (place order (n .emitter))
-
-      go : (b : Bool)
-          → length (cond b (silent (alone me d)) (record {
-            node = record { emitter = e; observer = n .observer; watch = suc (tick + 2 * w); heartbeat = n .heartbeat; list = d };
-            sends = message O e 0 ∷ reports (n .emitter) (targets order d (place order me));
-          }) .sends) ≤ mostSent
-      go true = omega arith
-      go false = omega (arith, reports-few (n .emitter) d (place order me))
-
-  pub message-few : (w tick me kind from subject : ℕ) (n : Node) → length (onMessage order w tick me kind from subject n .sends) ≤ mostSent
-  unfolding onMessage onHeartbeat onObserver
-  message-few w tick me kind from subject n = go (eqb kind H) (eqb kind O)
-    where
-      go : (a b : Bool) → length (cond a (onHeartbeat w tick from n) (cond b (onObserver tick from n) (onReport order me subject n)) .sends) ≤ mostSent
-      go true b = omega arith
-      go false true = omega arith
-      go false false = report-few me subject n

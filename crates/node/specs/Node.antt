@@ -7,16 +7,11 @@ use Prim.Native.Nat.{ℕ, suc, _+_, _-_, _*_}
 use lib.Dec.{eqb, ltb}
 use lib.ListN.{length, replicate}
 use lib.Seq.{sets}
+use Rattle.limits.specs.Limits.{mostSent}
 use Rattle.ring.specs.Ring.{listed, listing, place, back, next, targets}
 use Rattle.node.specs.declared.Message.{Message}
 use Rattle.node.specs.declared.Node.{Node}
 use Rattle.node.specs.declared.Turned.{Turned}
-
--- ---- 01's numbers
-
--- the messages that a node sends in one turn, "at most seven"
-abbrev pub mostSent : ℕ
-mostSent = 7
 
 -- what a rule gives
 pub record Turn : Type 0 where
@@ -70,24 +65,41 @@ sending n ms = record { node = n; sends = ms }
 abbrev pub silent : Node → Turn
 silent n = sending n []
 
--- a node that is alone: emitter and observer itself, both timers off
+-- a node that is alone: "emitter and observer itself, both timers off"
 abbrev pub alone : ℕ → ℕ → Node
 alone me list = record { emitter = me; observer = me; watch = off; heartbeat = off; list = list }
 
+-- a node of a ring of two or more, at opening
+abbrev pub ringed : List ℕ → ℕ → ℕ → ℕ → Node
+ringed order h w me = record {
+  emitter = back order 0 (place order me);
+  observer = next order 0 (place order me);
+  watch = due w;
+  heartbeat = due h;
+  list = 0;
+}
+
+-- ---- a node that leaves its emitter
+
+-- its list with the emitter listed, "the list after the change"
+abbrev pub leftList : Node → ℕ
+leftList n = listing (n .list) (n .emitter)
+
+-- "the new emitter is the first unlisted node going back from it"
+abbrev pub newEmitter : List ℕ → Node → ℕ
+newEmitter order n = back order (leftList n) (place order (n .emitter))
+
+-- a node moved to an emitter, with a list: "watch due becomes this tick + 2 × W"
+abbrev pub moved : ℕ → ℕ → ℕ → ℕ → Node → Node
+moved w tick emitter list n =
+    record { emitter = emitter; observer = n .observer; watch = due (tick + 2 * w); heartbeat = n .heartbeat; list = list }
+
 -- ---- the rules
 
--- opening, tick 0: emitter the node before, observer the node after, watch due W, heartbeat due H, list empty; with one node, alone
+-- "opening, tick 0: emitter is the node before, observer the node after, watch due W, heartbeat due H, list empty. With N = 1 the node
+-- is alone"
 unfoldable pub opening : List ℕ → ℕ → ℕ → ℕ → Node
-opening order h w me =
-    cond (ltb 1 (length order))
-    (record {
-      emitter = back order 0 (place order me);
-      observer = next order 0 (place order me);
-      watch = due w;
-      heartbeat = due h;
-      list = 0;
-    })
-    (alone me 0)
+opening order h w me = cond (ltb 1 (length order)) (ringed order h w me) (alone me 0)
 
 -- message H: from the emitter, watch due becomes this tick + W; from any other node, nothing
 unfoldable pub onHeartbeat : ℕ → ℕ → ℕ → Node → Turn
@@ -109,17 +121,22 @@ onReport order me subject n =
 unfoldable pub onHeartbeatDue : ℕ → ℕ → Node → Turn
 onHeartbeatDue h tick n = record { node = withHeartbeat n (due (tick + h)); sends = message H (n .observer) 0 ∷ [] }
 
--- watch due: list the emitter; the new emitter is the first unlisted node going back from it. If that is the node itself, it is
--- alone. Otherwise watch due becomes this tick + 2 × W; O to the new emitter, then R of the old one to the forward targets
-unfoldable pub onWatchDue : List ℕ → ℕ → ℕ → ℕ → Node → Turn
-onWatchDue order w tick me n =
-    let list : ℕ = listing (n .list) (n .emitter) in
-    let emitter : ℕ = back order list (place order (n .emitter)) in
+-- leaving the emitter: "list the emitter; the new emitter is the first unlisted node going back from it. If that is the node
+-- itself, it is alone, as above. Otherwise watch due becomes this tick + 2 × W; send O to the new emitter, then R of the old one to
+-- the forward targets, also if it was listed before"
+unfoldable pub leaving : List ℕ → ℕ → ℕ → ℕ → Node → Turn
+leaving order w tick me n =
+    let list : ℕ = leftList n in
+    let emitter : ℕ = newEmitter order n in
     cond (eqb emitter me) (silent (alone me list))
     (record {
-      node = record { emitter = emitter; observer = n .observer; watch = due (tick + 2 * w); heartbeat = n .heartbeat; list = list };
+      node = moved w tick emitter list n;
       sends = message O emitter 0 ∷ reports (n .emitter) (targets order list (place order me));
     })
+
+-- watch due: the emitter is left
+abbrev pub onWatchDue : List ℕ → ℕ → ℕ → ℕ → Node → Turn
+onWatchDue order w tick me n = leaving order w tick me n
 
 -- a message of a kind
 unfoldable pub onMessage : List ℕ → ℕ → ℕ → ℕ → ℕ → ℕ → ℕ → Node → Turn

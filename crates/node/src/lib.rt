@@ -5,8 +5,10 @@ ghost use mathlib.Core.List.{[], _∷_};
 ghost use Prim.Native.Nat.{_+_, _<_, _≤_};
 ghost use lib.ListN.{length, take};
 ghost use lib.Seq.{sets};
-ghost use Rattle.ring.specs.Limits.{mostNodes, mostH, mostW, mostTick};
-ghost use Rattle.node.specs.Node.{message, reports, silent, sending, alone, opening, onHeartbeat, onObserver, onReport, onHeartbeatDue, onWatchDue, onMessage, turned, relayed};
+ghost use Rattle.limits.specs.Limits.{mostNodes, mostH, mostW, mostTick};
+ghost use Rattle.node.specs.Node.{message, reports, silent, sending, alone, opening, onHeartbeat, onObserver, onReport, onHeartbeatDue, onWatchDue};
+ghost use Rattle.node.specs.Node.{onMessage, turned, relayed, leaving};
+ghost use Rattle.node.specs.Range.{nodeTest, apart, liveTest};
 
 // A node's fields. A timer is 0 where it is off, else one more than the tick at which it is due.
 pub struct Node {
@@ -197,10 +199,10 @@ pub fn on_heartbeat_due(h: u32, tick: u32, n: Node) -> Turned
     sends_one(m, beat)
 }
 
-// Watch due: the emitter is listed and reported, and the first unlisted node going back from it becomes the emitter.
-pub fn on_watch_due(order: &[u8], w: u32, tick: u32, me: u8, n: Node) -> Turned
+// Leaving the emitter: it is listed and reported, and the first unlisted node going back from it becomes the emitter.
+fn leave_emitter(order: &[u8], w: u32, tick: u32, me: u8, n: Node) -> Turned
     requires { ⌜ (1 ≤ length (now order)) × (length (now order) ≤ mostNodes) × (w ≤ mostW) × (tick ≤ mostTick) × (n .emitter < mostNodes) ⌝ }
-    ensures { λ r. ⌜ r ≡ turned (onWatchDue (now (order .entry)) w tick me n) ⌝ }
+    ensures { λ r. ⌜ r ≡ turned (leaving (now (order .entry)) w tick me n) ⌝ }
 {
     let list = ring::with_listed(n.list, n.emitter);
     let p = ring::place_of(order, n.emitter);
@@ -218,6 +220,14 @@ pub fn on_watch_due(order: &[u8], w: u32, tick: u32, me: u8, n: Node) -> Turned
         subject: 0,
     };
     relay(order, me, n.emitter, sends_one(m, observe))
+}
+
+// Watch due: the emitter is left.
+pub fn on_watch_due(order: &[u8], w: u32, tick: u32, me: u8, n: Node) -> Turned
+    requires { ⌜ (1 ≤ length (now order)) × (length (now order) ≤ mostNodes) × (w ≤ mostW) × (tick ≤ mostTick) × (n .emitter < mostNodes) ⌝ }
+    ensures { λ r. ⌜ r ≡ turned (onWatchDue (now (order .entry)) w tick me n) ⌝ }
+{
+    leave_emitter(order, w, tick, me, n)
 }
 
 // A message of a kind, its letter; all but H and O are taken as R.
@@ -239,4 +249,49 @@ pub fn on_message(
         b'O' => on_observer(tick, from, n),
         _ => on_report(order, me, subject, n),
     }
+}
+
+// ---- what a node may hold
+
+// Whether a node's fields are in range, where the ring has n nodes and t is the last tick.
+pub fn node_in_range(n: u8, h: u32, w: u32, t: u32, a: Node) -> bool
+    requires { ⌜ (1 ≤ n) × (n ≤ mostNodes) × (h ≤ mostH) × (w ≤ mostW) × (t ≤ mostTick) ⌝ }
+    ensures { λ r. ⌜ r ≡ nodeTest n h w t a ⌝ }
+{
+    if n <= a.emitter {
+        return false;
+    }
+    if n <= a.observer {
+        return false;
+    }
+    if ring::all_nodes(n) < a.list {
+        return false;
+    }
+    if t + 2 * w + 1 < a.watch {
+        return false;
+    }
+    a.heartbeat <= t + h + 1
+}
+
+// A timer is off, or what it is about is another node.
+fn is_apart(timer: u32, other: u8, me: u8) -> bool
+    ensures { λ r. ⌜ r ≡ apart timer other me ⌝ }
+{
+    if timer == 0 {
+        return true;
+    }
+    other != me
+}
+
+// Whether a live node neither lists itself, nor observes itself with the watch on, nor sends to itself with the heartbeat on.
+pub fn live_in_range(me: u8, a: Node) -> bool
+    ensures { λ r. ⌜ r ≡ liveTest me a ⌝ }
+{
+    if ring::is_listed(a.list, me) {
+        return false;
+    }
+    if !is_apart(a.watch, a.emitter, me) {
+        return false;
+    }
+    is_apart(a.heartbeat, a.observer, me)
 }

@@ -1,5 +1,5 @@
 -- What each answer of the platform's calls gives as a number and behind the pointers, beside what the call leaves of the lent parts. Assumes nothing.
-use Prim.Native.Nat.{ℕ, _+_, _*_, _/_, _%_, _≤_}
+use Prim.Native.Nat.{ℕ, _+_, _*_, _/_, _%_, _^_, _≤_, _<_}
 use native.Mathlib.Omega.{arith}
 use mathlib.Core.Path.{_≡_, sym, _∙_}
 use mathlib.Core.List.{List}
@@ -13,7 +13,8 @@ use Rattle.platform.specs.declared.Ran.{Ran}
 use Rattle.platform.specs.declared.Ran.the-variants.{Done as Finished, Spent, Refused as Unrun}
 use Rattle.platform.specs.declared.Wrote.{Wrote}
 use Rattle.platform.specs.declared.Wrote.the-variants.{Bytes, Refused as Unwritten}
-use Rattle.platform.specs.Calls.{AfterOpen, AfterStep, AfterRun, AfterWrite, tooMany, openFile, stepRefusal, runRefusal, writeRefusal}
+use Rattle.platform.specs.Calls.{AfterOpen, AfterStep, AfterRun, AfterWrite, openFile, stepRefusal, runRefusal, writeRefusal}
+use Rattle.limits.specs.Refusals.{tooMany}
 use Rattle.platform.proofs.Opening.{opening-small}
 use Rattle.planner.specs.Answers.{numberAndLine, stepLetter, stepTick, stepNode, stepOther, stepSize}
 use Rattle.planner.specs.Answers.{runEvents, runSpent, writeSize}
@@ -30,9 +31,15 @@ module _ (file before : List ℕ) (r : Opened) (e : r ≡ openFile file before .
   unfolding numberAndLine
   unopened {number} {line} s left h = let a : openFile file before .answer ≡ Unopened number line = sym e ∙ h in (rw a, left)
 
-  -- the number and the line are small, so that their sum is too
-  pub sum-small : {number line : ℕ} → r ≡ Unopened number line → (number ≤ 7) × (line ≤ 65536)
+  -- the number and the line are small, so that the answer fits
+  sum-small : {number line : ℕ} → r ≡ Unopened number line → (number ≤ 7) × (line ≤ 65536)
   sum-small {number} {line} h = let s = opening-small file before number line (sym e ∙ h) in (s .1, s .2)
+
+  pub line-fits : (number line : ℕ) → r ≡ Unopened number line → 256 * line < 2 ^ 64
+  line-fits number line h = omega (arith, sum-small h .1)
+
+  pub sum-fits : (number line : ℕ) → r ≡ Unopened number line → number + 256 * line < 2 ^ 64
+  sum-fits number line h = let s = sum-small h in omega (arith, s .0, s .1)
 
 -- what the header's KELBRAUT_NUMBER and KELBRAUT_LINE take out of a refused opening's answer, which is never 0
 pub taken-apart : (file store : List ℕ) (number line : ℕ) → openFile file store .answer ≡ Unopened number line
@@ -68,12 +75,16 @@ module _ (after : AfterRun) (r : Ran) (e : r ≡ after .answer) (s : List ℕ) (
       let a : after .answer ≡ Unrun number events = sym e ∙ h in
       (rw a, (rw (a, ne-eqb number tooMany k), (rw a, left)))
 
+-- after a write: its number, what stands behind its pointer, beside the size that stood there, and what it leaves
 module _ (after : AfterWrite) (r : Wrote) (e : r ≡ after .answer) (o : List ℕ) (left : o ≡ after .out) (size₀ : ℕ) where
-  pub written : {size : ℕ} → r ≡ Bytes size → (0 ≡ writeRefusal (after .answer)) × ((size ≡ writeSize (after .answer) size₀) × (o ≡ after .out))
+  abbrev pub Writes : ℕ → ℕ → Type 0
+  Writes number size = (number ≡ writeRefusal (after .answer)) × ((size ≡ writeSize (after .answer) size₀) × (o ≡ after .out))
+
+  pub written : {size : ℕ} → r ≡ Bytes size → Writes 0 size
   unfolding writeRefusal writeSize
   written {size} h = let a : after .answer ≡ Bytes size = sym e ∙ h in (rw a, (rw a, left))
 
-  pub unwritten : {number : ℕ} → r ≡ Unwritten number → (number ≡ writeRefusal (after .answer)) × ((size₀ ≡ writeSize (after .answer) size₀) × (o ≡ after .out))
+  pub unwritten : {number : ℕ} → r ≡ Unwritten number → Writes number size₀
   unfolding writeRefusal writeSize
   unwritten {number} h = let a : after .answer ≡ Unwritten number = sym e ∙ h in (rw a, (rw a, left))
 

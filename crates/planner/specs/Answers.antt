@@ -13,7 +13,7 @@ use Rattle.platform.specs.declared.Ran.{Ran}
 use Rattle.platform.specs.declared.Ran.the-variants.{Done as Finished, Spent, Refused as Unrun}
 use Rattle.platform.specs.declared.Wrote.{Wrote}
 use Rattle.platform.specs.declared.Wrote.the-variants.{Bytes, Refused as Unwritten}
-use Rattle.platform.specs.Calls.{tooMany}
+use Rattle.limits.specs.Refusals.{tooMany}
 
 -- ---- opening, with no pointer: 'Each answers its number and, for files, the line (from 1, else 0)', both in one number
 

@@ -1,5 +1,6 @@
 // The platform for planners' own programs in C or Rust: opening, step, run and the run-file writer on numbers and byte slices. A refused call
 // leaves the numbers behind its pointers too. include/kelbraut.h says how to use them.
+use limits::TOO_MANY;
 use platform::Opened;
 use platform::Ran;
 use platform::Stepped;
@@ -8,9 +9,6 @@ ghost use mathlib.Core.Path.{_≡_};
 ghost use Rattle.platform.specs.Calls.{openFile, step, run, writeFile, stepRefusal, runRefusal, writeRefusal};
 ghost use Rattle.planner.specs.Answers.{numberAndLine, stepLetter, stepTick, stepNode, stepOther, stepSize};
 ghost use Rattle.planner.specs.Answers.{runEvents, runSpent, writeSize};
-
-// The number of an event that is refused, at which a run keeps the events before it.
-const OVERFULL: u64 = 8;
 
 // Opens a store from a run file. Answers 0, or the number of the refusal and 256 times its line.
 #[no_mangle]
@@ -52,7 +50,7 @@ pub extern "C" fn kelbraut_run(
             0
         }
         Ran::Refused(number, done) => {
-            if number == OVERFULL {
+            if number == TOO_MANY {
                 *events = done;
             }
             number

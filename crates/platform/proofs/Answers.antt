@@ -7,9 +7,9 @@ use native.Mathlib.Omega.{arith}
 use borrow.Author.Tests.{lt-ltb, le-ltb}
 use lib.ListN.{length, getD}
 use Rattle.text.specs.Put.{Put}
-use Rattle.runfile.specs.Plan.{planText}
+use Rattle.runfile.specs.Text.{planText}
 use Rattle.runfile.proofs.Size.{plan-size}
-use Rattle.ring.specs.Limits.{lineRoom}
+use Rattle.limits.specs.Limits.{lineRoom, fileRoom}
 use Rattle.store.specs.Store.{planIn, stateIn, storeInRange}
 use Rattle.store.specs.Inside.{Held}
 use Rattle.platform.specs.declared.Stepped.{Stepped}
@@ -17,7 +17,8 @@ use Rattle.platform.specs.declared.Stepped.the-variants.{Refused as Unst
 use Rattle.platform.specs.declared.Ran.{Ran}
 use Rattle.platform.specs.declared.Ran.the-variants.{Refused as Unrun}
 use Rattle.platform.specs.declared.Wrote.the-variants.{Bytes, Refused as Unwritten}
-use Rattle.platform.specs.Calls.{badStore, shortPart, fileRoom, stepNext, step, runNext, run, writeFile}
+use Rattle.limits.specs.Refusals.{badStore, shortPart}
+use Rattle.platform.specs.Calls.{stepNext, step, runNext, run, writeFile}
 use Rattle.platform.proofs.Stepping.{Steps}
 use Rattle.platform.proofs.Running.{Ends}
 use Rattle.platform.proofs.Stores.{Lends, lends, write-in}
@@ -33,7 +34,8 @@ module _ (b log : List ℕ) where
   unfolding step
   step-short ok short = rw (ok, lt-ltb (length log) lineRoom short) (refl, (refl, refl))
 
-  pub step-next : {a : Stepped} {b' log' : List ℕ} → storeInRange b ≡ true → lineRoom ≤ length log → Steps (stepNext b log) a b' log' → Steps (step b log) a b' log'
+  pub step-next : {a : Stepped} {b' log' : List ℕ} → storeInRange b ≡ true → lineRoom ≤ length log → Steps (stepNext b log) a b' log'
+      → Steps (step b log) a b' log'
   unfolding step
   step-next ok room e = rw (ok, le-ltb (length log) lineRoom room) e
 
@@ -60,7 +62,8 @@ module _ (b out : List ℕ) where
   write-short ok short = rw (ok, lt-ltb (length out) fileRoom short) (refl, refl)
 
   -- the writer finds a store that holds a plan, and room for its text
-  pub write-room : ((i : ℕ) → getD b i 0 < 256) → storeInRange b ≡ true → fileRoom ≤ length out → Held b × (length (planText (planIn b)) ≤ length out)
+  pub write-room : ((i : ℕ) → getD b i 0 < 256) → storeInRange b ≡ true → fileRoom ≤ length out → Held b
+      × (length (planText (planIn b)) ≤ length out)
   write-room byte ok room = let l : Lends b = lends b byte ok in (l .held, omega (arith, plan-size (planIn b) (l .holds .good)))
 
   pub write-done : {n : ℕ} {m : List ℕ} → storeInRange b ≡ true → fileRoom ≤ length out → Put out 0 (planText (planIn b)) n m

@@ -2,7 +2,7 @@
 use mathlib.Core.Path.{_≡_, refl, sym, ap, subst, _∙_}
 use mathlib.Core.List.{List}
 use Prim.Native.Nat.{ℕ, _-_, _≤_, _<_}
-use Rattle.logline.specs.declared.Line.{Line}
+use Rattle.model.specs.declared.Deed.{Deed}
 use Rattle.store.specs.Store.{planIn, stateIn}
 use Rattle.event.specs.declared.Happened.{Happened}
 use Rattle.event.specs.declared.Happened.the-variants.{Did, Ended, Refused}
@@ -14,7 +14,8 @@ use Rattle.course.specs.declared.Went.the-variants.{Did as WentOn, Ended as Wen
 use Rattle.course.specs.Progress.{Underway, answerOf, progressOf, Agrees}
 use Rattle.platform.specs.declared.Ran.{Ran}
 use Rattle.platform.specs.declared.Ran.the-variants.{Done, Refused as Unrun}
-use Rattle.platform.specs.Calls.{tooMany, runNext}
+use Rattle.limits.specs.Refusals.{tooMany}
+use Rattle.platform.specs.Calls.{runNext}
 use Rattle.platform.proofs.Running.{Runs, Ends, run-starts, run-goes-on, run-ended, run-refused}
 
 -- of a run of `budget` from the store `first`, all but `rest` are done, and led to the whole store that b and the queue stand for
@@ -31,7 +32,7 @@ module _ (first : List ℕ) (budget rest : ℕ) (whole : List ℕ) (h : Runs fir
   told : (w : Went) → r ≡ w → Agrees whole w b' q'
   told w e = subst (λ (z : Went). Agrees whole z b' q') e g
 
-  pub queued-did : (d : Progress) (l : Line) → r ≡ WentOn d l → RunsOn first budget (rest - 1) b' q' d
+  pub queued-did : (d : Progress) (l : Deed) → r ≡ WentOn d l → RunsOn first budget (rest - 1) b' q' d
   unfolding answerOf progressOf
   queued-did d l e = let f = told (WentOn d l) e in record {
     whole = storeLeft whole;
@@ -39,10 +40,10 @@ module _ (first : List ℕ) (budget rest : ℕ) (whole : List ℕ) (h : Runs fir
     runs = run-goes-on first budget rest whole h more (f .answer) refl;
   }
 
-  pub queued-ended : (d : Progress) (l : Line) → r ≡ WentOut d l
+  pub queued-ended : (d : Progress) → r ≡ WentOut d
       → Underway b' q' d (storeLeft whole) × ((b : List ℕ) → b ≡ storeLeft whole → Ends (runNext first budget) (Done (budget - rest)) b)
   unfolding answerOf progressOf
-  queued-ended d l e = let f = told (WentOut d l) e in (f .underway, λ b be. run-ended first budget rest whole h more (f .answer) be)
+  queued-ended d e = let f = told (WentOut d) e in (f .underway, λ b be. run-ended first budget rest whole h more (f .answer) be)
 
   pub queued-refused : (d : Progress) → r ≡ WentWrong d
       → Underway b' q' d (storeLeft whole) × ((b : List ℕ) → b ≡ storeLeft whole → Ends (runNext first budget) (Unrun tooMany (budget - rest)) b)

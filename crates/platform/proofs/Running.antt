@@ -5,19 +5,22 @@ use mathlib.Core.List.{List}
 use mathlib.Core.Option.{Option, none, some}
 use Prim.Native.Nat.{ℕ, zero, suc, _+_, _-_, _≤_, _<_}
 use native.Mathlib.Omega.{arith}
-use Rattle.logline.specs.declared.Line.{Line}
-use Rattle.runfile.specs.Plan.{Plan}
-use Rattle.model.specs.Platform.{State, Event, crash, message, watch, heartbeat, Entry, Outcome, did, ended, refused, nextEvent, try, left, steps, eventCount, Answer, spent, finished, overfull, runAnswer}
+use Rattle.plans.specs.Plan.{Plan}
+use Rattle.model.specs.Platform.{State, Event, crash, message, watch, heartbeat, Entry, Outcome, did, ended, refused, nextEvent, try, left, steps}
+use Rattle.model.specs.Platform.{eventCount, spent, finished, overfull, runAnswer, Ending}
+use Rattle.model.specs.declared.Deed.{Deed}
 use Rattle.store.specs.Store.{encode, planIn, stateIn}
+use Rattle.event.specs.declared.Happened.{Happened}
 use Rattle.event.specs.declared.Happened.the-variants.{Did as Happens, Ended, Refused as TooMany}
 use Rattle.event.specs.declared.Next.{Next}
 use Rattle.event.specs.declared.Next.the-variants.{Nothing}
-use Rattle.event.specs.Event.{happened, nextAt, nextOf}
+use Rattle.event.specs.Event.{happened, nextAt, nextOf, nextOutcome, nextAnswer, storeLeft}
 use Rattle.event.specs.Ready.{Ready}
 use Rattle.event.proofs.Readiness.{left-ready, left-holds}
 use Rattle.platform.specs.declared.Ran.{Ran}
 use Rattle.platform.specs.declared.Ran.the-variants.{Done, Spent, Refused}
-use Rattle.platform.specs.Calls.{tooMany, ran, AfterRun, runState, runNext}
+use Rattle.limits.specs.Refusals.{tooMany}
+use Rattle.platform.specs.Calls.{ran, AfterRun, runState, runNext}
 use Rattle.platform.proofs.Stepping.{differ}
 
 -- of a run of `budget` from `first`, all but `rest` are done, and led to s: what is left of the budget does the rest
@@ -38,12 +41,12 @@ module _ (p : Plan) where
   stays (suc k) s e = rw e (stays k s e)
 
   -- a budget of one more than k, by the outcome of its first try
-  abbrev answerAfter : ℕ → Outcome → Answer
+  abbrev answerAfter : ℕ → Outcome → Ending
   answerAfter k (did e s') = runAnswer p k s'
   answerAfter k ended = finished
   answerAfter k refused = overfull
 
-  abbrev countAfter : ℕ → Outcome → ℕ
+  abbrev pub countAfter : ℕ → Outcome → ℕ
   countAfter k (did e s') = suc (eventCount p k s')
   countAfter k ended = 0
   countAfter k refused = 0
@@ -57,7 +60,7 @@ module _ (p : Plan) where
       same ended = refl
       same refused = refl
 
-  count-try : (k : ℕ) (s : State) {o : Outcome} → try p s ≡ o → eventCount p (suc k) s ≡ countAfter k o
+  pub count-try : (k : ℕ) (s : State) {o : Outcome} → try p s ≡ o → eventCount p (suc k) s ≡ countAfter k o
   unfolding eventCount
   count-try k s {o} e = same (try p s) ∙ ap (countAfter k) e
     where
@@ -67,7 +70,7 @@ module _ (p : Plan) where
       same refused = refl
 
   -- a budget of 0, by whether an event is left
-  abbrev answerAtEnd : Option Entry → Answer
+  abbrev answerAtEnd : Option Entry → Ending
   answerAtEnd none = finished
   answerAtEnd (some e) = spent
 
@@ -85,7 +88,8 @@ module _ (p : Plan) where
     EndsIn a = (a ≡ ran (runAnswer p budget first) (eventCount p budget first)) × (steps p budget first ≡ s)
 
     -- one event more
-    pub goes-on : (rest : ℕ) → Ongoing p first budget rest s → 0 < rest → (e : Entry) (s' : State) → try p s ≡ did e s' → Ongoing p first budget (rest - 1) s'
+    pub goes-on : (rest : ℕ) → Ongoing p first budget rest s → 0 < rest → (e : Entry) (s' : State) → try p s ≡ did e s'
+        → Ongoing p first budget (rest - 1) s'
     unfolding steps left
     goes-on zero h more e s' o = absurd (omega arith)
     goes-on (suc k) h more e s' o =
@@ -141,13 +145,13 @@ Ends r a b = (a ≡ r .answer) × (b ≡ r .store)
 
 -- what the code's answer of a try says of the outcome
 module _ (p : Plan) (s : State) where
-  did-outcome : (o : Outcome) {l : Line} → Happens l ≡ happened p s o → (e : Entry) × (s' : State) × (o ≡ did e s')
+  did-outcome : (o : Outcome) {a : Deed} → Happens a ≡ happened p s o → (e : Entry) × (s' : State) × (o ≡ did e s')
   unfolding happened
   did-outcome (did e s') h = (e, s', refl)
   did-outcome ended h = absurd (differ (cc h))
   did-outcome refused h = absurd (differ (cc h))
 
-  ended-outcome : (o : Outcome) {l : Line} → Ended l ≡ happened p s o → o ≡ ended
+  ended-outcome : (o : Outcome) → Ended ≡ happened p s o → o ≡ ended
   unfolding happened
   ended-outcome (did e s') h = absurd (differ (cc h))
   ended-outcome ended h = refl
@@ -182,7 +186,7 @@ module _ (first : List ℕ) (budget : ℕ) where
 
   module _ (rest : ℕ) (b : List ℕ) (h : Runs first budget rest b) where
     abbrev next : Outcome
-    next = try (planIn b) (stateIn b)
+    next = nextOutcome b
 
     -- a try of the plan that b holds is one of the first plan
     first-try : {o : Outcome} → next ≡ o → try (planIn first) (stateIn b) ≡ o
@@ -191,9 +195,9 @@ module _ (first : List ℕ) (budget : ℕ) where
     first-next : {o : Option Entry} → nextEvent (planIn b) (stateIn b) ≡ o → nextEvent (planIn first) (stateIn b) ≡ o
     first-next e = ap (λ (p : Plan). nextEvent p (stateIn b)) (sym (h .plan)) ∙ e
 
-    pub run-goes-on : {l : Line} {b' : List ℕ} → 0 < rest → Happens l ≡ happened (planIn b) (stateIn b) next → b' ≡ encode (planIn b) (left (stateIn b) next) → Runs first budget (rest - 1) b'
+    pub run-goes-on : {a : Deed} {b' : List ℕ} → 0 < rest → Happens a ≡ nextAnswer b → b' ≡ storeLeft b → Runs first budget (rest - 1) b'
     unfolding left
-    run-goes-on {l} {b'} more done st =
+    run-goes-on {a} {b'} more done st =
         let o = did-outcome (planIn b) (stateIn b) next done in
         let w = left-holds b b' (h .ready) st in
         let state : stateIn b' ≡ o .1 = w .1 ∙ ap (left (stateIn b)) (o .2) in
@@ -204,17 +208,20 @@ module _ (first : List ℕ) (budget : ℕ) where
         }
 
     -- the run ends with the state of b
-    stops : {a : Ran} {b' : List ℕ} → EndsIn (planIn first) (stateIn first) budget (stateIn b) a → b' ≡ encode (planIn b) (stateIn b) → Ends (runNext first budget) a b'
+    stops : {a : Ran} {b' : List ℕ} → EndsIn (planIn first) (stateIn first) budget (stateIn b) a → b' ≡ encode (planIn b) (stateIn b)
+        → Ends (runNext first budget) a b'
     unfolding runState
     stops w st = (w .0, st ∙ rw (h .plan, w .1))
 
-    pub run-ended : {l : Line} {b' : List ℕ} → 0 < rest → Ended l ≡ happened (planIn b) (stateIn b) next → b' ≡ encode (planIn b) (left (stateIn b) next) → Ends (runNext first budget) (Done (budget - rest)) b'
+    pub run-ended : {b' : List ℕ} → 0 < rest → _≡_ {A = Happened} Ended (nextAnswer b) → b' ≡ storeLeft b
+        → Ends (runNext first budget) (Done (budget - rest)) b'
     unfolding left
     run-ended more none-left st =
         let o : next ≡ ended = ended-outcome (planIn b) (stateIn b) next none-left in
         stops (ends-done (planIn first) (stateIn first) budget (stateIn b) rest (h .ongoing) more (first-try o)) (st ∙ rw o)
 
-    pub run-refused : {b' : List ℕ} → 0 < rest → TooMany ≡ happened (planIn b) (stateIn b) next → b' ≡ encode (planIn b) (left (stateIn b) next) → Ends (runNext first budget) (Refused tooMany (budget - rest)) b'
+    pub run-refused : {b' : List ℕ} → 0 < rest → _≡_ {A = Happened} TooMany (nextAnswer b) → b' ≡ storeLeft b
+        → Ends (runNext first budget) (Refused tooMany (budget - rest)) b'
     unfolding left
     run-refused more many st =
         let o : next ≡ refused = refused-outcome (planIn b) (stateIn b) next many in
@@ -226,7 +233,8 @@ module _ (first : List ℕ) (budget : ℕ) where
         let o : nextEvent (planIn b) (stateIn b) ≡ none = nothing-left (nextEvent (planIn b) (stateIn b)) none-left in
         stops (used-done (planIn first) (stateIn first) budget (stateIn b) rest (h .ongoing) full (first-next o)) (h .ready .held .canonical)
 
-    pub run-used-spent : {r : Next} → rest ≤ 0 → r ≡ nextOf (nextEvent (planIn b) (stateIn b)) → (r ≡ Nothing → ⊥) → Ends (runNext first budget) (Spent budget) b
+    pub run-used-spent : {r : Next} → rest ≤ 0 → r ≡ nextOf (nextEvent (planIn b) (stateIn b)) → (r ≡ Nothing → ⊥)
+        → Ends (runNext first budget) (Spent budget) b
     run-used-spent full is some-left =
         let o = event-left (nextEvent (planIn b) (stateIn b)) is some-left in
         stops (used-spent (planIn first) (stateIn first) budget (stateIn b) rest (h .ongoing) full (o .0) (first-next (o .1))) (h .ready .held .canonical)

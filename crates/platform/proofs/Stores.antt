@@ -9,47 +9,45 @@ use borrow.Author.Tests.{eqb-true, leb-true, le-leb, le-ltb}
 use lib.Dec.{eqb, leb, ltb}
 use lib.ListN.{length, getD}
 use Rattle.text.specs.Put.{put}
-use Rattle.ring.specs.Ring.{numbers}
-use Rattle.runfile.specs.Plan.{Plan, planTest, planText}
-use Rattle.runfile.proofs.Order.{and-first, and-second}
-use Rattle.runfile.proofs.Grown.{Ranges}
-use Rattle.ring.specs.Limits.{mostNext, lineRoom}
-use Rattle.model.specs.Platform.{State, Outcome, did, ended, refused, try, left, steps, runAnswer, eventCount, Answer, spent, finished, overfull, called}
-use Rattle.model.specs.Range.{Plain, Sound, soundTest, storeTest}
+use Rattle.plans.specs.Plan.{Plan, planTest}
+use Rattle.runfile.specs.Text.{planText}
+use mathlib.Mathlib.Data.Bool.Basic.{and-elim-left as and-first, and-elim-right as and-second}
+use Rattle.plans.proofs.Tests.{Ranges, ranges}
+use Rattle.limits.specs.Limits.{mostNext, lineRoom, storeSize, fileRoom}
+use Rattle.model.specs.Platform.{State, Outcome, did, ended, refused, try, left, steps, runAnswer, eventCount, spent, finished, overfull, called, Ending}
+use Rattle.plans.specs.Plain.{Plain}
+use Rattle.model.specs.Range.{Sound, soundTest, storeTest}
 use Rattle.model.proofs.RangesKept.{steps-range}
 use Rattle.model.proofs.NextNumber.{next-bound}
 use Rattle.model.proofs.Tests.{test-range}
-use Rattle.model.proofs.Plans.{plan-plain, number-order}
+use Rattle.plans.proofs.Facts.{plan-plain}
 use Rattle.store.specs.Columns.{roomTest, unusedTest}
-use Rattle.store.specs.Store.{storeSize, columns, encode, planIn, stateIn, storeInRange}
+use Rattle.store.specs.Store.{columns, encode, planIn, stateIn, storeInRange}
 use Rattle.store.specs.Inside.{Fits, Held}
 use Rattle.store.proofs.Store.{plan-encode, state-encode, held-read}
-use Rattle.event.proofs.Fitting.{ranges, Room, sound-fits}
+use Rattle.store.proofs.Fitting.{Room, sound-fits}
 use Rattle.platform.specs.declared.Stepped.the-variants.{Refused as Unstepped}
 use Rattle.platform.specs.declared.Wrote.the-variants.{Bytes}
-use Rattle.platform.specs.Calls.{badStore, shortPart, fileRoom, AfterStep, AfterRun, stepOutcome, step, ran, runState, run}
+use Rattle.limits.specs.Refusals.{badStore, shortPart}
+use Rattle.platform.specs.Calls.{AfterStep, AfterRun, stepOutcome, step, ran, runState, run}
 use Rattle.platform.specs.Calls.{writeFile, stepRefusal, runRefusal}
-use Rattle.platform.specs.CallLists.{Call as Lent, aStep, aRun, sized, storeAfter, refusal}
+use Rattle.platform.specs.CallLists.{Call, aStep, aRun, sized, storeAfter, refusal}
 use Rattle.platform.proofs.Encoded.{in-range-encode}
 
 -- ---- a plan and a state that a store holds
 
--- a plan that a run file may hold, in number order, and a sound state whose next number has room
+-- a plan that a run file may hold, and a sound state whose next number has room
 pub record Holds (p : Plan) (s : State) : Type 0 where
   pub good : planTest p ≡ true
-  pub order : p .order ≡ numbers 0 (p .n)
   pub sound : Sound p s
   pub small : Room s
 
-pub plain-of : (p : Plan) → p .order ≡ numbers 0 (p .n) → planTest p ≡ true → Plain p
-plain-of p order good = plan-plain p (number-order p order) good
-
 module _ (p : Plan) (s : State) (h : Holds p s) where
   pub holds-fit : Fits p s
-  holds-fit = sound-fits p (h .good) s (h .sound) (h .small) (h .order)
+  holds-fit = sound-fits p (h .good) s (h .sound) (h .small)
 
   pub in-range-of : storeInRange (encode p s) ≡ leb (s .next) mostNext
-  in-range-of = in-range-encode p s holds-fit (plain-of p (h .order) (h .good)) (h .good) (h .sound)
+  in-range-of = in-range-encode p s holds-fit (plan-plain p (h .good)) (h .good) (h .sound)
 
   pub plan-of : planIn (encode p s) ≡ p
   plan-of = plan-encode p s holds-fit
@@ -69,7 +67,8 @@ module _ (b : List ℕ) (p : Plan) (s : State) (ok : storeInRange b ≡ true) (p
   unfolding run
   run-in budget = rw (ok, plan, state)
 
-  pub write-in : (out : List ℕ) → fileRoom ≤ length out → writeFile b out ≡ record { answer = Bytes (length (planText p)); out = put out 0 (planText p) }
+  pub write-in : (out : List ℕ) → fileRoom ≤ length out
+      → writeFile b out ≡ record { answer = Bytes (length (planText p)); out = put out 0 (planText p) }
   unfolding writeFile
   write-in out room = rw (ok, plan, le-ltb (length out) fileRoom room)
 
@@ -86,7 +85,7 @@ outcome-not-7 p s (did e s') b log = λ e. omega arith
 outcome-not-7 p s ended b log = λ e. omega arith
 outcome-not-7 p s refused b log = λ e. omega arith
 
-ran-not-7 : (a : Answer) (k : ℕ) → runRefusal (ran a k) ≢ badStore
+ran-not-7 : (a : Ending) (k : ℕ) → runRefusal (ran a k) ≢ badStore
 unfolding ran runRefusal
 ran-not-7 finished k = λ e. omega arith
 ran-not-7 spent k = λ e. omega arith
@@ -106,7 +105,7 @@ module _ (p : Plan) (s : State) (h : Holds p s) (cap : s .next ≤ mostNext) whe
   run-of budget = run-in (encode p s) p s in-range (plan-of p s h) (state-of p s h) budget
 
   -- a call leaves the encoding of what the model's call does to the state
-  pub call-store : (c : Lent) → storeAfter c (encode p s) ≡ encode p (called p (sized c) s)
+  pub call-store : (c : Call) → storeAfter c (encode p s) ≡ encode p (called p (sized c) s)
   unfolding storeAfter sized called runState
   call-store (aStep log) = ap (λ (a : AfterStep). a .store) (step-of log) ∙ go (ltb (length log) lineRoom)
     where
@@ -115,17 +114,19 @@ module _ (p : Plan) (s : State) (h : Holds p s) (cap : s .next ≤ mostNext) whe
       go false = outcome-store p s (try p s) log
   call-store (aRun budget) = ap (λ (a : AfterRun). a .store) (run-of budget)
 
-  pub call-not-7 : (c : Lent) → refusal c (encode p s) ≢ badStore
+  pub call-not-7 : (c : Call) → refusal c (encode p s) ≢ badStore
   unfolding refusal runState stepRefusal
   call-not-7 (aStep log) = subst (λ (a : AfterStep). stepRefusal (a .answer) ≢ badStore) (sym (step-of log)) (go (ltb (length log) lineRoom))
     where
       go : (short : Bool) → stepRefusal ((stepped short log) .answer) ≢ badStore
       go true = λ e. omega arith
       go false = outcome-not-7 p s (try p s) (encode p s) log
-  call-not-7 (aRun budget) = subst (λ (a : AfterRun). runRefusal (a .answer) ≢ badStore) (sym (run-of budget)) (ran-not-7 (runAnswer p budget s) (eventCount p budget s))
+  call-not-7 (aRun budget) =
+      subst (λ (a : AfterRun). runRefusal (a .answer) ≢ badStore) (sym (run-of budget)) (ran-not-7 (runAnswer p budget s) (eventCount p budget s))
 
   -- the writer puts the plan's text
-  pub writes : (out : List ℕ) → fileRoom ≤ length out → writeFile (encode p s) out ≡ record { answer = Bytes (length (planText p)); out = put out 0 (planText p) }
+  pub writes : (out : List ℕ) → fileRoom ≤ length out → writeFile (encode p s) out ≡ record
+      { answer = Bytes (length (planText p)); out = put out 0 (planText p) }
   writes out room = write-in (encode p s) p s in-range (plan-of p s h) (state-of p s h) out room
 
 -- ---- however many events are done on a lent store
@@ -148,11 +149,12 @@ module _ (b : List ℕ) (byte : (i : ℕ) → getD b i 0 < 256) (ok : storeInRan
       let good : planTest p ≡ true = and-first (planTest p) _ test in
       let state = and-second (planTest p) _ test in
       let cap : s .next ≤ mostNext = leb-true (s .next) mostNext (and-second (soundTest p s) _ state) in
-      let held : Held b = held-read b byte (eqb-true _ _ (and-first (eqb (length b) storeSize) _ ok)) (and-first (roomTest (columns p s)) _ rest) (and-second (planTest p && (soundTest p s && leb (s .next) mostNext)) _ more) in
-      let order : p .order ≡ numbers 0 (p .n) = held .fits .order in
+      let held : Held b =
+      held-read b byte (eqb-true _ _ (and-first (eqb (length b) storeSize) _ ok)) (and-first (roomTest (columns p s)) _ rest)
+      (and-second (planTest p && (soundTest p s && leb (s .next) mostNext)) _ more) in
       record {
         held = held;
-        holds = record { good = good; order = order; sound = test-range p (plain-of p order good) s (and-first (soundTest p s) _ state); small = omega arith };
+        holds = record { good = good; sound = test-range p (plan-plain p good) s (and-first (soundTest p s) _ state); small = omega arith };
         cap = cap;
       }
 
@@ -160,11 +162,10 @@ module _ (p : Plan) (s : State) (h : Holds p s) (cap : s .next ≤ mostNext) whe
   -- any number of events leaves a state that the store holds
   pub steps-hold : (k : ℕ) → Holds p (steps p k s)
   steps-hold k =
-      let pl : Plain p = plain-of p (h .order) (h .good) in
+      let pl : Plain p = plan-plain p (h .good) in
       let r : Ranges p = ranges p (h .good) in
       record {
         good = h .good;
-        order = h .order;
         sound = steps-range p pl k s (h .sound);
         small = omega (arith, next-bound p pl mostNext s (h .sound) cap k);
       }

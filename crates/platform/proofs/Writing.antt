@@ -8,10 +8,10 @@ use lib.ListN.{length, take, drop, getD, length-append, take-append-drop}
 use lib.Seq.{take-suc, take-all}
 use Rattle.text.specs.Put.{Put}
 use Rattle.text.proofs.PutLaws.{put-then, put-text, put-none}
-use Rattle.runfile.specs.Plan.{Plan, startText, crashText, delayText, rowsText, planText}
-use Rattle.runfile.specs.File.{opening}
+use Rattle.plans.specs.Plan.{Plan, startPlan as opening}
+use Rattle.runfile.specs.Text.{startText, crashText, delayText, rowsText, planText}
 use Rattle.runfile.proofs.RoundTrip.{rows-append}
-use Rattle.model.specs.Range.{noCrash, rowAt}
+use Rattle.plans.specs.Plain.{noCrash, rowAt}
 use Rattle.store.specs.declared.CrashRow.{CrashRow}
 use Rattle.store.specs.declared.DelayRow.{DelayRow}
 use Rattle.store.specs.Inside.{crashRow, delayAt, delayRow}
@@ -28,7 +28,12 @@ module _ {A : Type 0} (text : A → List ℕ) (xs : List A) where
 
   rows-within : (i : ℕ) → length (rowsTo i) ≤ length (rowsText text xs)
   rows-within i =
-      omega (arith, ap length (ap (rowsText text) (sym (take-append-drop i xs)) ∙ rows-append text (take i xs) (drop i xs)), length-append (rowsTo i) (rowsText text (drop i xs)))
+      omega (
+        arith,
+        ap length (ap (rowsText text) (sym (take-append-drop i xs)) ∙ rows-append text (take i xs) (drop i xs)),
+        length-append (rowsTo i)
+            (rowsText text (drop i xs)),
+      )
 
   pub rows-none : (l : List ℕ) (at : ℕ) → Put l at (rowsTo 0) at l
   unfolding rowsText
@@ -53,20 +58,24 @@ module _ {A : Type 0} (text : A → List ℕ) (xs : List A) where
 
 module _ (p : Plan) {l m : List ℕ} {at r : ℕ} (i : ℕ) where
   pub crash-room : {row : CrashRow} → i < length (p .crashes) → at + length (rowsText crashText (p .crashes)) ≤ length l → length m ≡ length l
-      → Put l at (rowsTo crashText (p .crashes) i) r m → row ≡ crashRow (rowAt p i) → r + length (crashText (record { tick = row .tick; node = row .node })) ≤ length m
+      → Put l at (rowsTo crashText (p .crashes) i) r m → row ≡ crashRow (rowAt p i)
+      → r + length (crashText (record { tick = row .tick; node = row .node })) ≤ length m
   crash-room h room same put e = rw e (rows-room crashText (p .crashes) i noCrash h room same put)
 
   pub crash-written : {row : CrashRow} {k : List ℕ} {q : ℕ} → i < length (p .crashes) → at + length (rowsText crashText (p .crashes)) ≤ length l
-      → Put l at (rowsTo crashText (p .crashes) i) r m → row ≡ crashRow (rowAt p i) → Put m r (crashText (record { tick = row .tick; node = row .node })) q k
+      → Put l at (rowsTo crashText (p .crashes) i) r m → row ≡ crashRow (rowAt p i)
+      → Put m r (crashText (record { tick = row .tick; node = row .node })) q k
       → Put l at (rowsTo crashText (p .crashes) (i + 1)) q k
   crash-written h room put e s = rows-turn crashText (p .crashes) i noCrash h room put (rw e at s)
 
   pub delay-room : {row : DelayRow} → i < length (p .delays) → at + length (rowsText delayText (p .delays)) ≤ length l → length m ≡ length l
-      → Put l at (rowsTo delayText (p .delays) i) r m → row ≡ delayRow (delayAt p i) → r + length (delayText (record { number = row .number; delay = row .delay })) ≤ length m
+      → Put l at (rowsTo delayText (p .delays) i) r m → row ≡ delayRow (delayAt p i)
+      → r + length (delayText (record { number = row .number; delay = row .delay })) ≤ length m
   delay-room h room same put e = rw e (rows-room delayText (p .delays) i (record { number = 0; delay = 0 }) h room same put)
 
   pub delay-written : {row : DelayRow} {k : List ℕ} {q : ℕ} → i < length (p .delays) → at + length (rowsText delayText (p .delays)) ≤ length l
-      → Put l at (rowsTo delayText (p .delays) i) r m → row ≡ delayRow (delayAt p i) → Put m r (delayText (record { number = row .number; delay = row .delay })) q k
+      → Put l at (rowsTo delayText (p .delays) i) r m → row ≡ delayRow (delayAt p i)
+      → Put m r (delayText (record { number = row .number; delay = row .delay })) q k
       → Put l at (rowsTo delayText (p .delays) (i + 1)) q k
   delay-written h room put e s = rows-turn delayText (p .delays) i (record { number = 0; delay = 0 }) h room put (rw e at s)
 
@@ -88,19 +97,24 @@ module _ (p : Plan) (l : List ℕ) (room : length (planText p) ≤ length l) whe
   unfolding startText opening
   start-room = omega (arith, sizes)
 
-  pub crashes-room : {m : List ℕ} {r : ℕ} → length m ≡ length l → Put l 0 (startText (opening (p .n) (p .h) (p .w) (p .d) (p .end))) r m → r + length cs ≤ length m
+  pub crashes-room : {m : List ℕ} {r : ℕ} → length m ≡ length l → Put l 0 (startText (opening (p .n) (p .h) (p .w) (p .d) (p .end))) r m
+      → r + length cs ≤ length m
   unfolding startText opening
   crashes-room same put = omega (arith, sizes, put .next)
 
-  pub delays-room : {m k : List ℕ} {r q : ℕ} → Put l 0 (startText (opening (p .n) (p .h) (p .w) (p .d) (p .end))) r m → Put m r cs q k → length m ≡ length l → length k ≡ length m → q + length ds ≤ length k
+  pub delays-room : {m k : List ℕ} {r q : ℕ} → Put l 0 (startText (opening (p .n) (p .h) (p .w) (p .d) (p .end))) r m → Put m r cs q k
+      → length m ≡ length l
+      → length k ≡ length m → q + length ds ≤ length k
   unfolding startText opening
   delays-room put next before same = omega (arith, sizes, put .next, next .next)
 
-  pub all-written : {m k o : List ℕ} {r q e : ℕ} → length m ≡ length l → Put l 0 (startText (opening (p .n) (p .h) (p .w) (p .d) (p .end))) r m → Put m r cs q k → Put k q ds e o → Put l 0 (planText p) e o
+  pub all-written : {m k o : List ℕ} {r q e : ℕ} → length m ≡ length l → Put l 0 (startText (opening (p .n) (p .h) (p .w) (p .d) (p .end))) r m
+      → Put m r cs q k → Put k q ds e o → Put l 0 (planText p) e o
   unfolding planText startText opening
   all-written {m} {k} {o} {r} {q} {e} same a b c =
       put-then start-room a (put-then (crashes-room same a) b c)
 
 -- the P line of values that are the plan's
-pub values : (p : Plan) {n h w d end : ℕ} → n ≡ p .n → h ≡ p .h → w ≡ p .w → d ≡ p .d → end ≡ p .end → opening n h w d end ≡ opening (p .n) (p .h) (p .w) (p .d) (p .end)
+pub values : (p : Plan) {n h w d end : ℕ} → n ≡ p .n → h ≡ p .h → w ≡ p .w → d ≡ p .d → end ≡ p .end
+    → opening n h w d end ≡ opening (p .n) (p .h) (p .w) (p .d) (p .end)
 values p a b c d e = rw (a, b, c, d, e)

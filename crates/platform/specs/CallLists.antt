@@ -6,9 +6,9 @@ use mathlib.Core.List.{List, [], _∷_, map}
 use Prim.Native.Nat.{ℕ}
 use lib.Dec.{leb}
 use lib.ListN.{length}
-use Rattle.runfile.specs.Plan.{Plan}
-use Rattle.model.specs.Platform.{events, step as stepOf, run as runOf, Call as Sized}
-use Rattle.ring.specs.Limits.{mostNext}
+use Rattle.plans.specs.Plan.{Plan}
+use Rattle.model.specs.Platform.{events, step as stepOf, run as runOf, SizedCall}
+use Rattle.limits.specs.Limits.{mostNext}
 use Rattle.store.specs.Store.{planIn, stateIn, storeInRange}
 use Rattle.platform.specs.Calls.{step, run, stepRefusal, runRefusal}
 
@@ -20,7 +20,7 @@ pub data Call : Type 0 where
   aRun : ℕ → Call
 
 -- what of a call counts for e: the length of a step's log part, a run's budget
-unfoldable pub sized : Call → Sized
+unfoldable pub sized : Call → SizedCall
 sized (aStep log) = stepOf (length log)
 sized (aRun budget) = runOf budget
 

@@ -2,19 +2,20 @@
 -- state them. Each definition gives, for every input, the answer and every byte that was lent for writing. A call that is refused leaves
 -- what it was lent, but for a run's earlier events. Assumes nothing.
 use mathlib.Core.Bool.{cond}
-use mathlib.Core.List.{List, [], _∷_, _++_}
+use mathlib.Core.List.{List}
 use Prim.Native.Nat.{ℕ}
 use lib.Dec.{eqb, ltb}
 use lib.ListN.{length}
 use Rattle.text.specs.Put.{put}
-use Rattle.logline.specs.declared.Line.{Line}
 use Rattle.logline.specs.Line.{lineText}
-use Rattle.runfile.specs.Plan.{Plan, planText}
-use Rattle.runfile.specs.File.{Answer, accepted, fileOf, refused as turnedDown}
-use Rattle.ring.specs.Limits.{lineRoom}
-use Rattle.model.specs.Platform.{State, Outcome, did, ended, refused, start, try, steps, eventCount, runAnswer, spent, finished, overfull, Answer as Ending}
-use Rattle.model.specs.Lines.{lineOf, eventLines, lastLine}
-use Rattle.store.specs.Store.{storeSize, encode, planIn, stateIn, storeInRange}
+use Rattle.plans.specs.Plan.{Plan}
+use Rattle.runfile.specs.Text.{planText}
+use Rattle.runfile.specs.File.{FileAnswer as Answer, accepted, fileOf, turnedDown}
+use Rattle.limits.specs.Limits.{storeSize, lineRoom, fileRoom}
+use Rattle.limits.specs.Refusals.{badStore, tooMany, shortPart}
+use Rattle.model.specs.Platform.{State, Outcome, did, ended, refused, start, try, steps, eventCount, runAnswer, spent, finished, overfull, Ending}
+use Rattle.model.specs.Lines.{lineOf, eventLines, lastLine, linesText}
+use Rattle.store.specs.Store.{encode, planIn, stateIn, storeInRange}
 use Rattle.platform.specs.declared.Opened.{Opened}
 use Rattle.platform.specs.declared.Opened.the-variants.{Ready, Refused as Unopened}
 use Rattle.platform.specs.declared.Stepped.{Stepped}
@@ -23,23 +24,6 @@ use Rattle.platform.specs.declared.Ran.{Ran}
 use Rattle.platform.specs.declared.Ran.the-variants.{Done as Finished, Spent, Refused as Unrun}
 use Rattle.platform.specs.declared.Wrote.{Wrote}
 use Rattle.platform.specs.declared.Wrote.the-variants.{Bytes, Refused as Unwritten}
-
--- ---- the numbers of the refusals; a file's are 1 to 6
-
--- 'store: other length, a field out of range, or an unused byte not zero'
-abbrev pub badStore : ℕ
-badStore = 7
-
--- 'event: more than 2,048 in flight after it'
-abbrev pub tooMany : ℕ
-tooMany = 8
-
--- 'log, file or message part: under 40 bytes for a line, .. under 65,536 for a run file'
-abbrev pub shortPart : ℕ
-shortPart = 9
-
-abbrev pub fileRoom : ℕ
-fileRoom = 65536
 
 -- ---- opening
 
@@ -68,11 +52,6 @@ pub record AfterStep : Type 0 where
   pub answer : Stepped
   pub store : List ℕ
   pub log : List ℕ
-
--- lines one after another
-unfoldable pub linesText : List Line → List ℕ
-linesText [] = []
-linesText (l ∷ ls) = lineText l ++ linesText ls
 
 -- 'A step does one event, answers it and writes its line, or answers done, leaves the store and writes the last line when none is left
 -- up to the end tick. The log part after the line is unchanged.'

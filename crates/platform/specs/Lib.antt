@@ -1,4 +1,4 @@
 -- In reading order.
 pub mod Calls
 pub mod CallLists
-pub mod Filling
+pub mod Accepts

@@ -1,36 +1,22 @@
-// Events of a store that is ready for them: one with its line, for a step, or a budget of them, for a run.
+// Events of a store that is ready for them: one with its lines, for a step, or a budget of them, for a run.
 use crate::Ran;
 use crate::Stepped;
 use course::Went;
 use event::Happened;
 use event::Next;
+use event::lines;
 use event::search;
-use logline::Line;
-use logline::Written;
+use limits::TOO_MANY;
+use store::messages;
 ghost use mathlib.Core.Path.{_≡_};
 ghost use Prim.Native.Nat.{_≤_};
 ghost use lib.ListN.{length};
-ghost use Rattle.text.specs.Put.{put, Put};
-ghost use Rattle.logline.specs.declared.Written.the-variants.{Bytes};
-ghost use Rattle.ring.specs.Limits.{lineRoom};
-ghost use Rattle.logline.specs.Line.{lineText, writtenOf, outOf};
+ghost use Rattle.limits.specs.Limits.{lineRoom};
 ghost use Rattle.event.specs.Ready.{Ready};
 ghost use Rattle.queue.specs.Rows.{size};
 ghost use Rattle.platform.specs.Calls.{stepNext, runNext};
 
-// Puts a line that the log writer takes at the start of a log part. Answers its length.
-fn put_line(line: Line, log: &mut [u8]) -> usize
-    requires { ⌜ writtenOf line (length (now log)) ≡ Bytes (length (lineText line)) ⌝ }
-    requires { ⌜ outOf line (now log) ≡ put (now log) 0 (lineText line) ⌝ }
-    ensures { λ r. ⌜ Put (now (log .entry)) 0 (lineText line) r (now (log .exit)) ⌝ }
-{
-    let Written::Bytes(size) = logline::write_line(line, log) else {
-        return 0;
-    };
-    size
-}
-
-// The next event and its line, or the last line where none is left.
+// The next event and its lines, or the last line where none is left.
 pub fn step_ready(store: &mut [u8], log: &mut [u8]) -> Stepped
     requires { ⌜ Ready (now store) ⌝ }
     requires { ⌜ lineRoom ≤ length (now log) ⌝ }
@@ -39,9 +25,12 @@ pub fn step_ready(store: &mut [u8], log: &mut [u8]) -> Stepped
     ensures { λ _. ⌜ now (log .exit) ≡ stepNext (now (store .entry)) (now (log .entry)) .log ⌝ }
 {
     match event::do_event(store) {
-        Happened::Did(line) => Stepped::Did(line, put_line(line, log)),
-        Happened::Ended(line) => Stepped::Done(line, put_line(line, log)),
-        Happened::Refused => Stepped::Refused(8),
+        Happened::Did(deed) => Stepped::Did(lines::own_line(deed), lines::put_lines(deed, log, 0)),
+        Happened::Ended => {
+            let line = lines::last_line(store, messages::message_count(store) as u64);
+            Stepped::Done(line, logline::put_line(line, log, 0))
+        }
+        Happened::Refused => Stepped::Refused(TOO_MANY),
     }
 }
 
@@ -55,8 +44,8 @@ fn run_searching(store: &mut [u8], budget: u64) -> Ran
     while 0 < rest {
         match event::do_event(store) {
             Happened::Did(_) => rest -= 1,
-            Happened::Ended(_) => return Ran::Done(budget - rest),
-            Happened::Refused => return Ran::Refused(8, budget - rest),
+            Happened::Ended => return Ran::Done(budget - rest),
+            Happened::Refused => return Ran::Refused(TOO_MANY, budget - rest),
         }
     }
     match search::next_event(store) {
@@ -80,13 +69,13 @@ fn run_queued(store: &mut [u8], q: &mut [u64], budget: u64) -> Ran
                 c = d;
                 left -= 1;
             }
-            Went::Ended(d, _) => {
+            Went::Ended(d) => {
                 course::finish(store, q, d);
                 return Ran::Done(budget - left);
             }
             Went::Refused(d) => {
                 course::finish(store, q, d);
-                return Ran::Refused(8, budget - left);
+                return Ran::Refused(TOO_MANY, budget - left);
             }
         }
     }

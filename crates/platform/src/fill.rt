@@ -1,36 +1,21 @@
-// Fills a store from an accepted file: zeros, the P line, the nodes, then the rows one after another.
+// Fills a store from an accepted file: the P line, then the rows one after another.
 use runfile::Outline;
-use store::layout;
 ghost use mathlib.Core.Path.{_≡_};
 ghost use lib.ListN.{length};
 ghost use Rattle.runfile.specs.Reader.{outlineOf, crashPlace, delayPlace};
 ghost use Rattle.model.specs.Platform.{start};
-ghost use Rattle.store.specs.Store.{storeSize, encode};
-ghost use Rattle.platform.specs.Filling.{planOf, Accepts, filled};
-
-// The nodes of the file's plan, each as it is opened.
-fn add_nodes(s: &mut [u8], file: &[u8], n: usize, h: u32, w: u32)
-    requires { ⌜ Accepts (now file) ⌝ }
-    requires { ⌜ (n ≡ planOf (now file) .n) × (h ≡ planOf (now file) .h) × (w ≡ planOf (now file) .w) ⌝ }
-    requires { ⌜ (now s ≡ filled (planOf (now file)) 0 0 0) × (length (now s) ≡ storeSize) ⌝ }
-    ensures { λ _. ⌜ now (s .exit) ≡ filled (planOf (now (file .entry))) n 0 0 ⌝ }
-{
-    let order = ring::number_order();
-    let mut i: usize = 0;
-    while i < n {
-        let a = node::opened(&order[..n], h, w, i as u8);
-        store::fill::put_node(s, i, a);
-        i += 1;
-    }
-}
+ghost use Rattle.limits.specs.Limits.{storeSize};
+ghost use Rattle.store.specs.Store.{encode};
+ghost use Rattle.platform.specs.Accepts.{planOf, Accepts};
+ghost use Rattle.store.specs.Filling.{filled};
 
 // The C rows of the file, the first of which stands at the place first. Answers the place after them.
 fn add_crashes(s: &mut [u8], file: &[u8], first: usize, count: usize) -> usize
     requires { ⌜ Accepts (now file) ⌝ }
     requires { ⌜ (first ≡ crashPlace (planOf (now file)) 0) × (count ≡ length (planOf (now file) .crashes)) ⌝ }
-    requires { ⌜ (now s ≡ filled (planOf (now file)) (planOf (now file) .n) 0 0) × (length (now s) ≡ storeSize) ⌝ }
+    requires { ⌜ (now s ≡ filled (planOf (now file)) 0 0) × (length (now s) ≡ storeSize) ⌝ }
     ensures { λ r. ⌜ r ≡ crashPlace (planOf (now (file .entry))) count ⌝ }
-    ensures { λ _. ⌜ now (s .exit) ≡ filled (planOf (now (file .entry))) (planOf (now (file .entry)) .n) count 0 ⌝ }
+    ensures { λ _. ⌜ now (s .exit) ≡ filled (planOf (now (file .entry))) count 0 ⌝ }
 {
     let mut at = first;
     let mut i: usize = 0;
@@ -47,8 +32,8 @@ fn add_crashes(s: &mut [u8], file: &[u8], first: usize, count: usize) -> usize
 fn add_delays(s: &mut [u8], file: &[u8], first: usize, count: usize)
     requires { ⌜ Accepts (now file) ⌝ }
     requires { ⌜ (first ≡ delayPlace (planOf (now file)) 0) × (count ≡ length (planOf (now file) .delays)) ⌝ }
-    requires { ⌜ (now s ≡ filled (planOf (now file)) (planOf (now file) .n) (length (planOf (now file) .crashes)) 0) × (length (now s) ≡ storeSize) ⌝ }
-    ensures { λ _. ⌜ now (s .exit) ≡ filled (planOf (now (file .entry))) (planOf (now (file .entry)) .n) (length (planOf (now (file .entry)) .crashes)) count ⌝ }
+    requires { ⌜ (now s ≡ filled (planOf (now file)) (length (planOf (now file) .crashes)) 0) × (length (now s) ≡ storeSize) ⌝ }
+    ensures { λ _. ⌜ now (s .exit) ≡ filled (planOf (now (file .entry))) (length (planOf (now (file .entry)) .crashes)) count ⌝ }
 {
     let mut at = first;
     let mut i: usize = 0;
@@ -66,9 +51,7 @@ pub fn fill(s: &mut [u8], file: &[u8], o: Outline)
     requires { ⌜ (o ≡ outlineOf (planOf (now file))) × (length (now s) ≡ storeSize) ⌝ }
     ensures { λ _. ⌜ now (s .exit) ≡ encode (planOf (now (file .entry))) (start (planOf (now (file .entry)))) ⌝ }
 {
-    fields::clear(s, 0, layout::STORE_SIZE);
-    store::fill::put_start(s, o.n, o.h, o.w, o.d, o.end);
-    add_nodes(s, file, o.n as usize, o.h as u32, o.w as u32);
+    store::fill::begin(s, o.n, o.h, o.w, o.d, o.end);
     let delays = add_crashes(s, file, o.rows, o.crashes);
     add_delays(s, file, delays, o.delays);
 }

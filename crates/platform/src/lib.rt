@@ -3,10 +3,14 @@ mod fill; // fill.rt: the store that opening makes
 mod write; // write.rt: the run file of a store
 mod advance; // advance.rt: events, for a step and for a run
 
+use event::lines;
+use limits::BAD_STORE;
+use limits::FILE_ROOM;
+use limits::LINE_ROOM;
+use limits::SHORT_PART;
 use logline::Line;
 use runfile::Read;
 use store::layout;
-use store::range;
 ghost use mathlib.Core.Path.{_≡_};
 ghost use Rattle.platform.specs.Calls.{openFile, step, run, writeFile};
 
@@ -16,7 +20,7 @@ pub enum Opened {
     Refused(u64, u64),
 }
 
-// A step's answer: the event done, as its line tells it, or that none is left, with the last line; each with the length of the text
+// A step's answer: the event done, as its own line tells it, or that none is left, with the last line; each with the length of the text
 // that was written; or the number of the refusal.
 pub enum Stepped {
     Did(Line, usize),
@@ -37,12 +41,6 @@ pub enum Wrote {
     Refused(u64),
 }
 
-// What a step asks for, whatever the line.
-const LINE_ROOM: usize = 40;
-
-// What the run-file writer asks for, whatever the file.
-const FILE_ROOM: usize = 65536;
-
 // Opens a store from a run file.
 pub fn open_store(file: &[u8], store: &mut [u8]) -> Opened
     ensures { λ r. ⌜ r ≡ openFile (now (file .entry)) (now (store .entry)) .answer ⌝ }
@@ -53,7 +51,7 @@ pub fn open_store(file: &[u8], store: &mut [u8]) -> Opened
         Read::Refused(number, line) => Opened::Refused(number, line),
         Read::Accepted(o) => {
             if store.len() != layout::STORE_SIZE {
-                return Opened::Refused(7, 0);
+                return Opened::Refused(BAD_STORE, 0);
             }
             fill::fill(store, file, o);
             Opened::Ready
@@ -61,17 +59,17 @@ pub fn open_store(file: &[u8], store: &mut [u8]) -> Opened
     }
 }
 
-// Does the next event of a store and writes its line at the start of a log part, or the last line where none is left.
+// Does the next event of a store and writes its lines at the start of a log part, or the last line where none is left.
 pub fn step(store: &mut [u8], log: &mut [u8]) -> Stepped
     ensures { λ r. ⌜ r ≡ step (now (store .entry)) (now (log .entry)) .answer ⌝ }
     ensures { λ _. ⌜ now (store .exit) ≡ step (now (store .entry)) (now (log .entry)) .store ⌝ }
     ensures { λ _. ⌜ now (log .exit) ≡ step (now (store .entry)) (now (log .entry)) .log ⌝ }
 {
-    if !range::in_range(store) {
-        return Stepped::Refused(7);
+    if !lent::in_range(store) {
+        return Stepped::Refused(BAD_STORE);
     }
     if log.len() < LINE_ROOM {
-        return Stepped::Refused(9);
+        return Stepped::Refused(SHORT_PART);
     }
     advance::step_ready(store, log)
 }
@@ -81,8 +79,8 @@ pub fn run(store: &mut [u8], budget: u64) -> Ran
     ensures { λ r. ⌜ r ≡ run (now (store .entry)) budget .answer ⌝ }
     ensures { λ _. ⌜ now (store .exit) ≡ run (now (store .entry)) budget .store ⌝ }
 {
-    if !range::in_range(store) {
-        return Ran::Refused(7, 0);
+    if !lent::in_range(store) {
+        return Ran::Refused(BAD_STORE, 0);
     }
     advance::run_ready(store, budget)
 }
@@ -92,11 +90,11 @@ pub fn write_file(store: &[u8], out: &mut [u8]) -> Wrote
     ensures { λ r. ⌜ r ≡ writeFile (now (store .entry)) (now (out .entry)) .answer ⌝ }
     ensures { λ _. ⌜ now (out .exit) ≡ writeFile (now (store .entry)) (now (out .entry)) .out ⌝ }
 {
-    if !range::in_range(store) {
-        return Wrote::Refused(7);
+    if !lent::in_range(store) {
+        return Wrote::Refused(BAD_STORE);
     }
     if out.len() < FILE_ROOM {
-        return Wrote::Refused(9);
+        return Wrote::Refused(SHORT_PART);
     }
     Wrote::Bytes(write::put_file(store, out))
 }

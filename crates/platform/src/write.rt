@@ -3,7 +3,7 @@ use store::plan;
 ghost use Prim.Native.Nat.{_+_, _≤_};
 ghost use lib.ListN.{length};
 ghost use Rattle.text.specs.Put.{Put};
-ghost use Rattle.runfile.specs.Plan.{crashText, delayText, rowsText, planText};
+ghost use Rattle.runfile.specs.Text.{crashText, delayText, rowsText, planText};
 ghost use Rattle.store.specs.Store.{planIn};
 ghost use Rattle.store.specs.Inside.{Held};
 

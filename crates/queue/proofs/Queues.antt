@@ -16,26 +16,20 @@ use Rattle.queue.proofs.First.{earliest}
 
 -- ---- rows are ordered as their messages are
 
+map-cond : (b : Bool) (l k : List InFlight) → cond b (map packed l) (map packed k) ≡ map packed (cond b l k)
+map-cond true l k = refl
+map-cond false l k = refl
+
 module _ (c : ℕ) (key : InFlight → ℕ) (same : (m : InFlight) → keyOf c (packed m) ≡ key m) where
   packed-before : (m : InFlight) (l : List InFlight) → insertBefore (keyOf c) (packed m) (map packed l) ≡ map packed (insertBefore key m l)
   unfolding insertBefore
   packed-before m [] = refl
-  packed-before m (x ∷ xs) = rw (same m, same x, packed-before m xs) (go (leb (key m) (key x)))
-    where
-      go : (b : Bool) → cond b (packed m ∷ (packed x ∷ map packed xs)) (packed x ∷ map packed (insertBefore key m xs))
-          ≡ map packed (cond b (m ∷ (x ∷ xs)) (x ∷ insertBefore key m xs))
-      go true = refl
-      go false = refl
+  packed-before m (x ∷ xs) = rw (same m, same x, packed-before m xs) (map-cond (leb (key m) (key x)) _ _)
 
   packed-after : (m : InFlight) (l : List InFlight) → insertAfter (keyOf c) (packed m) (map packed l) ≡ map packed (insertAfter key m l)
   unfolding insertAfter
   packed-after m [] = refl
-  packed-after m (x ∷ xs) = rw (same m, same x, packed-after m xs) (go (ltb (key m) (key x)))
-    where
-      go : (b : Bool) → cond b (packed m ∷ (packed x ∷ map packed xs)) (packed x ∷ map packed (insertAfter key m xs))
-          ≡ map packed (cond b (m ∷ (x ∷ xs)) (x ∷ insertAfter key m xs))
-      go true = refl
-      go false = refl
+  packed-after m (x ∷ xs) = rw (same m, same x, packed-after m xs) (map-cond (ltb (key m) (key x)) _ _)
 
   packed-ordered : (l : List InFlight) → ordered (keyOf c) (map packed l) ≡ map packed (ordered key l)
   unfolding ordered
@@ -81,7 +75,8 @@ holds-push q r start end flight m h l p = record {
       ap (rows r start) z ∙ (p .is ∙ (rw (h .is) (f) ∙ ap (map packed) (sym (ordered-join due flight m))));
 }
 
-pub holds-moved : (q r : List ℕ) (start end : ℕ) (flight : List InFlight) → Holds q start end flight → Moved q start end r → Holds r 0 (end - start) flight
+pub holds-moved : (q r : List ℕ) (start end : ℕ) (flight : List InFlight) → Holds q start end flight → Moved q start end r
+    → Holds r 0 (end - start) flight
 holds-moved q r start end flight h m = record {
   size = m .size;
   order = omega arith;

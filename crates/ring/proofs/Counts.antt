@@ -5,25 +5,25 @@ use mathlib.Core.Bool.{Bool, true, false, cond, not}
 use mathlib.Core.List.{List, [], _∷_, map, map-map}
 use Prim.Native.Nat.{ℕ, zero, suc, _+_, _-_, _*_, _/_, _%_, _^_, _≤_, _<_}
 use native.Mathlib.Nat.{sub-zero, add-mul, mod-lt, zero-sub, pow-suc, div-one}
-use native.Mathlib.Numerals.{add-one, one-add}
+use native.Mathlib.Numerals.{add-one}
 use native.Mathlib.Decide.{decLt}
 use native.Mathlib.Omega.{arith}
 use borrow.Author.Tests.{lt-ltb, le-ltb}
 use lib.Count.{ones, ones-step, leadingZeros, leading-length}
-use lib.Dec.{eqb, ltb}
+use lib.Dec.{ltb}
 use lib.ListN.{length, take, replicate, length-map}
 use lib.Seq.{take-at}
 use lib.Pow.{pow-mono, pow-pos, shr-lt, shr-shr, ones-split, split, field, mod-mod-pow}
 use lib.Bits.{bitAnd, and-mask}
 use lib.Arith.{digits-mod}
-use Rattle.ring.specs.Limits.{mostNodes}
+use Rattle.limits.specs.Limits.{mostNodes}
 use Rattle.ring.specs.Ring.{rowSize, none, keep, numbers, listed, unlisted, unlistedSet, ahead, count, powers, jumps, targets, row}
 use Rattle.ring.proofs.Rows.{length-numbers, filled}
 
 -- ---- the ones of the unlisted set
 
 -- the machine's complement, cut to k bits
-pub not-mask : (j k a : ℕ) → a < 2 ^ (j + k) → bitAnd ((2 ^ (j + k) - 1) - a) (2 ^ k - 1) ≡ 2 ^ k - 1 - a % 2 ^ k
+not-mask : (j k a : ℕ) → a < 2 ^ (j + k) → bitAnd ((2 ^ (j + k) - 1) - a) (2 ^ k - 1) ≡ 2 ^ k - 1 - a % 2 ^ k
 not-mask j k a h =
     and-mask ((2 ^ (j + k) - 1) - a) k
     ∙ ap (λ (x : ℕ). x % 2 ^ k) whole
@@ -54,7 +54,7 @@ left-last k e =
 left-step : (k e : ℕ) → ones (2 ^ suc k - 1 - e % 2 ^ suc k) ≡ (1 - e % 2) + ones (2 ^ k - 1 - e / 2 % 2 ^ k)
 left-step k e = ones-step (2 ^ suc k - 1 - e % 2 ^ suc k) ∙ ap₂ (λ (x y : ℕ). x + ones y) (left-last k e) (left-half k e)
 
-pub ones-left : (k i d : ℕ) → ones (2 ^ k - 1 - d / 2 ^ i % 2 ^ k) ≡ length (unlisted d (numbers i k))
+ones-left : (k i d : ℕ) → ones (2 ^ k - 1 - d / 2 ^ i % 2 ^ k) ≡ length (unlisted d (numbers i k))
 unfolding ones numbers listed unlisted keep
 ones-left zero i d = ap ones (zero-sub (d / 2 ^ i % 1))
 ones-left (suc k) i d = go (d / 2 ^ i % 2) refl (ones-left k (suc i) d)
@@ -68,28 +68,6 @@ ones-left (suc k) i d = go (d / 2 ^ i % 2) refl (ones-left k (suc i) d)
     go (suc zero) e ih = rw (left-step k (d / 2 ^ i), e, ← half) (omega arith)
     go (suc (suc b)) e ih = absurd (omega arith)
 
--- ---- the unlisted set is the set of the unlisted
-
-left-bit : (n i e : ℕ) → i < n → (2 ^ n - 1 - e % 2 ^ n) / 2 ^ i % 2 ≡ 1 - e / 2 ^ i % 2
-left-bit zero i e h = absurd (omega arith)
-left-bit (suc k) zero e h = rw (div-one (2 ^ suc k - 1 - e % 2 ^ suc k), div-one e) (left-last k e)
-left-bit (suc k) (suc i) e h =
-    ap (λ (x : ℕ). x % 2) (half (2 ^ suc k - 1 - e % 2 ^ suc k) ∙ ap (λ (x : ℕ). x / 2 ^ i) (left-half k e))
-    ∙ left-bit k i (e / 2) (omega arith)
-    ∙ ap (λ (x : ℕ). 1 - x % 2) (sym (half e))
-  where
-    half : (x : ℕ) → x / 2 ^ suc i ≡ x / 2 / 2 ^ i
-    half x = ap (λ (j : ℕ). x / 2 ^ j) (sym (one-add i)) ∙ sym (shr-shr x 1 i)
-
-pub listed-unlistedSet : (n d i : ℕ) → i < n → listed (unlistedSet n d) i ≡ not (listed d i)
-unfolding listed unlistedSet
-listed-unlistedSet n d i h = rw (left-bit n i d h) (go (d / 2 ^ i % 2) (omega arith))
-  where
-    go : (b : ℕ) → b < 2 → eqb (1 - b) 1 ≡ not (eqb b 1)
-    go zero l = refl
-    go (suc zero) l = refl
-    go (suc (suc b)) l = absurd (omega arith)
-
 -- ---- the powers of two below a number
 
 pub lt-pow : (k : ℕ) → k < 2 ^ k
@@ -97,7 +75,8 @@ lt-pow zero = omega arith
 lt-pow (suc k) = omega (arith, lt-pow k, pow-suc 2 k)
 
 -- where a test holds of f below L and not from L on, it keeps what f gives below L
-module _ (p : ℕ → Bool) (f : ℕ → ℕ) (L : ℕ) (below : (j : ℕ) → j < L → p (f j) ≡ true) (above : (j : ℕ) → L ≤ j → p (f j) ≡ false) where
+module _ (p : ℕ → Bool) (f : ℕ → ℕ) (L : ℕ) (below : (j : ℕ) → j < L → p (f j) ≡ true)
+    (above : (j : ℕ) → L ≤ j → p (f j) ≡ false) where
   keep-below : (k i : ℕ) → L ≤ i + k → keep p (map f (numbers i k)) ≡ map f (numbers i (L - i))
   unfolding keep numbers
   keep-below zero i h =
@@ -105,7 +84,8 @@ module _ (p : ℕ → Bool) (f : ℕ → ℕ) (L : ℕ) (below : (j : ℕ) → j
       rw e
   keep-below (suc k) i h = go (decLt i L) (keep-below k (suc i) (omega arith))
     where
-      go : Dec (i < L) → keep p (map f (numbers (suc i) k)) ≡ map f (numbers (suc i) (L - suc i)) → keep p (map f (numbers i (suc k))) ≡ map f (numbers i (L - i))
+      go : Dec (i < L) → keep p (map f (numbers (suc i) k)) ≡ map f (numbers (suc i) (L - suc i))
+          → keep p (map f (numbers i (suc k))) ≡ map f (numbers i (L - i))
       go (yes l) ih =
           let e : L - i ≡ suc (L - suc i) = omega arith in
           rw (e, below i l) (ap (λ (l : List ℕ). f i ∷ l) ih)
@@ -128,7 +108,7 @@ powers-is m L h g o =
     fits zero q = omega arith
     fits (suc n) q = omega (arith, lt-pow n, pow-suc 2 n)
 
-pub jumps-is : (m L : ℕ) → m ≤ 2 ^ L → 2 ^ L ≤ 2 * (m - 1) + 1 → 1 ≤ m → jumps m ≡ L
+jumps-is : (m L : ℕ) → m ≤ 2 ^ L → 2 ^ L ≤ 2 * (m - 1) + 1 → 1 ≤ m → jumps m ≡ L
 unfolding jumps
 jumps-is m L h g o = ap length (powers-is m L h g o) ∙ length-map (numbers 0 L) (λ j. 2 ^ j) ∙ length-numbers L 0
 
@@ -207,14 +187,16 @@ jumps-count-le n d h = jumps-le 6 (count n d) (omega (arith, count-le n d))
 
 -- ---- the powers and the targets by their exponents
 
-pub powers-are : (m : ℕ) → powers m ≡ map (λ j. 2 ^ j) (numbers 0 (jumps m))
+powers-are : (m : ℕ) → powers m ≡ map (λ j. 2 ^ j) (numbers 0 (jumps m))
 unfolding powers numbers keep
 powers-are zero = rw jumps-zero
 powers-are (suc m) = rw (jumps-logarithm m) (powers-is (suc m) (logarithm m .0) (logarithm m .1) (logarithm m .2) (omega arith))
 
 pub targets-are : (order : List ℕ) (d p : ℕ) → targets order d p ≡ map (λ j. ahead order d p (2 ^ j)) (numbers 0 (jumps (count (length order) d)))
 unfolding targets
-targets-are order d p = ap (map (ahead order d p)) (powers-are (count (length order) d)) ∙ map-map (ahead order d p) (λ j. 2 ^ j) (numbers 0 (jumps (count (length order) d)))
+targets-are order d p =
+    let m : ℕ = count (length order) d in
+    ap (map (ahead order d p)) (powers-are m) ∙ map-map (ahead order d p) (λ j. 2 ^ j) (numbers 0 (jumps m))
 
 pub length-targets : (order : List ℕ) (d p : ℕ) → length (targets order d p) ≡ jumps (count (length order) d)
 unfolding targets jumps
@@ -229,6 +211,7 @@ unfolding row
 take-row order d p k e = take-at (targets order d p) (replicate (rowSize - length (targets order d p)) none) k (length-targets order d p ∙ sym e)
 
 -- the row as a loop fills it
-pub row-filled : (order : List ℕ) (d p : ℕ) → filled (λ j. ahead order d p (2 ^ j)) none rowSize (jumps (count (length order) d)) ≡ row (targets order d p)
+pub row-filled : (order : List ℕ) (d p : ℕ)
+    → filled (λ j. ahead order d p (2 ^ j)) none rowSize (jumps (count (length order) d)) ≡ row (targets order d p)
 unfolding filled row
 row-filled order d p = rw (length-targets, ← targets-are order d p)

@@ -18,16 +18,23 @@ module _ (p : ℕ → Bool) where
   unfolding keep
   keep-yes x xs e = rw e
 
-  pub keep-no : (x : ℕ) (xs : List ℕ) → p x ≡ false → keep p (x ∷ xs) ≡ keep p xs
+  keep-no : (x : ℕ) (xs : List ℕ) → p x ≡ false → keep p (x ∷ xs) ≡ keep p xs
   unfolding keep
   keep-no x xs e = rw e
+
+-- tests that agree keep the same
+pub keep-ext : (f g : ℕ → Bool) (xs : List ℕ) → ((k : ℕ) → f k ≡ g k) → keep f xs ≡ keep g xs
+unfolding keep
+keep-ext f g [] h = refl
+keep-ext f g (x ∷ xs) h = rw (h x, keep-ext f g xs h)
 
 pub keep-append : (t : ℕ → Bool) (xs ys : List ℕ) → keep t (xs ++ ys) ≡ keep t xs ++ keep t ys
 unfolding keep
 keep-append t [] ys = refl
 keep-append t (x ∷ xs) ys = go (t x) (keep-append t xs ys)
   where
-    go : (b : Bool) → keep t (xs ++ ys) ≡ keep t xs ++ keep t ys → cond b (x ∷ keep t (xs ++ ys)) (keep t (xs ++ ys)) ≡ cond b (x ∷ keep t xs) (keep t xs) ++ keep t ys
+    go : (b : Bool) → keep t (xs ++ ys) ≡ keep t xs ++ keep t ys
+        → cond b (x ∷ keep t (xs ++ ys)) (keep t (xs ++ ys)) ≡ cond b (x ∷ keep t xs) (keep t xs) ++ keep t ys
     go true e = ap (λ (l : List ℕ). x ∷ l) e
     go false e = e
 
@@ -84,19 +91,21 @@ keep-round t order p =
     rw (keep-append, length-append) (add-comm _ _ ∙ sym (length-append (keep t (take p order)) (keep t (drop p order)))
     ∙ ap length (sym (keep-append t (take p order) (drop p order))) ∙ ap (λ (l : List ℕ). length (keep t l)) (take-append-drop p order))
 
-module _ (order : List ℕ) (p s : ℕ) where
-  pub round-past : length order ≤ p → getD (round order p) s 0 ≡ getD order s 0
+-- what stands s places after the place p; z is what a list has beyond its end
+module _ (order : List ℕ) (p s z : ℕ) where
+  pub round-past : length order ≤ p → getD (round order p) s z ≡ getD order s z
   unfolding round
   round-past h = rw (drop-of-length-le order {i = p} h, take-all p order h)
 
-  pub round-near : s < length order - p → getD (round order p) s 0 ≡ getD order (p + s) 0
+  pub round-near : s < length order - p → getD (round order p) s z ≡ getD order (p + s) z
   unfolding round
-  round-near h = List·getD-append (drop p order) (take p order) 0 s (rw length-drop h) ∙ getD-drop p order s 0
+  round-near h = List·getD-append (drop p order) (take p order) z s (rw length-drop h) ∙ getD-drop p order s z
 
-  pub round-far : p ≤ length order → length order - p ≤ s → s < length order → getD (round order p) s 0 ≡ getD order (s - (length order - p)) 0
+  pub round-far : p ≤ length order → length order - p ≤ s → s < length order → getD (round order p) s z ≡ getD order (s - (length order - p)) z
   unfolding round
   round-far g h l =
-      let e : s ≡ length (drop p order) + (s - (length order - p)) = rw length-drop (omega arith) in
-      ap (λ (n : ℕ). getD (drop p order ++ take p order) n 0) e
-      ∙ getD-append-add (drop p order) (take p order) (s - (length order - p)) 0
-      ∙ getD-take p order (s - (length order - p)) 0 (omega arith)
+      let rest : ℕ = s - (length order - p) in
+      let e : s ≡ length (drop p order) + rest = rw length-drop (omega arith) in
+      ap (λ (n : ℕ). getD (drop p order ++ take p order) n z) e
+      ∙ getD-append-add (drop p order) (take p order) rest z
+      ∙ getD-take p order rest z (omega arith)

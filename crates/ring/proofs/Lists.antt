@@ -1,17 +1,17 @@
--- Laws of dead lists and of the ring that the rules above rest on. Assumes nothing.
-use mathlib.Core.Path.{_≡_, refl, ap, _∙_}
-use mathlib.Core.Bool.{Bool, true, false, _||_}
-use mathlib.Core.List.{List, [], _∷_}
+-- Dead lists with one node more, the empty one, and when two are one; places in number order. Assumes nothing.
+use mathlib.Core.Path.{_≡_, refl, sym, ap, _∙_}
+use mathlib.Core.Logic.{_⊎_, inl, inr, _≢_}
+use mathlib.Core.Bool.{Bool, true, false, _||_, true≢false}
 use Prim.Native.Nat.{ℕ, zero, suc, _+_, _-_, _/_, _%_, _^_, _<_}
-use native.Mathlib.Nat.{add-zero, le-of-suc-le-suc, div-self, div-eq-of-lt, mul-mod-left, pow-suc}
+use native.Mathlib.Nat.{add-zero, div-one, div-self, div-eq-of-lt, mul-mod-left, pow-suc}
 use native.Mathlib.Omega.{arith}
 use native.Mathlib.Decide.{decLt}
-use borrow.Author.Tests.{eq-eqb, ne-eqb}
+use borrow.Author.Tests.{eq-eqb, ne-eqb, eqb-true}
 use lib.Bits.{bitOr, or-lt, or-shr, or-mod}
 use lib.Dec.{eqb}
-use lib.ListN.{length, getD}
-use lib.Pow.{pow-lt, pow-pos, pow-add, shl-shr}
-use Rattle.ring.specs.Ring.{keep, numbers, listed, listing, unlisted, place}
+use lib.Pow.{pow-lt, pow-pos, pow-add, shl-shr, shr-shr}
+use Rattle.ring.specs.Ring.{numbers, listed, listing, place}
+use Rattle.ring.proofs.Laws.{listed-beyond}
 
 -- ---- a list with one node more
 
@@ -57,6 +57,61 @@ pub listing-lt : (n d i : ℕ) → d < 2 ^ n → i < n → listing d i < 2 ^ n
 unfolding listing
 listing-lt n d i h g = or-lt n d (2 ^ i) h (pow-lt g)
 
+-- it lists that node, and all that were listed
+pub listing-lists : (d i : ℕ) → listed (listing d i) i ≡ true
+listing-lists d i = listed-listing d i i ∙ rw (eq-eqb i i refl)
+
+pub listing-keeps : (d i k : ℕ) → listed d k ≡ true → listed (listing d i) k ≡ true
+listing-keeps d i k h = listed-listing d i k ∙ go (eqb i k)
+  where
+    go : (b : Bool) → (b || listed d k) ≡ true
+    go true = refl
+    go false = h
+
+-- and no other
+pub listing-only : (d i k : ℕ) → listed (listing d i) k ≡ true → (listed d k ≡ true) ⊎ (k ≡ i)
+listing-only d i k h = go (eqb i k) refl (sym (listed-listing d i k) ∙ h)
+  where
+    go : (b : Bool) → eqb i k ≡ b → (b || listed d k) ≡ true → (listed d k ≡ true) ⊎ (k ≡ i)
+    go true e h = inr (sym (eqb-true i k e))
+    go false e h = inl h
+
+pub listing-other : (d i k : ℕ) → i ≢ k → listed d k ≡ false → listed (listing d i) k ≡ false
+listing-other d i k ne h = listed-listing d i k ∙ rw (ne-eqb i k ne) h
+
+-- the empty list lists nobody
+pub listed-none : (k : ℕ) → listed 0 k ≡ false
+listed-none k = listed-beyond 0 0 k (omega arith) (omega arith)
+
+-- ---- two dead lists of n bits that list the same are one
+
+listed-half : (a k : ℕ) → listed a (suc k) ≡ listed (a / 2) k
+unfolding listed
+listed-half a k =
+    let one : 1 + k ≡ suc k = omega arith in
+    ap (λ (x : ℕ). eqb (x % 2) 1) (sym (shr-shr a 1 k ∙ ap (λ (e : ℕ). a / 2 ^ e) one))
+
+listed-last : (a : ℕ) → listed a 0 ≡ eqb (a % 2) 1
+unfolding listed
+listed-last a = ap (λ (x : ℕ). eqb (x % 2) 1) (div-one a)
+
+same-bit : (a b : ℕ) → a < 2 → b < 2 → eqb a 1 ≡ eqb b 1 → a ≡ b
+same-bit zero zero h g e = refl
+same-bit (suc zero) (suc zero) h g e = refl
+same-bit zero (suc zero) h g e = absurd (true≢false (sym e))
+same-bit (suc zero) zero h g e = absurd (true≢false e)
+same-bit zero (suc (suc b)) h g e = absurd (omega arith)
+same-bit (suc zero) (suc (suc b)) h g e = absurd (omega arith)
+same-bit (suc (suc a)) b h g e = absurd (omega arith)
+
+pub listed-ext : (n a b : ℕ) → a < 2 ^ n → b < 2 ^ n → ((k : ℕ) → listed a k ≡ listed b k) → a ≡ b
+listed-ext zero a b h g f = omega arith
+listed-ext (suc n) a b h g f =
+    let half : a / 2 ≡ b / 2 =
+    listed-ext n (a / 2) (b / 2) (omega arith) (omega arith) (λ k. sym (listed-half a k) ∙ f (suc k) ∙ listed-half b k) in
+    let last : a % 2 ≡ b % 2 = same-bit (a % 2) (b % 2) (omega arith) (omega arith) (sym (listed-last a) ∙ f 0 ∙ listed-last b) in
+    omega arith
+
 -- ---- places
 
 pub place-numbers : (n j i : ℕ) → i < n → place (numbers j n) (j + i) ≡ i
@@ -66,16 +121,3 @@ place-numbers (suc n) j zero h = rw (add-zero, eq-eqb j j refl)
 place-numbers (suc n) j (suc i) h =
     let e : j + suc i ≡ suc j + i = omega arith in
     rw (ne-eqb j (j + suc i) (omega arith), e, place-numbers n (suc j) i (omega arith))
-
--- ---- who is unlisted
-
-pub unlisted-not : (d : ℕ) (xs : List ℕ) (k z : ℕ) → k < length (unlisted d xs) → listed d (getD (unlisted d xs) k z) ≡ false
-unfolding unlisted keep
-unlisted-not d [] k z h = absurd (omega arith)
-unlisted-not d (x ∷ xs) k z h = go (listed d x) refl (λ k h. unlisted-not d xs k z h) k h
-  where
-    go : (b : Bool) → listed d x ≡ b → ((k : ℕ) → k < length (unlisted d xs) → listed d (getD (unlisted d xs) k z) ≡ false)
-        → (k : ℕ) → k < length (unlisted d (x ∷ xs)) → listed d (getD (unlisted d (x ∷ xs)) k z) ≡ false
-    go true e rest k h = rw e (rest k (rw e at h))
-    go false e rest zero h = rw e e
-    go false e rest (suc k) h = rw e (rest k (le-of-suc-le-suc (rw e at h)))

@@ -5,7 +5,7 @@ use Prim.Native.Nat.{ℕ, zero, suc, _+_, _-_, _≤_, _<_}
 use native.Mathlib.Nat.{le-of-suc-le-suc, sub-self, zero-add, add-suc, suc-add, add-zero}
 use native.Mathlib.Numerals.{add-one}
 use native.Mathlib.Omega.{arith}
-use lib.ListN.{length, take, set, replicate, length-map, length-append, length-replicate}
+use lib.ListN.{length, take, set, replicate, length-map}
 use lib.Seq.{set-at}
 use Rattle.ring.specs.Ring.{numbers}
 
@@ -30,7 +30,7 @@ module _ {A : Type 0} (f : ℕ → A) (z : A) (k : ℕ) where
   unfoldable pub filled : ℕ → List A
   filled j = map f (numbers 0 j) ++ replicate (k - j) z
 
-  pub filled-set : (j : ℕ) → j < k → set (filled j) j (f j) ≡ filled (j + 1)
+  filled-set : (j : ℕ) → j < k → set (filled j) j (f j) ≡ filled (j + 1)
   unfolding filled
   filled-set j h =
       let e : k - j ≡ suc (k - suc j) = omega arith in
@@ -44,10 +44,6 @@ module _ {A : Type 0} (f : ℕ → A) (z : A) (k : ℕ) where
   pub full : filled k ≡ map f (numbers 0 k)
   unfolding filled
   full = rw (sub-self, append-nil)
-
-  pub length-filled : (j : ℕ) → j ≤ k → length (filled j) ≡ k
-  unfolding filled
-  length-filled j h = rw (length-append, length-map, length-numbers, length-replicate) (omega arith)
 
 -- a list filled with its own places
 pub full-numbers : (z k : ℕ) → filled (λ j. j) z k k ≡ numbers 0 k

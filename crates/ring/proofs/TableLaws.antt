@@ -8,8 +8,9 @@ use borrow.Author.Tests.{eq-eqb, ne-eqb, lt-leb, le-leb, lt-ltb, le-ltb, leb-tru
 use lib.Dec.{leb, ltb}
 use lib.ListN.{length, replicate}
 use lib.Pow.{lt-of-le-ones}
-use Rattle.ring.specs.Limits.{mostNodes}
-use Rattle.ring.specs.Ring.{rowSize, none, outOfRange, numbers, listed, place, targets, row, tableAnswer, tableRow, tableRows}
+use Rattle.limits.specs.Limits.{mostNodes}
+use Rattle.ring.specs.Ring.{rowSize, none, numbers, listed, place, targets, row, tableAnswer, tableRow, tableRows}
+use Rattle.limits.specs.Refusals.{outOfRange}
 
 both : (a b : Bool) → (a && b) ≡ true → (a ≡ true) × (b ≡ true)
 both true true e = (refl, refl)

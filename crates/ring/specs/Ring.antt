@@ -8,7 +8,8 @@ use Prim.Native.Nat.{ℕ, zero, suc, _-_, _/_, _%_, _^_, _<_}
 use lib.Bits.{bitOr}
 use lib.Dec.{eqb, ltb, leb}
 use lib.ListN.{length, getD, take, drop, replicate}
-use Rattle.ring.specs.Limits.{mostNodes}
+use Rattle.limits.specs.Limits.{mostNodes}
+use Rattle.limits.specs.Refusals.{accepted, outOfRange}
 
 -- ---- 01's numbers
 
@@ -19,10 +20,6 @@ rowSize = 6
 -- "255 where there is none"
 abbrev pub none : ℕ
 none = 255
-
--- the refusal of a number outside its range
-abbrev pub outOfRange : ℕ
-outOfRange = 3
 
 -- ---- lists
 
@@ -115,7 +112,7 @@ tableRow order d i = row (cond (ltb i (length order) && not (listed d i)) (targe
 
 -- "N outside 1 to 64, or a list with a bit from N on, is refused by 3"
 unfoldable pub tableAnswer : ℕ → ℕ → ℕ
-tableAnswer n d = cond (leb 1 n && leb n mostNodes && ltb d (2 ^ n)) 0 outOfRange
+tableAnswer n d = cond (leb 1 n && leb n mostNodes && ltb d (2 ^ n)) accepted outOfRange
 
 -- "64 rows" in number order; of a refused table, all are empty
 unfoldable pub tableRows : ℕ → ℕ → List (List ℕ)

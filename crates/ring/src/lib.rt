@@ -1,13 +1,12 @@
 // Dead lists, the ring in any order, forward targets and the forwarding table. The ring is lent as its order, node numbers
 // from the first place to the last; a place is an index of it.
+use limits::MOST_NODES;
 ghost use mathlib.Core.Path.{_≡_};
 ghost use Prim.Native.Nat.{_-_, _^_, _<_, _≤_};
 ghost use lib.ListN.{length, getD};
-ghost use Rattle.ring.specs.Limits.{mostNodes};
-ghost use Rattle.ring.specs.Ring.{numbers, listed, listing, unlistedSet, place, round, ahead, back, next, count, jumps, targets, row, tableAnswer, tableRow, tableRows};
-
-// The most nodes that a ring has: the bits of a dead list, and the rows of a forwarding table.
-pub const MOST_NODES: usize = 64;
+ghost use Rattle.limits.specs.Limits.{mostNodes};
+ghost use Rattle.ring.specs.Ring.{numbers, listed, listing, unlistedSet, place, round, ahead, back, next, count, jumps, targets, row, tableAnswer};
+ghost use Rattle.ring.specs.Ring.{tableRow, tableRows};
 
 // The targets in a row.
 pub const ROW_SIZE: usize = 6;
@@ -15,8 +14,8 @@ pub const ROW_SIZE: usize = 6;
 // The target where there is none.
 pub const NONE: u8 = 255;
 
-// The refusal of a number outside its range.
-pub const OUT_OF_RANGE: u8 = 3;
+// The refusal of a number outside its range, as a table has it.
+const OUT_OF_RANGE: u8 = limits::OUT_OF_RANGE as u8;
 
 // The forwarding table, with the number of its answer: 0, or 3 where it is refused.
 pub struct Table {

@@ -10,10 +10,10 @@ use lib.ListN.{length, getD}
 use borrow.Author.Tests.{ne-eqb}
 use Rattle.text.specs.declared.Number.{Number}
 use Rattle.text.specs.declared.Number.the-variants.{Value, NoNumber}
-use Rattle.text.specs.Field.{fieldAt, ends}
-use Rattle.runfile.specs.Plan.{Plan}
-use Rattle.runfile.specs.File.{Row, start, opening, fieldThen, pairOf, startOf, crashOf, delayOf, formOf, rowOf, firstLine, laterLine, stop}
-use Rattle.runfile.specs.Reader.{lineOf}
+use Rattle.text.specs.Field.{ends, numberFieldAt}
+use Rattle.plans.specs.Plan.{Plan, startPlan}
+use Rattle.runfile.specs.File.{Row, start, fieldThen, pairOf, startOf, crashOf, delayOf, formOf, rowOf, firstLine, laterLine, stop}
+use Rattle.runfile.specs.Reader.{lineAnswer}
 use Rattle.runfile.specs.declared.Line.the-variants.{Stop}
 
 -- ---- the letter
@@ -50,16 +50,16 @@ module _ (l : List ℕ) where
 -- ---- two numbers
 
 module _ (row : ℕ → ℕ → Row) (l : List ℕ) where
-  pub pair-none-1 : fieldAt l 1 ≡ NoNumber → pairOf row l ≡ none
+  pub pair-none-1 : numberFieldAt l 1 ≡ NoNumber → pairOf row l ≡ none
   unfolding pairOf fieldThen
   pair-none-1 e = rw e
 
-  module _ (a i : ℕ) (f : fieldAt l 1 ≡ Value a i) where
-    pub pair-none-2 : fieldAt l i ≡ NoNumber → pairOf row l ≡ none
+  module _ (a i : ℕ) (f : numberFieldAt l 1 ≡ Value a i) where
+    pub pair-none-2 : numberFieldAt l i ≡ NoNumber → pairOf row l ≡ none
     unfolding pairOf fieldThen
     pair-none-2 e = rw (f, e)
 
-    module _ (b j : ℕ) (g : fieldAt l i ≡ Value b j) where
+    module _ (b j : ℕ) (g : numberFieldAt l i ≡ Value b j) where
       pub pair-none : ends l j ≡ false → pairOf row l ≡ none
       unfolding pairOf fieldThen
       pair-none e = rw (f, g, e)
@@ -71,54 +71,54 @@ module _ (row : ℕ → ℕ → Row) (l : List ℕ) where
 -- ---- five numbers
 
 module _ (l : List ℕ) where
-  pub start-none-1 : fieldAt l 1 ≡ NoNumber → startOf l ≡ none
+  pub start-none-1 : numberFieldAt l 1 ≡ NoNumber → startOf l ≡ none
   unfolding startOf fieldThen
   start-none-1 e = rw e
 
-  module _ (n i : ℕ) (fn : fieldAt l 1 ≡ Value n i) where
-    pub start-none-2 : fieldAt l i ≡ NoNumber → startOf l ≡ none
+  module _ (n i : ℕ) (fn : numberFieldAt l 1 ≡ Value n i) where
+    pub start-none-2 : numberFieldAt l i ≡ NoNumber → startOf l ≡ none
     unfolding startOf fieldThen
     start-none-2 e = rw (fn, e)
 
-    module _ (h j : ℕ) (fh : fieldAt l i ≡ Value h j) where
-      pub start-none-3 : fieldAt l j ≡ NoNumber → startOf l ≡ none
+    module _ (h j : ℕ) (fh : numberFieldAt l i ≡ Value h j) where
+      pub start-none-3 : numberFieldAt l j ≡ NoNumber → startOf l ≡ none
       unfolding startOf fieldThen
       start-none-3 e = rw (fn, fh, e)
 
-      module _ (w k : ℕ) (fw : fieldAt l j ≡ Value w k) where
-        pub start-none-4 : fieldAt l k ≡ NoNumber → startOf l ≡ none
+      module _ (w k : ℕ) (fw : numberFieldAt l j ≡ Value w k) where
+        pub start-none-4 : numberFieldAt l k ≡ NoNumber → startOf l ≡ none
         unfolding startOf fieldThen
         start-none-4 e = rw (fn, fh, fw, e)
 
-        module _ (d m : ℕ) (fd : fieldAt l k ≡ Value d m) where
-          pub start-none-5 : fieldAt l m ≡ NoNumber → startOf l ≡ none
+        module _ (d m : ℕ) (fd : numberFieldAt l k ≡ Value d m) where
+          pub start-none-5 : numberFieldAt l m ≡ NoNumber → startOf l ≡ none
           unfolding startOf fieldThen
           start-none-5 e = rw (fn, fh, fw, fd, e)
 
-          module _ (end z : ℕ) (fe : fieldAt l m ≡ Value end z) where
+          module _ (end z : ℕ) (fe : numberFieldAt l m ≡ Value end z) where
             pub start-none : ends l z ≡ false → startOf l ≡ none
             unfolding startOf fieldThen
             start-none e = rw (fn, fh, fw, fd, fe, e)
 
-            pub start-some : ends l z ≡ true → startOf l ≡ some (start (opening n h w d end))
+            pub start-some : ends l z ≡ true → startOf l ≡ some (start (startPlan n h w d end))
             unfolding startOf fieldThen
             start-some e = rw (fn, fh, fw, fd, fe, e)
 
 -- ---- what a line of bad form, or of the wrong letter, comes to
 
 module _ (x : Option Row) where
-  pub first-none : x ≡ none → Stop 2 ≡ lineOf (firstLine x)
-  unfolding firstLine lineOf
+  pub first-none : x ≡ none → Stop 2 ≡ lineAnswer (firstLine x)
+  unfolding firstLine lineAnswer
   first-none e = rw e
 
-  pub later-none : (p : Plan) → x ≡ none → Stop 2 ≡ lineOf (laterLine p x)
-  unfolding laterLine lineOf
+  pub later-none : (p : Plan) → x ≡ none → Stop 2 ≡ lineAnswer (laterLine p x)
+  unfolding laterLine lineAnswer
   later-none p e = rw e
 
 -- two numbers make no P line, and five no other line
 pair-first : (row : ℕ → ℕ → Row) (l : List ℕ) → ((a b : ℕ) → firstLine (some (row a b)) ≡ stop 2) → firstLine (pairOf row l) ≡ stop 2
 unfolding pairOf firstLine fieldThen
-pair-first row l h = field (fieldAt l 1) _ λ a i. field (fieldAt l i) _ λ b j. end (ends l j) a b
+pair-first row l h = field (numberFieldAt l 1) _ λ a i. field (numberFieldAt l i) _ λ b j. end (ends l j) a b
   where
     field : (x : Number) (f : ℕ → ℕ → Option Row) → ((v j : ℕ) → firstLine (f v j) ≡ stop 2) → firstLine (fieldThen x f) ≡ stop 2
     field (Value v j) f h = h v j
@@ -131,12 +131,12 @@ pair-first row l h = field (fieldAt l 1) _ λ a i. field (fieldAt l i) _ λ b j.
 start-later : (l : List ℕ) (p : Plan) → laterLine p (startOf l) ≡ stop 2
 unfolding startOf laterLine fieldThen
 start-later l p =
-    field (fieldAt l 1) _ λ n i.
-    field (fieldAt l i) _ λ h j.
-    field (fieldAt l j) _ λ w k.
-    field (fieldAt l k) _ λ d m.
-    field (fieldAt l m) _ λ e z.
-    end (ends l z) (opening n h w d e)
+    field (numberFieldAt l 1) _ λ n i.
+    field (numberFieldAt l i) _ λ h j.
+    field (numberFieldAt l j) _ λ w k.
+    field (numberFieldAt l k) _ λ d m.
+    field (numberFieldAt l m) _ λ e z.
+    end (ends l z) (startPlan n h w d e)
   where
     field : (x : Number) (f : ℕ → ℕ → Option Row) → ((v j : ℕ) → laterLine p (f v j) ≡ stop 2) → laterLine p (fieldThen x f) ≡ stop 2
     field (Value v j) f h = h v j
@@ -147,11 +147,11 @@ start-later l p =
     end false q = refl
 
 -- a first line that is no P line
-pub first-other : (l : List ℕ) → (length l ≡ 0 → ⊥) → (getD l 0 0 ≡ 80 → ⊥) → Stop 2 ≡ lineOf (firstLine (rowOf l))
-unfolding formOf crashOf delayOf firstLine lineOf
+pub first-other : (l : List ℕ) → (length l ≡ 0 → ⊥) → (getD l 0 0 ≡ 80 → ⊥) → Stop 2 ≡ lineAnswer (firstLine (rowOf l))
+unfolding formOf crashOf delayOf firstLine lineAnswer
 first-other l h e =
-    let refused : firstLine (rowOf l) ≡ stop 2 = rw (row-letter l h, ne-eqb _ _ e) (by (eqb (getD l 0 0) 67) (eqb (getD l 0 0) 76)) in
-    sym (ap lineOf refused)
+    let turnedDown : firstLine (rowOf l) ≡ stop 2 = rw (row-letter l h, ne-eqb _ _ e) (by (eqb (getD l 0 0) 67) (eqb (getD l 0 0) 76)) in
+    sym (ap lineAnswer turnedDown)
   where
     by : (a b : Bool) → firstLine (cond a (crashOf l) (cond b (delayOf l) none)) ≡ stop 2
     by true b = pair-first _ l (λ t k. refl)
@@ -159,11 +159,12 @@ first-other l h e =
     by false false = refl
 
 -- a later line that is neither a C nor an L line
-pub later-other : (l : List ℕ) (p : Plan) → (length l ≡ 0 → ⊥) → (getD l 0 0 ≡ 67 → ⊥) → (getD l 0 0 ≡ 76 → ⊥) → Stop 2 ≡ lineOf (laterLine p (rowOf l))
-unfolding formOf laterLine lineOf
+pub later-other : (l : List ℕ) (p : Plan) → (length l ≡ 0 → ⊥) → (getD l 0 0 ≡ 67 → ⊥) → (getD l 0 0 ≡ 76 → ⊥)
+    → Stop 2 ≡ lineAnswer (laterLine p (rowOf l))
+unfolding formOf laterLine lineAnswer
 later-other l p h c d =
-    let refused : laterLine p (rowOf l) ≡ stop 2 = rw (row-letter l h, ne-eqb _ _ c, ne-eqb _ _ d) (by (eqb (getD l 0 0) 80)) in
-    sym (ap lineOf refused)
+    let turnedDown : laterLine p (rowOf l) ≡ stop 2 = rw (row-letter l h, ne-eqb _ _ c, ne-eqb _ _ d) (by (eqb (getD l 0 0) 80)) in
+    sym (ap lineAnswer turnedDown)
   where
     by : (a : Bool) → laterLine p (cond a (startOf l) none) ≡ stop 2
     by true = start-later l p

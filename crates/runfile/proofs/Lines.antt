@@ -9,8 +9,9 @@ use lib.Seq.{drop-drop}
 use lib.Dec.{eqb}
 use borrow.Author.Tests.{eq-eqb, ne-eqb}
 use Rattle.text.proofs.PutLaws.{drop-next}
-use Rattle.runfile.specs.Plan.{Plan}
-use Rattle.runfile.specs.File.{accepted, onto, lines, rowOf, firstLine, laterLine, stepThen, laterLines, allLines}
+use Rattle.plans.specs.Plan.{Plan}
+use Rattle.text.specs.Field.{onto}
+use Rattle.runfile.specs.File.{accepted, lines, rowOf, firstLine, laterLine, stepThen, laterLines, allLines}
 use Rattle.runfile.specs.Reader.{lineLength}
 
 -- the first line of s, and the lines after it
@@ -25,7 +26,8 @@ first-line (b ∷ s) h = by (eqb b 10) s (λ k. first-line s k)
     more (x ∷ s) ih = rw (ih (omega arith))
 
     by : (t : Bool) (s : List ℕ) → (0 < length s → lines s ≡ take (lineLength s) s ∷ lines (drop (lineLength s) s))
-        → cond t ((b ∷ []) ∷ lines s) (onto b (lines s)) ≡ take (cond t 1 (1 + lineLength s)) (b ∷ s) ∷ lines (drop (cond t 1 (1 + lineLength s)) (b ∷ s))
+        → cond t ((b ∷ []) ∷ lines s) (onto b (lines s))
+        ≡ take (cond t 1 (1 + lineLength s)) (b ∷ s) ∷ lines (drop (cond t 1 (1 + lineLength s)) (b ∷ s))
     by true s ih = refl
     by false s ih = let e : 1 + lineLength s ≡ suc (lineLength s) = omega arith in rw e (more s ih)
 
@@ -66,7 +68,8 @@ file-first s e h p = let z : 0 + lineLength s ≡ lineLength s = omega arith in 
 
 -- a later line, from the place `at` up to the place e
 pub file-later : (s : List ℕ) (at e : ℕ) (p : Plan) (line : ℕ) → at < length s → e ≡ at + lineLength (drop at s)
-    → laterLines p line (lines (drop at s)) ≡ stepThen (laterLine p (rowOf (take (e - at) (drop at s)))) line (λ q. laterLines q (line + 1) (lines (drop e s)))
+    → laterLines p line (lines (drop at s))
+    ≡ stepThen (laterLine p (rowOf (take (e - at) (drop at s)))) line (λ q. laterLines q (line + 1) (lines (drop e s)))
 unfolding laterLines
 file-later s at e p line h q =
     let k : e - at ≡ lineLength (drop at s) = omega arith in

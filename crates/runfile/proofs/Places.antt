@@ -9,13 +9,14 @@ use lib.ListN.{length, take, drop, getD, length-append, length-drop, drop-of-len
 use lib.Seq.{take-suc, split-at, drop-append-add, take-length}
 use Rattle.text.specs.declared.Number.the-variants.{Value, NoNumber}
 use Rattle.text.specs.Number.{digit, ceiling, digitsFrom, numberFrom}
-use Rattle.text.specs.Field.{field, fieldFrom, fieldAt}
-use Rattle.runfile.specs.Plan.{Crash, Delay, Plan, crashRange, delayRange, every, planTest, fieldsText, lineText, startText, crashText, delayText, rowsText, planText}
+use Rattle.text.specs.Field.{field, fieldFrom, numberFieldAt}
+use Rattle.plans.specs.Plan.{Crash, Delay, Plan, crashRange, delayRange, planTest}
+use Rattle.runfile.specs.Text.{fieldsText, lineText, startText, crashText, delayText, rowsText, planText}
 use Rattle.runfile.specs.File.{accepted, fileOf}
-use Rattle.runfile.specs.Reader.{rowThen, rowAt, crashPlace, delayPlace}
-use Rattle.runfile.proofs.Grown.{tests-of, crash-small, delay-small, ranges-good}
+use Rattle.runfile.specs.Reader.{rowThen, fieldsAt, crashPlace, delayPlace}
+use Rattle.plans.proofs.Tests.{tests-of, crash-small, delay-small, ranges-good}
 use Rattle.runfile.proofs.Written.{field-next, field-last}
-use Rattle.runfile.proofs.Order.{every-there}
+use Rattle.plans.proofs.Rows.{every-at}
 use Rattle.runfile.proofs.RoundTrip.{rows-append, rows-snoc, written-back, accepted-plan}
 use Rattle.runfile.proofs.Size.{pair-size}
 
@@ -34,7 +35,8 @@ number-within : (i : ℕ) (s : List ℕ) (v j : ℕ) → numberFrom i s ≡ Valu
 number-within i [] v j e = let z : _≡_ {A = ℕ} 0 1 = cc in absurd (omega arith)
 number-within i (b ∷ s) v j e = by (eqb b 48) (digit b) e
   where
-    by : (x y : Bool) → cond x (Value 0 (i + 1)) (cond y (cond y (digitsFrom (0 * 10 + (b - 48)) (i + 1) s) (Value (min 0 ceiling) i)) NoNumber) ≡ Value v j → j ≤ i + suc (length s)
+    by : (x y : Bool) → cond x (Value 0 (i + 1)) (cond y (cond y (digitsFrom (0 * 10 + (b - 48)) (i + 1) s) (Value (min 0 ceiling) i)) NoNumber) ≡ Value v j
+        → j ≤ i + suc (length s)
     by true y e = let q : i + 1 ≡ j = cc in omega arith
     by false true e = omega (arith, digits-within (0 * 10 + (b - 48)) (i + 1) s v j e)
     by false false e = let z : _≡_ {A = ℕ} 0 1 = cc in absurd (omega arith)
@@ -47,40 +49,39 @@ field-from-within i (b ∷ s) v j e = by (eqb b 44) e
     by true e = (omega arith, omega (arith, number-within (i + 1) s v j e))
     by false e = let z : _≡_ {A = ℕ} 0 1 = cc in absurd (omega arith)
 
-pub field-within : (s : List ℕ) (at v j : ℕ) → fieldAt s at ≡ Value v j → j ≤ length s
-unfolding fieldAt
+pub field-within : (s : List ℕ) (at v j : ℕ) → numberFieldAt s at ≡ Value v j → j ≤ length s
+unfolding numberFieldAt
 field-within s at v j e = let w = field-from-within at (drop at s) v j e in omega (arith, w .0, w .1, length-drop at s)
 
 -- ---- a row at its place
 
 module _ (s : List ℕ) (at : ℕ) where
-  pub no-row : length s ≤ at → rowAt s at ≡ record { first = 0; second = 0; next = at }
-  unfolding rowAt rowThen fieldAt
+  pub no-row : length s ≤ at → fieldsAt s at ≡ record { first = 0; second = 0; next = at }
+  unfolding fieldsAt rowThen numberFieldAt
   no-row h = let past : length s ≤ at + 1 = omega arith in rw (drop-of-length-le s past)
 
-  pub no-first : fieldAt s (at + 1) ≡ NoNumber → rowAt s at ≡ record { first = 0; second = 0; next = at }
-  unfolding rowAt rowThen
+  pub no-first : numberFieldAt s (at + 1) ≡ NoNumber → fieldsAt s at ≡ record { first = 0; second = 0; next = at }
+  unfolding fieldsAt rowThen
   no-first e = rw e
 
-  module _ (a i : ℕ) (f : fieldAt s (at + 1) ≡ Value a i) where
-    pub no-second : fieldAt s i ≡ NoNumber → rowAt s at ≡ record { first = 0; second = 0; next = at }
-    unfolding rowAt rowThen
+  module _ (a i : ℕ) (f : numberFieldAt s (at + 1) ≡ Value a i) where
+    pub no-second : numberFieldAt s i ≡ NoNumber → fieldsAt s at ≡ record { first = 0; second = 0; next = at }
+    unfolding fieldsAt rowThen
     no-second e = rw (f, e)
 
-    pub row-there : (b j : ℕ) → fieldAt s i ≡ Value b j → rowAt s at ≡ record { first = a; second = b; next = j + 1 }
-    unfolding rowAt rowThen
+    pub row-there : (b j : ℕ) → numberFieldAt s i ≡ Value b j → fieldsAt s at ≡ record { first = a; second = b; next = j + 1 }
+    unfolding fieldsAt rowThen
     row-there b j e = rw (f, e)
 
-rows-cut : {A : Type 0} (text : A → List ℕ) (xs : List A) (r : A) (ys : List A) → rowsText text (xs ++ (r ∷ ys)) ≡ rowsText text xs ++ (text r ++ rowsText text ys)
+rows-cut : {A : Type 0} (text : A → List ℕ) (xs : List A) (r : A) (ys : List A)
+    → rowsText text (xs ++ (r ∷ ys)) ≡ rowsText text xs ++ (text r ++ rowsText text ys)
 unfolding rowsText
 rows-cut text xs r ys = rows-append text xs (r ∷ ys)
 
-every-at : {A : Type 0} (test : A → Bool) (xs : List A) (i : ℕ) (z : A) → i < length xs → every test xs ≡ true → test (getD xs i z) ≡ true
-every-at test xs i z h e = every-there test (take i xs) (getD xs i z) (drop (suc i) xs) (ap (every test) (sym (split-at xs i z h)) ∙ e)
-
 -- a written row, with what stands before and after it, is read at its place
 row-read : (before : List ℕ) (letter a b : ℕ) (rest : List ℕ) → a < ceiling → b < ceiling
-    → rowAt (before ++ (lineText letter (a ∷ b ∷ []) ++ rest)) (length before) ≡ record { first = a; second = b; next = length (before ++ lineText letter (a ∷ b ∷ [])) }
+    → fieldsAt (before ++ (lineText letter (a ∷ b ∷ []) ++ rest)) (length before)
+    ≡ record { first = a; second = b; next = length (before ++ lineText letter (a ∷ b ∷ [])) }
 unfolding lineText
 row-read before letter a b rest ha hb =
     let s : List ℕ = before ++ (lineText letter (a ∷ b ∷ []) ++ rest) in
@@ -88,7 +89,8 @@ row-read before letter a b rest ha hb =
     let x = field-next s (length before + 1) a b [] rest there ha in
     let y = field-last s (length before + 1 + length (field a)) b rest (x .1) hb in
     row-there s (length before) a _ (x .0) b _ (y .0)
-    ∙ ap (λ (k : ℕ). record { first = a; second = b; next = k }) (omega (arith, length-append before (lineText letter (a ∷ b ∷ [])), pair-size letter a b))
+    ∙ ap (λ (k : ℕ). record { first = a; second = b; next = k })
+    (omega (arith, length-append before (lineText letter (a ∷ b ∷ [])), pair-size letter a b))
 
 -- ---- places
 
@@ -114,8 +116,10 @@ module _ (p : Plan) where
         ++ (crashText (getD (p .crashes) i z) ++ (rowsText crashText (drop (suc i) (p .crashes)) ++ rowsText delayText (p .delays)))
     unfolding planText
     crash-parts =
-        let rows : rowsText crashText (p .crashes) ≡ rowsText crashText (take i (p .crashes)) ++ (crashText (getD (p .crashes) i z) ++ rowsText crashText (drop (suc i) (p .crashes))) =
-        ap (rowsText crashText) (split-at (p .crashes) i z h) ∙ rows-cut crashText (take i (p .crashes)) (getD (p .crashes) i z) (drop (suc i) (p .crashes)) in
+        let rows : rowsText crashText (p .crashes)
+        ≡ rowsText crashText (take i (p .crashes)) ++ (crashText (getD (p .crashes) i z) ++ rowsText crashText (drop (suc i) (p .crashes))) =
+        ap (rowsText crashText) (split-at (p .crashes) i z h)
+        ∙ rows-cut crashText (take i (p .crashes)) (getD (p .crashes) i z) (drop (suc i) (p .crashes)) in
         ap (λ (t : List ℕ). startText p ++ (t ++ rowsText delayText (p .delays))) rows ∙ simp append-assoc
 
   module _ (z : Delay) (i : ℕ) (h : i < length (p .delays)) where
@@ -129,7 +133,8 @@ module _ (p : Plan) where
         ++ (delayText (getD (p .delays) i z) ++ rowsText delayText (drop (suc i) (p .delays)))
     unfolding planText
     delay-parts =
-        let rows : rowsText delayText (p .delays) ≡ rowsText delayText (take i (p .delays)) ++ (delayText (getD (p .delays) i z) ++ rowsText delayText (drop (suc i) (p .delays))) =
+        let rows : rowsText delayText (p .delays)
+        ≡ rowsText delayText (take i (p .delays)) ++ (delayText (getD (p .delays) i z) ++ rowsText delayText (drop (suc i) (p .delays))) =
         ap (rowsText delayText) (split-at (p .delays) i z h) ∙ rows-cut delayText (take i (p .delays)) (getD (p .delays) i z) (drop (suc i) (p .delays)) in
         ap (λ (t : List ℕ). startText p ++ (rowsText crashText (p .crashes) ++ t)) rows ∙ simp append-assoc
 
@@ -137,17 +142,17 @@ module _ (p : Plan) where
 
 module _ (p : Plan) (g : planTest p ≡ true) where
   pub crash-in-range : (z : Crash) (i : ℕ) → i < length (p .crashes) → crashRange p (getD (p .crashes) i z) ≡ true
-  crash-in-range z i h = every-at (crashRange p) (p .crashes) i z h (tests-of p g .crashes)
+  crash-in-range z i h = every-at (crashRange p) (p .crashes) i z (tests-of p g .crashes) h
 
   pub delay-in-range : (z : Delay) (i : ℕ) → i < length (p .delays) → delayRange p (getD (p .delays) i z) ≡ true
-  delay-in-range z i h = every-at (delayRange p) (p .delays) i z h (tests-of p g .delays)
+  delay-in-range z i h = every-at (delayRange p) (p .delays) i z (tests-of p g .delays) h
 
 -- ---- the rows of an accepted file
 
 module _ (s : List ℕ) (p : Plan) (e : fileOf s ≡ accepted p) where
   -- at the place of crash row i stands its line, and after it the place of the next row
   pub crash-at : (z : Crash) (i : ℕ) → i < length (p .crashes)
-      → rowAt s (crashPlace p i) ≡ record { first = getD (p .crashes) i z .tick; second = getD (p .crashes) i z .node; next = crashPlace p (suc i) }
+      → fieldsAt s (crashPlace p i) ≡ record { first = getD (p .crashes) i z .tick; second = getD (p .crashes) i z .node; next = crashPlace p (suc i) }
   unfolding crashPlace crashText
   crash-at z i h =
       let g = accepted-plan s p e in
@@ -156,12 +161,12 @@ module _ (s : List ℕ) (p : Plan) (e : fileOf s ≡ accepted p) where
       let before : List ℕ = startText p ++ rowsText crashText (take i (p .crashes)) in
       let rest : List ℕ = rowsText crashText (drop (suc i) (p .crashes)) ++ rowsText delayText (p .delays) in
       let text : s ≡ before ++ (crashText r ++ rest) = sym (written-back s p e) ∙ crash-parts p z i h in
-      ap (λ (t : List ℕ). rowAt t (length before)) text
+      ap (λ (t : List ℕ). fieldsAt t (length before)) text
       ∙ row-read before 67 (r .tick) (r .node) rest (omega (arith, small .0)) (omega (arith, small .1))
       ∙ ap (λ (k : ℕ). record { first = r .tick; second = r .node; next = k }) (length-append before (crashText r) ∙ sym (crash-place-next p z i h))
 
   pub delay-at : (z : Delay) (i : ℕ) → i < length (p .delays)
-      → rowAt s (delayPlace p i) ≡ record { first = getD (p .delays) i z .number; second = getD (p .delays) i z .delay; next = delayPlace p (suc i) }
+      → fieldsAt s (delayPlace p i) ≡ record { first = getD (p .delays) i z .number; second = getD (p .delays) i z .delay; next = delayPlace p (suc i) }
   unfolding delayPlace delayText
   delay-at z i h =
       let g = accepted-plan s p e in
@@ -170,6 +175,6 @@ module _ (s : List ℕ) (p : Plan) (e : fileOf s ≡ accepted p) where
       let before : List ℕ = startText p ++ (rowsText crashText (p .crashes) ++ rowsText delayText (take i (p .delays))) in
       let rest : List ℕ = rowsText delayText (drop (suc i) (p .delays)) in
       let text : s ≡ before ++ (delayText r ++ rest) = sym (written-back s p e) ∙ delay-parts p z i h in
-      ap (λ (t : List ℕ). rowAt t (length before)) text
+      ap (λ (t : List ℕ). fieldsAt t (length before)) text
       ∙ row-read before 76 (r .number) (r .delay) rest (omega (arith, small .0)) (omega (arith, small .1))
       ∙ ap (λ (k : ℕ). record { first = r .number; second = r .delay; next = k }) (length-append before (delayText r) ∙ sym (delay-place-next p z i h))

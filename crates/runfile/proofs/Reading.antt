@@ -5,25 +5,27 @@ use mathlib.Core.Path.{_≡_, refl, sym, ap, _∙_}
 use mathlib.Core.List.{List}
 use lib.ListN.{length, take, drop, length-take}
 use borrow.Author.Tests.{le-leb, lt-leb}
-use Rattle.runfile.specs.Plan.{Plan, startRanges, startTest, startText, within}
+use Rattle.plans.specs.Plan.{Plan, startRanges, startTest, within}
+use Rattle.runfile.specs.Text.{startText}
 use Rattle.runfile.specs.File.{Step, next, stop, lines, rowOf, firstLine, laterLine, stepThen, laterLines, allLines, fileOf}
-use Rattle.runfile.specs.Reader.{outlineOf, readOf, sofarOf, Kept, lineOf, Passed, lineLength}
+use Rattle.runfile.specs.Reader.{outlineOf, readOf, sofarOf, Kept, lineAnswer, Passed, lineLength}
 use Rattle.runfile.specs.declared.Read.the-variants.{Accepted, Refused}
 use Rattle.runfile.specs.declared.Sofar.{Sofar}
 use Rattle.runfile.specs.declared.Line.the-variants.{Next, Stop}
-use Rattle.runfile.proofs.Order.{and-first}
+use mathlib.Mathlib.Data.Bool.Basic.{and-elim-left}
 use Rattle.runfile.proofs.Lines.{file-first, file-later, file-end, line-grows}
 use Rattle.runfile.proofs.Trip.{start-rows}
-use Rattle.runfile.proofs.Grown.{first-inv, ranges-of, opened-text, opened-good, later-inv, tests-of, grown-good, grown-start, grown-crashes}
+use Rattle.runfile.proofs.Grown.{first-inv, opened-text, opened-good, later-inv, grown-good, grown-start, grown-crashes}
+use Rattle.plans.proofs.Tests.{ranges-of, tests-of}
 
 -- what a step's answer says of the step
-next-inv : (x : Step) (st : Sofar) → Next st ≡ lineOf x → (q : Plan) × (x ≡ next q) × (st ≡ sofarOf q)
-unfolding lineOf
+next-inv : (x : Step) (st : Sofar) → Next st ≡ lineAnswer x → (q : Plan) × (x ≡ next q) × (st ≡ sofarOf q)
+unfolding lineAnswer
 next-inv (next q) st e = (q, refl, cc)
 next-inv (stop k) st e = let z : _≡_ {A = ℕ} 0 1 = cc in absurd (omega arith)
 
-stop-inv : (x : Step) (k : ℕ) → Stop k ≡ lineOf x → x ≡ stop k
-unfolding lineOf
+stop-inv : (x : Step) (k : ℕ) → Stop k ≡ lineAnswer x → x ≡ stop k
+unfolding lineAnswer
 stop-inv (next q) k e = let z : _≡_ {A = ℕ} 0 1 = cc in absurd (omega arith)
 stop-inv (stop m) k e = let same : k ≡ m = cc in ap stop (sym same)
 
@@ -31,13 +33,13 @@ stop-inv (stop m) k e = let same : k ≡ m = cc in ap stop (sym same)
 pub kept-n : (p : Plan) (st : Sofar) → Kept p st → (1 ≤ st .n) × (st .n ≤ 64)
 unfolding startTest sofarOf
 kept-n p st k =
-    let r = ranges-of p (and-first (startRanges p) _ (tests-of p (k .good) .start)) in
+    let r = ranges-of p (and-elim-left (startRanges p) _ (tests-of p (k .good) .start)) in
     let same : st .n ≡ p .n = ap (λ (s : Sofar). s .n) (k .same) in
     (omega (arith, r .n-low), omega (arith, r .n-high))
 
 module _ (s : List ℕ) (e : ℕ) (some : 0 < length s) (is : e ≡ 0 + lineLength (drop 0 s)) (here : e ≤ length s) where
   -- the P line was passed
-  pub passed-first : (st : Sofar) → Next st ≡ lineOf (firstLine (rowOf (take e s))) → Passed s e st 2 e
+  pub passed-first : (st : Sofar) → Next st ≡ lineAnswer (firstLine (rowOf (take e s))) → Passed s e st 2 e
   unfolding stepThen sofarOf startText
   passed-first st a =
       let w = next-inv (firstLine (rowOf (take e s))) st a in
@@ -55,15 +57,17 @@ module _ (s : List ℕ) (e : ℕ) (some : 0 < length s) (is : e ≡ 0 + lineLeng
         here = here;
       }
 
-  pub first-stop : (k : ℕ) → Stop k ≡ lineOf (firstLine (rowOf (take e s))) → Refused k 1 ≡ readOf (allLines (lines s))
+  pub first-stop : (k : ℕ) → Stop k ≡ lineAnswer (firstLine (rowOf (take e s))) → Refused k 1 ≡ readOf (allLines (lines s))
   unfolding stepThen readOf
   first-stop k a =
-      sym (ap readOf (file-first s e some is ∙ ap (λ (x : Step). stepThen x 1 (λ p. laterLines p 2 (lines (drop e s)))) (stop-inv (firstLine (rowOf (take e s))) k a)))
+      let stopped = stop-inv (firstLine (rowOf (take e s))) k a in
+      sym (ap readOf (file-first s e some is ∙ ap (λ (x : Step). stepThen x 1 (λ p. laterLines p 2 (lines (drop e s)))) stopped))
 
 module _ (s : List ℕ) (rows : ℕ) (st : Sofar) (line at : ℕ) (p : Passed s rows st line at) where
   -- every line was passed
   pub passed-end : length s ≤ at
-      → Accepted (record { n = st .n; h = st .h; w = st .w; d = st .d; end = st .end; crashes = st .crashes; delays = st .delays; rows = rows }) ≡ readOf (allLines (lines s))
+      → Accepted (record { n = st .n; h = st .h; w = st .w; d = st .d; end = st .end; crashes = st .crashes; delays = st .delays; rows = rows })
+      ≡ readOf (allLines (lines s))
   unfolding readOf outlineOf sofarOf
   passed-end h = rw (p .file ∙ file-end s at (p .plan) line h, p .kept .same, p .first)
 
@@ -74,12 +78,12 @@ module _ (s : List ℕ) (rows : ℕ) (st : Sofar) (line at : ℕ) (p : Passed s 
     file-step : allLines (lines s) ≡ stepThen step line (λ q. laterLines q (line + 1) (lines (drop e s)))
     file-step = p .file ∙ file-later s at e (p .plan) line more is
 
-    pub passed-stop : (k : ℕ) → Stop k ≡ lineOf step → Refused k line ≡ readOf (allLines (lines s))
+    pub passed-stop : (k : ℕ) → Stop k ≡ lineAnswer step → Refused k line ≡ readOf (allLines (lines s))
     unfolding stepThen readOf
     passed-stop k a = sym (ap readOf (file-step ∙ ap (λ (x : Step). stepThen x line (λ q. laterLines q (line + 1) (lines (drop e s)))) (stop-inv step k a)))
 
     -- one line more was passed
-    pub passed-next : (new : Sofar) → Next new ≡ lineOf step → Passed s rows new (line + 1) e
+    pub passed-next : (new : Sofar) → Next new ≡ lineAnswer step → Passed s rows new (line + 1) e
     unfolding stepThen sofarOf
     passed-next new a =
         let w = next-inv step new a in

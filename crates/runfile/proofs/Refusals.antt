@@ -8,14 +8,15 @@ use mathlib.Core.Option.{Option, none, some}
 use lib.Dec.{eqb, leb}
 use lib.ListN.{length}
 use borrow.Author.Tests.{leb-true}
-use Rattle.runfile.specs.Plan.{Plan, within, startRanges, longEnough, crashRange, delayRange, crashOrder, delayOrder, fewDelays}
-use Rattle.runfile.specs.File.{Answer, accepted, refused, onto, lines, Row, start, crash, delay, rowOf, Step, next, stop, orElse, stepThen}
-use Rattle.runfile.specs.File.{withCrash, withDelay, startLine, early, crashLine, delayLine, firstLine, laterLine, laterLines, allLines, fileOf}
-use Rattle.runfile.proofs.Order.{and-second}
+use Rattle.plans.specs.Plan.{Plan, within, startRanges, longEnough, crashRange, delayRange, crashOrder, delayOrder, fewDelays, withCrash, withDelay}
+use Rattle.text.specs.Field.{onto}
+use Rattle.runfile.specs.File.{FileAnswer, accepted, turnedDown, lines, Row, start, crash, delay, rowOf, Step, next, stop, orElse, stepThen}
+use Rattle.runfile.specs.File.{startLine, early, crashLine, delayLine, firstLine, laterLine, laterLines, allLines, fileOf}
+use mathlib.Mathlib.Data.Bool.Basic.{and-elim-right}
 
 -- ---- the number
 
--- a line is refused by 1 to 6
+-- a line is turnedDown by 1 to 6
 unfoldable Numbered : Step → Type 0
 Numbered (next p) = Unit
 Numbered (stop number) = (1 ≤ number) × (number ≤ 6)
@@ -63,11 +64,12 @@ lines-few (b ∷ s) = by (eqb b 10) (lines-few s)
     by false h = omega (arith, onto-few b (lines s))
 
 -- an answer that gives a refusal a number of 1 to 6 and a line of at most 65,536
-unfoldable Small : Answer → Type 0
+unfoldable Small : FileAnswer → Type 0
 Small (accepted p) = Unit
-Small (refused number line) = (1 ≤ number) × (number ≤ 6) × (line ≤ 65536)
+Small (turnedDown number line) = (1 ≤ number) × (number ≤ 6) × (line ≤ 65536)
 
-then-small : (step : Step) (line : ℕ) (f : Plan → Answer) → Numbered step → line ≤ 65536 → ((p : Plan) → Small (f p)) → Small (stepThen step line f)
+then-small : (step : Step) (line : ℕ) (f : Plan → FileAnswer) → Numbered step → line ≤ 65536 → ((p : Plan) → Small (f p))
+    → Small (stepThen step line f)
 unfolding stepThen Numbered Small
 then-small (next p) line f h k rest = rest p
 then-small (stop number) line f h k rest = (h .0, h .1, k)
@@ -87,11 +89,11 @@ file-small : (s : List ℕ) → Small (fileOf s)
 unfolding fileOf within Small
 file-small s = by (leb 1 (length s) && leb (length s) 65536) refl
   where
-    by : (t : Bool) → (leb 1 (length s) && leb (length s) 65536) ≡ t → Small (cond t (allLines (lines s)) (refused 1 0))
-    by true e = all-small (lines s) (omega (arith, lines-few s, leb-true (length s) 65536 (and-second (leb 1 (length s)) (leb (length s) 65536) e)))
+    by : (t : Bool) → (leb 1 (length s) && leb (length s) 65536) ≡ t → Small (cond t (allLines (lines s)) (turnedDown 1 0))
+    by true e = all-small (lines s) (omega (arith, lines-few s, leb-true (length s) 65536 (and-elim-right (leb 1 (length s)) (leb (length s) 65536) e)))
     by false e = omega arith
 
--- a refused file's number and line
-pub refusal-small : (s : List ℕ) (number line : ℕ) → fileOf s ≡ refused number line → (1 ≤ number) × (number ≤ 6) × (line ≤ 65536)
+-- a turnedDown file's number and line
+pub refusal-small : (s : List ℕ) (number line : ℕ) → fileOf s ≡ turnedDown number line → (1 ≤ number) × (number ≤ 6) × (line ≤ 65536)
 unfolding Small
 refusal-small s number line e = subst Small e (file-small s)

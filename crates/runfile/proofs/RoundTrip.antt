@@ -9,12 +9,19 @@ use lib.Dec.{eqb}
 use lib.ListN.{length}
 use borrow.Author.Tests.{le-leb}
 use Rattle.ring.specs.Ring.{numbers}
-use Rattle.runfile.specs.Plan.{Crash, Delay, Plan, within, startRanges, longEnough, startTest, crashRange, delayRange, crashOrder, delayOrder, fewDelays, every, planTest, startText, crashText, delayText, rowsText, planText}
-use Rattle.runfile.specs.File.{Answer, accepted, refused, Step, next, stop, onto, lines, opening, rowOf, orElse, withCrash, withDelay, early, startLine, crashLine, delayLine, firstLine, laterLine, stepThen, laterLines, allLines, fileOf}
-use Rattle.runfile.proofs.Order.{and-first, and-second, every-there, crash-order-start, delay-order-start, few-start}
+use Rattle.plans.specs.Plan.{Crash, Delay, Plan, within, startRanges, longEnough, startTest, crashRange, delayRange, crashOrder, delayOrder, fewDelays, every}
+use Rattle.plans.specs.Plan.{planTest, startPlan, withCrash, withDelay}
+use Rattle.runfile.specs.Text.{startText, crashText, delayText, rowsText, planText}
+use Rattle.text.specs.Field.{onto}
+use Rattle.runfile.specs.File.{FileAnswer, accepted, turnedDown, Step, next, stop, lines, rowOf, orElse, early, startLine, crashLine, delayLine}
+use Rattle.runfile.specs.File.{firstLine}
+use Rattle.runfile.specs.File.{laterLine, stepThen, laterLines, allLines, fileOf}
+use mathlib.Mathlib.Data.Bool.Basic.{and-elim-left, and-elim-right}
+use Rattle.plans.proofs.Rows.{every-there, crash-order-start, delay-order-start, few-start}
 use Rattle.runfile.proofs.Trip.{start-rows, crash-text, delay-text}
-use Rattle.runfile.proofs.Grown.{first-inv, ranges-of, opened-text, opened-good, Grown, by-crash, by-delay, later-inv, tests-of, grown-good, grown-order, crash-small, delay-small, ranges-good}
-use Rattle.runfile.proofs.Written.{Small, start-row, crash-row, delay-row, line-first}
+use Rattle.runfile.proofs.Grown.{first-inv, opened-text, opened-good, Grown, by-crash, by-delay, later-inv, grown-good}
+use Rattle.plans.proofs.Tests.{in-number-order, ranges-of, tests-of, crash-small, delay-small, ranges-good}
+use Rattle.runfile.proofs.Written.{Small, start-read, crash-read, delay-read, line-first}
 use Rattle.runfile.proofs.Size.{plan-size}
 
 -- ---- an accepted file is its plan's text
@@ -41,7 +48,8 @@ lines-joined (b ∷ s) = by (eqb b 10) (lines-joined s)
 pub rows-append : {A : Type 0} (text : A → List ℕ) (xs ys : List A) → rowsText text (xs ++ ys) ≡ rowsText text xs ++ rowsText text ys
 unfolding rowsText
 rows-append text [] ys = refl
-rows-append text (x ∷ xs) ys = ap (λ (l : List ℕ). text x ++ l) (rows-append text xs ys) ∙ sym (append-assoc (text x) (rowsText text xs) (rowsText text ys))
+rows-append text (x ∷ xs) ys =
+    ap (λ (l : List ℕ). text x ++ l) (rows-append text xs ys) ∙ sym (append-assoc (text x) (rowsText text xs) (rowsText text ys))
 
 pub rows-snoc : {A : Type 0} (text : A → List ℕ) (xs : List A) (r : A) → rowsText text (xs ++ (r ∷ [])) ≡ rowsText text xs ++ text r
 unfolding rowsText
@@ -62,7 +70,8 @@ grown-text p l q (by-delay r a) g =
     (simp append-assoc)
 
 -- a step that led to an accepted file
-step-inv : (x : Step) (line : ℕ) (f : Plan → Answer) (q : Plan) → stepThen x line f ≡ accepted q → (p : Plan) × (x ≡ next p) × (f p ≡ accepted q)
+step-inv : (x : Step) (line : ℕ) (f : Plan → FileAnswer) (q : Plan) → stepThen x line f ≡ accepted q
+    → (p : Plan) × (x ≡ next p) × (f p ≡ accepted q)
 unfolding stepThen
 step-inv (next p) line f q e = (p, refl, e)
 step-inv (stop k) line f q e = let z : _≡_ {A = ℕ} 0 1 = cc in absurd (omega arith)
@@ -71,28 +80,25 @@ step-inv (stop k) line f q e = let z : _≡_ {A = ℕ} 0 1 = cc in absurd (omega
 record Leads (p : Plan) (ls : List (List ℕ)) (q : Plan) : Type 0 where
   text : planText q ≡ planText p ++ joined ls
   good : planTest q ≡ true
-  order : q .order ≡ numbers 0 (q .n)
 
-later-leads : (p : Plan) (line : ℕ) (ls : List (List ℕ)) (q : Plan) → planTest p ≡ true → p .order ≡ numbers 0 (p .n) → laterLines p line ls ≡ accepted q → Leads p ls q
+later-leads : (p : Plan) (line : ℕ) (ls : List (List ℕ)) (q : Plan) → planTest p ≡ true → laterLines p line ls ≡ accepted q → Leads p ls q
 unfolding laterLines joined
-later-leads p line [] q g o e =
+later-leads p line [] q g e =
     let same : p ≡ q = cc in
-    record { text = ap planText (sym same) ∙ sym (append-nil (planText p)); good = ap planTest (sym same) ∙ g; order = subst (λ (s : Plan). s .order ≡ numbers 0 (s .n)) same o }
-later-leads p line (l ∷ ls) q g o e =
+    record { text = ap planText (sym same) ∙ sym (append-nil (planText p)); good = ap planTest (sym same) ∙ g }
+later-leads p line (l ∷ ls) q g e =
     let w = step-inv (laterLine p (rowOf l)) line _ q e in
     let x = later-inv p (rowOf l) (w .0) (w .1) in
-    let r = later-leads (w .0) (suc line) ls q (grown-good p _ (w .0) x g) (grown-order p _ (w .0) x o) (w .2) in
+    let r = later-leads (w .0) (suc line) ls q (grown-good p _ (w .0) x g) (w .2) in
     record {
       text = r .text ∙ ap (λ (t : List ℕ). t ++ joined ls) (grown-text p l (w .0) x g) ∙ append-assoc (planText p) l (joined ls);
       good = r .good;
-      order = r .order;
     }
 
 -- what an accepted file says of its plan
 record Holds (s : List ℕ) (q : Plan) : Type 0 where
   text : planText q ≡ s
   good : planTest q ≡ true
-  order : q .order ≡ numbers 0 (q .n)
 
 all-hold : (ls : List (List ℕ)) (q : Plan) → allLines ls ≡ accepted q → Holds (joined ls) q
 unfolding allLines joined planText rowsText
@@ -101,15 +107,15 @@ all-hold (l ∷ ls) q e =
     let w = step-inv (firstLine (rowOf l)) 1 _ q e in
     let o = first-inv (rowOf l) (w .0) (w .1) in
     let rows = start-rows l (w .0) (o .row) in
-    let r = later-leads (w .0) 2 ls q (opened-good l (w .0) o) (rows .2) (w .2) in
+    let r = later-leads (w .0) 2 ls q (opened-good l (w .0) o) (w .2) in
     let plan : planText (w .0) ≡ l = rw (rows .0, rows .1, append-nil) (sym (opened-text l (w .0) o)) in
-    record { text = r .text ∙ ap (λ (t : List ℕ). t ++ joined ls) plan; good = r .good; order = r .order }
+    record { text = r .text ∙ ap (λ (t : List ℕ). t ++ joined ls) plan; good = r .good }
 
 file-holds : (s : List ℕ) (q : Plan) → fileOf s ≡ accepted q → Holds s q
 unfolding fileOf
 file-holds s q e = by (within 1 65536 (length s)) e
   where
-    by : (t : Bool) → cond t (allLines (lines s)) (refused 1 0) ≡ accepted q → Holds s q
+    by : (t : Bool) → cond t (allLines (lines s)) (turnedDown 1 0) ≡ accepted q → Holds s q
     by true e = subst (λ (t : List ℕ). Holds t q) (lines-joined s) (all-hold (lines s) q e)
     by false e = let z : _≡_ {A = ℕ} 0 1 = cc in absurd (omega arith)
 
@@ -125,9 +131,10 @@ unfolding laterLine crashLine early orElse withCrash crashRange
 crash-taken p done r rest g e =
     let t = tests-of p g in
     let range : crashRange p r ≡ true = every-there (crashRange p) done r rest (ap (every (crashRange p)) (sym e) ∙ t .crashes) in
-    let order : crashOrder (done ++ (r ∷ [])) ≡ true = crash-order-start (done ++ (r ∷ [])) rest (ap crashOrder (append-assoc done (r ∷ []) rest ∙ sym e) ∙ t .crash-order) in
+    let whole : (done ++ (r ∷ [])) ++ rest ≡ p .crashes = append-assoc done (r ∷ []) rest ∙ sym e in
+    let order : crashOrder (done ++ (r ∷ [])) ≡ true = crash-order-start (done ++ (r ∷ [])) rest (ap crashOrder whole ∙ t .crash-order) in
     let small = crash-small p r (ranges-good p g) range in
-    rw (crash-row r (omega arith) (omega arith), range, order)
+    rw (crash-read r (omega arith) (omega arith), range, order)
 
 delay-taken : (p : Plan) (done : List Delay) (r : Delay) (rest : List Delay) → planTest p ≡ true → p .delays ≡ done ++ (r ∷ rest)
     → laterLine (part p (p .crashes) done) (rowOf (delayText r)) ≡ next (part p (p .crashes) (done ++ (r ∷ [])))
@@ -139,14 +146,16 @@ delay-taken p done r rest g e =
     let order : delayOrder (done ++ (r ∷ [])) ≡ true = delay-order-start (done ++ (r ∷ [])) rest (ap delayOrder whole ∙ t .delay-order) in
     let few : fewDelays (done ++ (r ∷ [])) ≡ true = few-start (done ++ (r ∷ [])) rest (ap fewDelays whole ∙ t .few) in
     let small = delay-small p r (ranges-good p g) range in
-    rw (delay-row r (omega arith) (omega arith), range, order, few)
+    rw (delay-read r (omega arith) (omega arith), range, order, few)
 
 -- a row's text is a line
-crash-line : (p : Plan) (r : Crash) (s : List ℕ) → startRanges p ≡ true → crashRange p r ≡ true → lines (crashText r ++ s) ≡ crashText r ∷ lines s
+crash-line : (p : Plan) (r : Crash) (s : List ℕ) → startRanges p ≡ true → crashRange p r ≡ true
+    → lines (crashText r ++ s) ≡ crashText r ∷ lines s
 unfolding crashText Small
 crash-line p r s g e = let small = crash-small p r g e in line-first 67 (r .tick ∷ r .node ∷ []) s (λ z. omega arith) (omega arith, (omega arith, tt))
 
-delay-line : (p : Plan) (r : Delay) (s : List ℕ) → startRanges p ≡ true → delayRange p r ≡ true → lines (delayText r ++ s) ≡ delayText r ∷ lines s
+delay-line : (p : Plan) (r : Delay) (s : List ℕ) → startRanges p ≡ true → delayRange p r ≡ true
+    → lines (delayText r ++ s) ≡ delayText r ∷ lines s
 unfolding delayText Small
 delay-line p r s g e = let small = delay-small p r g e in line-first 76 (r .number ∷ r .delay ∷ []) s (λ z. omega arith) (omega arith, (omega arith, tt))
 
@@ -167,20 +176,26 @@ crashes-read p done [] line g e =
     rw whole (delays-read p [] (p .delays) line g refl)
 crashes-read p done (r ∷ rest) line g e =
     let range : crashRange p r ≡ true = every-there (crashRange p) done r rest (ap (every (crashRange p)) (sym e) ∙ tests-of p g .crashes) in
-    rw (append-assoc (crashText r) (rowsText crashText rest) (rowsText delayText (p .delays)), crash-line p r (rowsText crashText rest ++ rowsText delayText (p .delays)) (ranges-good p g) range, crash-taken p done r rest g e)
+    rw (
+      append-assoc (crashText r) (rowsText crashText rest) (rowsText delayText (p .delays)),
+      crash-line p r (rowsText crashText rest ++ rowsText delayText (p .delays)) (ranges-good p g) range,
+      crash-taken p done r rest g e,
+    )
     (crashes-read p (done ++ (r ∷ [])) rest (suc line) g (e ∙ sym (append-assoc done (r ∷ []) rest)))
 
 -- the P line's tests, of the plan without its rows
-opening-tests : (p : Plan) → startTest p ≡ true → (startRanges (opening (p .n) (p .h) (p .w) (p .d) (p .end)) ≡ true) × (longEnough (opening (p .n) (p .h) (p .w) (p .d) (p .end)) ≡ true)
-unfolding startTest startRanges longEnough opening
-opening-tests p e = (and-first (startRanges p) (longEnough p) e, and-second (startRanges p) (longEnough p) e)
+opening-tests : (p : Plan) → startTest p ≡ true
+    → (startRanges (startPlan (p .n) (p .h) (p .w) (p .d) (p .end)) ≡ true) × (longEnough (startPlan (p .n) (p .h) (p .w) (p .d) (p .end)) ≡ true)
+unfolding startTest startRanges longEnough startPlan
+opening-tests p e = (and-elim-left (startRanges p) (longEnough p) e, and-elim-right (startRanges p) (longEnough p) e)
 
 start-taken : (p : Plan) → planTest p ≡ true → firstLine (rowOf (startText p)) ≡ next (part p [] [])
-unfolding firstLine startLine orElse opening
+unfolding firstLine startLine orElse startPlan
 start-taken p g =
     let b = ranges-of p (ranges-good p g) in
     let t = opening-tests p (tests-of p g .start) in
-    rw (start-row p (omega (arith, b .n-high)) (omega (arith, b .h-high)) (omega (arith, b .w-high)) (omega (arith, b .d-high)) (omega (arith, b .end-high)), t .0, t .1)
+    rw (start-read p (omega (arith, b .n-high)) (omega (arith, b .h-high)) (omega (arith, b .w-high)) (omega (arith, b .d-high)) (omega (arith, b .end-high)))
+    (rw (t .0, t .1))
 
 start-line : (p : Plan) (s : List ℕ) → startRanges p ≡ true → lines (startText p ++ s) ≡ startText p ∷ lines s
 unfolding startText Small
@@ -195,17 +210,19 @@ start-line p s g =
 pub written-back : (s : List ℕ) (p : Plan) → fileOf s ≡ accepted p → planText p ≡ s
 written-back s p e = file-holds s p e .text
 
--- an accepted file's plan passes the test, in number order
+-- an accepted file's plan passes the test
 pub accepted-plan : (s : List ℕ) (p : Plan) → fileOf s ≡ accepted p → planTest p ≡ true
 accepted-plan s p e = file-holds s p e .good
 
-pub accepted-order : (s : List ℕ) (p : Plan) → fileOf s ≡ accepted p → p .order ≡ numbers 0 (p .n)
-accepted-order s p e = file-holds s p e .order
-
 -- what is written is accepted and read back as it was
-pub read-back : (p : Plan) → planTest p ≡ true → p .order ≡ numbers 0 (p .n) → fileOf (planText p) ≡ accepted p
+pub read-back : (p : Plan) → planTest p ≡ true → fileOf (planText p) ≡ accepted p
 unfolding fileOf within allLines stepThen planText
-read-back p g o =
+read-back p g =
     let size = plan-size p g in
-    rw (le-leb 1 (length (planText p)) (size .0), le-leb (length (planText p)) 65536 (omega (arith, size .1)), start-line p (rowsText crashText (p .crashes) ++ rowsText delayText (p .delays)) (ranges-good p g), start-taken p g)
-    (crashes-read p [] (p .crashes) 2 g refl ∙ rw (← o))
+    rw (
+      le-leb 1 (length (planText p)) (size .0),
+      le-leb (length (planText p)) 65536 (omega (arith, size .1)),
+      start-line p (rowsText crashText (p .crashes) ++ rowsText delayText (p .delays)) (ranges-good p g),
+      start-taken p g,
+    )
+    (crashes-read p [] (p .crashes) 2 g refl ∙ rw (← in-number-order p g))

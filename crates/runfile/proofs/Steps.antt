@@ -12,12 +12,17 @@ use Rattle.ring.specs.Ring.{listed, listing}
 use Rattle.text.specs.declared.Ranged.the-variants.{Within, Outside}
 use Rattle.text.specs.Field.{rangedOf}
 use Rattle.text.proofs.FieldLaws.{range-bound}
-use Rattle.runfile.specs.Plan.{Crash, Delay, Plan, within, startRanges, longEnough, crashRange, delayRange, crashOrder, delayOrder, fewDelays, startTest, crashTest, delayTest, planTest, every}
-use Rattle.runfile.specs.File.{opening, orElse, withCrash, withDelay, startLine, early, crashLine, delayLine}
-use Rattle.runfile.specs.Reader.{sofarOf, Kept, lineOf, follows, crashFloor, delayFloor, seenFrom}
+use Rattle.plans.specs.Plan.{Crash, Delay, Plan, within, startRanges, longEnough, crashRange, delayRange, crashOrder, delayOrder, fewDelays, planTest}
+use Rattle.plans.specs.Plan.{startPlan, withCrash, withDelay}
+use Rattle.runfile.specs.File.{orElse, startLine, early, crashLine, delayLine}
+use Rattle.runfile.specs.Reader.{sofarOf, Kept, lineAnswer, follows, crashFloor, delayFloor, seenFrom}
 use Rattle.runfile.specs.declared.Sofar.{Sofar}
 use Rattle.runfile.specs.declared.Line.the-variants.{Next, Stop}
-use Rattle.runfile.proofs.Order.{and-left, and-right, and-both, and-first, and-second, crash-order-snoc, crash-floor-snoc, seen-snoc, seen-hits, delay-order-snoc, delay-floor-snoc, snoc-length, few-snoc}
+use Rattle.plans.proofs.Bools.{and-left, and-right}
+use mathlib.Mathlib.Data.Bool.Basic.{and-intro}
+use Rattle.runfile.proofs.Order.{crash-order-snoc, crash-floor-snoc, seen-snoc, seen-hits, delay-order-snoc, delay-floor-snoc, snoc-length}
+use Rattle.plans.proofs.Rows.{few-snoc}
+use Rattle.plans.proofs.Tests.{tests-of, delays-rise}
 
 -- ---- ranges
 
@@ -34,7 +39,7 @@ inside : (x low high y : ℕ) → rangedOf x low high ≡ Within y → within lo
 unfolding within
 inside x low high y e =
     let b = range-bound x low high y e in
-    and-both (le-leb low x (omega arith)) (le-leb x high (omega arith))
+    and-intro (le-leb low x (omega arith)) (le-leb x high (omega arith))
 
 -- a number of which only the upper bound is asked
 above-range : (x high : ℕ) → rangedOf x 0 high ≡ Outside → leb x high ≡ false
@@ -44,54 +49,67 @@ above-range x high e = sym (rw (le-leb 0 x zero-le) refl) ∙ outside x 0 high e
 -- ---- the P line
 
 module _ (n h w d end : ℕ) where
-  start-outside : startRanges (opening n h w d end) ≡ false → Stop 3 ≡ lineOf (startLine (opening n h w d end))
-  unfolding startLine orElse lineOf
+  start-outside : startRanges (startPlan n h w d end) ≡ false → Stop 3 ≡ lineAnswer (startLine (startPlan n h w d end))
+  unfolding startLine orElse lineAnswer
   start-outside e = rw e
 
-  pub start-n : rangedOf n 1 64 ≡ Outside → Stop 3 ≡ lineOf (startLine (opening n h w d end))
-  unfolding startRanges opening
+  pub start-n : rangedOf n 1 64 ≡ Outside → Stop 3 ≡ lineAnswer (startLine (startPlan n h w d end))
+  unfolding startRanges startPlan
   start-n e = start-outside (and-left _ (outside n 1 64 e))
 
-  pub start-h : rangedOf h 1 1000 ≡ Outside → Stop 3 ≡ lineOf (startLine (opening n h w d end))
-  unfolding startRanges opening
+  pub start-h : rangedOf h 1 1000 ≡ Outside → Stop 3 ≡ lineAnswer (startLine (startPlan n h w d end))
+  unfolding startRanges startPlan
   start-h e = start-outside (and-right (within 1 64 n) (and-left _ (outside h 1 1000 e)))
 
-  pub start-w : rangedOf w 1 65535 ≡ Outside → Stop 3 ≡ lineOf (startLine (opening n h w d end))
-  unfolding startRanges opening
+  pub start-w : rangedOf w 1 65535 ≡ Outside → Stop 3 ≡ lineAnswer (startLine (startPlan n h w d end))
+  unfolding startRanges startPlan
   start-w e = start-outside (and-right (within 1 64 n) (and-right (within 1 1000 h) (and-left _ (outside w 1 65535 e))))
 
-  pub start-d : rangedOf d 1 255 ≡ Outside → Stop 3 ≡ lineOf (startLine (opening n h w d end))
-  unfolding startRanges opening
+  pub start-d : rangedOf d 1 255 ≡ Outside → Stop 3 ≡ lineAnswer (startLine (startPlan n h w d end))
+  unfolding startRanges startPlan
   start-d e = start-outside (and-right (within 1 64 n) (and-right (within 1 1000 h) (and-right (within 1 65535 w) (and-left _ (outside d 1 255 e)))))
 
-  pub start-end : rangedOf end 0 1000000 ≡ Outside → Stop 3 ≡ lineOf (startLine (opening n h w d end))
-  unfolding startRanges opening
-  start-end e = start-outside (and-right (within 1 64 n) (and-right (within 1 1000 h) (and-right (within 1 65535 w) (and-right (within 1 255 d) (outside end 0 1000000 e)))))
+  pub start-end : rangedOf end 0 1000000 ≡ Outside → Stop 3 ≡ lineAnswer (startLine (startPlan n h w d end))
+  unfolding startRanges startPlan
+  start-end e =
+      start-outside (and-right (within 1 64 n) (and-right (within 1 1000 h)
+      (and-right (within 1 65535 w) (and-right (within 1 255 d) (outside end 0 1000000 e)))))
 
-  module _ (n' h' w' d' end' : ℕ) (rn : rangedOf n 1 64 ≡ Within n') (rh : rangedOf h 1 1000 ≡ Within h') (rw' : rangedOf w 1 65535 ≡ Within w') (rd : rangedOf d 1 255 ≡ Within d') (re : rangedOf end 0 1000000 ≡ Within end') where
-    start-inside : startRanges (opening n h w d end) ≡ true
-    unfolding startRanges opening
-    start-inside = and-both (inside n 1 64 n' rn) (and-both (inside h 1 1000 h' rh) (and-both (inside w 1 65535 w' rw') (and-both (inside d 1 255 d' rd) (inside end 0 1000000 end' re))))
+  module _ (n' h' w' d' end' : ℕ) (rn : rangedOf n 1 64 ≡ Within n') (rh : rangedOf h 1 1000 ≡ Within h') (rw' : rangedOf w 1 65535 ≡ Within w')
+      (rd : rangedOf d 1 255 ≡ Within d') (re : rangedOf end 0 1000000 ≡ Within end') where
+    start-inside : startRanges (startPlan n h w d end) ≡ true
+    unfolding startRanges startPlan
+    start-inside =
+        and-intro (inside n 1 64 n' rn) (and-intro (inside h 1 1000 h' rh)
+        (and-intro (inside w 1 65535 w' rw') (and-intro (inside d 1 255 d' rd) (inside end 0 1000000 end' re))))
 
-    pub start-short : w' < h' + d' → Stop 4 ≡ lineOf (startLine (opening n h w d end))
-    unfolding startLine orElse lineOf longEnough opening
+    pub start-short : w' < h' + d' → Stop 4 ≡ lineAnswer (startLine (startPlan n h w d end))
+    unfolding startLine orElse lineAnswer longEnough startPlan
     start-short k =
         let short : w < h + d = omega (arith, range-bound h 1 1000 h' rh .0, range-bound w 1 65535 w' rw' .0, range-bound d 1 255 d' rd .0) in
         rw (start-inside, lt-leb (h + d) w short)
 
     pub start-next : h' + d' ≤ w'
-        → Next (record { n = n'; h = h'; w = w'; d = d'; end = end'; crashes = 0; delays = 0; tick = 0; node = 0; seen = 0; number = 0 }) ≡ lineOf (startLine (opening n h w d end))
-    unfolding startLine orElse lineOf longEnough opening sofarOf crashFloor delayFloor seenFrom
+        → Next (record { n = n'; h = h'; w = w'; d = d'; end = end'; crashes = 0; delays = 0; tick = 0; node = 0; seen = 0; number = 0 })
+        ≡ lineAnswer (startLine (startPlan n h w d end))
+    unfolding startLine orElse lineAnswer longEnough startPlan sofarOf crashFloor delayFloor seenFrom
     start-next k =
         let long : h + d ≤ w = omega (arith, range-bound h 1 1000 h' rh .0, range-bound w 1 65535 w' rw' .0, range-bound d 1 255 d' rd .0) in
-        rw (start-inside, le-leb (h + d) w long, ← range-bound n 1 64 n' rn .0, ← range-bound h 1 1000 h' rh .0, ← range-bound w 1 65535 w' rw' .0, ← range-bound d 1 255 d' rd .0, ← range-bound end 0 1000000 end' re .0)
+        rw (
+          start-inside,
+          le-leb (h + d) w long,
+          ← range-bound n 1 64 n' rn .0,
+          ← range-bound h 1 1000 h' rh .0,
+          ← range-bound w 1 65535 w' rw' .0,
+          ← range-bound d 1 255 d' rd .0,
+          ← range-bound end 0 1000000 end' re .0,
+        )
 
 -- ---- a C line after those before it
 
 -- the rows of a plan that a file may hold are in order
 crashes-ordered : (p : Plan) → planTest p ≡ true → crashOrder (p .crashes) ≡ true
-unfolding planTest crashTest
-crashes-ordered p g = and-second (every (crashRange p) (p .crashes)) _ (and-first _ (delayTest p) (and-second (startTest p) _ g))
+crashes-ordered p g = tests-of p g .crash-order
 
 module _ (p : Plan) (st : Sofar) (kept : Kept p st) (tick node : ℕ) where
   -- the row of the line
@@ -102,8 +120,8 @@ module _ (p : Plan) (st : Sofar) (kept : Kept p st) (tick node : ℕ) where
   unfolding sofarOf
   delays-same = ap (λ (s : Sofar). s .delays) (kept .same)
 
-  pub crash-late : (st .delays ≡ 0 → ⊥) → Stop 2 ≡ lineOf (crashLine p row)
-  unfolding crashLine early orElse lineOf
+  pub crash-late : (st .delays ≡ 0 → ⊥) → Stop 2 ≡ lineAnswer (crashLine p row)
+  unfolding crashLine early orElse lineAnswer
   crash-late h = rw (ne-eqb (length (p .delays)) 0 (λ e. h (delays-same ∙ e)))
 
   module _ (none : st .delays ≡ 0) where
@@ -111,11 +129,11 @@ module _ (p : Plan) (st : Sofar) (kept : Kept p st) (tick node : ℕ) where
     unfolding early
     is-early = eq-eqb _ _ (sym delays-same ∙ none)
 
-    crash-outside : crashRange p row ≡ false → Stop 3 ≡ lineOf (crashLine p row)
-    unfolding crashLine orElse lineOf
+    crash-outside : crashRange p row ≡ false → Stop 3 ≡ lineAnswer (crashLine p row)
+    unfolding crashLine orElse lineAnswer
     crash-outside e = rw (is-early, e)
 
-    pub crash-tick : rangedOf tick 0 (st .end) ≡ Outside → Stop 3 ≡ lineOf (crashLine p row)
+    pub crash-tick : rangedOf tick 0 (st .end) ≡ Outside → Stop 3 ≡ lineAnswer (crashLine p row)
     unfolding crashRange sofarOf
     crash-tick e = crash-outside (and-left _ (above-range tick (p .end) (ap (rangedOf tick 0) (sym (ap (λ (s : Sofar). s .end) (kept .same))) ∙ e)))
 
@@ -128,7 +146,7 @@ module _ (p : Plan) (st : Sofar) (kept : Kept p st) (tick node : ℕ) where
           by true e = lt-ltb node (p .n) (omega (arith, leb-true node (st .n - 1) e, ap (λ (s : Sofar). s .n) (kept .same)))
           by false e = le-ltb node (p .n) (omega (arith, leb-false node (st .n - 1) e, ap (λ (s : Sofar). s .n) (kept .same)))
 
-      pub crash-node : rangedOf node 0 (st .n - 1) ≡ Outside → Stop 3 ≡ lineOf (crashLine p row)
+      pub crash-node : rangedOf node 0 (st .n - 1) ≡ Outside → Stop 3 ≡ lineAnswer (crashLine p row)
       unfolding crashRange
       crash-node e = crash-outside (and-right (leb tick (p .end)) (node-range false (above-range node (st .n - 1) e)))
 
@@ -138,7 +156,8 @@ module _ (p : Plan) (st : Sofar) (kept : Kept p st) (tick node : ℕ) where
         crash-inside =
             let a = range-bound tick 0 (st .end) t rt in
             let b = range-bound node 0 (st .n - 1) k rk in
-            and-both (le-leb tick (p .end) (omega (arith, a, ap (λ (s : Sofar). s .end) (kept .same)))) (node-range true (le-leb node (st .n - 1) (omega arith)))
+            and-intro (le-leb tick (p .end) (omega (arith, a, ap (λ (s : Sofar). s .end) (kept .same))))
+            (node-range true (le-leb node (st .n - 1) (omega arith)))
 
         -- the test of order, by what is kept
         crash-order : crashOrder (p .crashes ++ (row ∷ [])) ≡ follows (st .tick) (st .node) t k && not (listed (st .seen) k)
@@ -147,24 +166,39 @@ module _ (p : Plan) (st : Sofar) (kept : Kept p st) (tick node : ℕ) where
             crash-order-snoc (p .crashes) tick node (crashes-ordered p (kept .good))
             ∙ rw (kept .same, ← range-bound tick 0 (st .end) t rt .0, ← range-bound node 0 (st .n - 1) k rk .0, seen-hits (p .crashes) node)
 
-        crash-unordered : follows (st .tick) (st .node) t k && not (listed (st .seen) k) ≡ false → Stop 5 ≡ lineOf (crashLine p row)
-        unfolding crashLine withCrash orElse lineOf
+        crash-unordered : follows (st .tick) (st .node) t k && not (listed (st .seen) k) ≡ false → Stop 5 ≡ lineAnswer (crashLine p row)
+        unfolding crashLine withCrash orElse lineAnswer
         crash-unordered e = rw (is-early, crash-inside, crash-order ∙ e)
 
-        pub crash-low : follows (st .tick) (st .node) t k ≡ false → Stop 5 ≡ lineOf (crashLine p row)
+        pub crash-low : follows (st .tick) (st .node) t k ≡ false → Stop 5 ≡ lineAnswer (crashLine p row)
         crash-low e = crash-unordered (and-left _ e)
 
-        pub crash-twice : listed (st .seen) k ≡ true → Stop 5 ≡ lineOf (crashLine p row)
+        pub crash-twice : listed (st .seen) k ≡ true → Stop 5 ≡ lineAnswer (crashLine p row)
         crash-twice e = crash-unordered (and-right (follows (st .tick) (st .node) t k) (ap not e))
 
-        pub crash-next : follows (st .tick) (st .node) t k ≡ true → listed (st .seen) k ≡ false
-            → Next (record { n = st .n; h = st .h; w = st .w; d = st .d; end = st .end; crashes = st .crashes + 1; delays = 0; tick = t; node = k + 1; seen = listing (st .seen) k; number = st .number }) ≡ lineOf (crashLine p row)
-        unfolding crashLine withCrash orElse lineOf sofarOf
+        -- what is kept with the row
+        abbrev with-crash : Sofar
+        with-crash = record {
+          n = st .n;
+          h = st .h;
+          w = st .w;
+          d = st .d;
+          end = st .end;
+          crashes = st .crashes + 1;
+          delays = 0;
+          tick = t;
+          node = k + 1;
+          seen = listing (st .seen) k;
+          number = st .number;
+        }
+
+        pub crash-next : follows (st .tick) (st .node) t k ≡ true → listed (st .seen) k ≡ false → Next with-crash ≡ lineAnswer (crashLine p row)
+        unfolding crashLine withCrash orElse lineAnswer sofarOf
         crash-next e f =
             rw (
               is-early,
               crash-inside,
-              crash-order ∙ and-both e (ap not f),
+              crash-order ∙ and-intro e (ap not f),
               kept .same,
               snoc-length (p .crashes) row,
               crash-floor-snoc (p .crashes) tick node,
@@ -177,55 +211,67 @@ module _ (p : Plan) (st : Sofar) (kept : Kept p st) (tick node : ℕ) where
 
 -- ---- an L line after those before it
 
-delays-ordered : (p : Plan) → planTest p ≡ true → delayOrder (p .delays) ≡ true
-unfolding planTest delayTest
-delays-ordered p g = and-first _ (fewDelays (p .delays)) (and-second (every (delayRange p) (p .delays)) _ (and-second (crashTest p) _ (and-second (startTest p) _ g)))
-
 module _ (p : Plan) (st : Sofar) (kept : Kept p st) (number delay : ℕ) where
   abbrev late : Delay
   late = record { number = number; delay = delay }
 
-  delay-outside : delayRange p late ≡ false → Stop 3 ≡ lineOf (delayLine p late)
-  unfolding delayLine orElse lineOf
+  delay-outside : delayRange p late ≡ false → Stop 3 ≡ lineAnswer (delayLine p late)
+  unfolding delayLine orElse lineAnswer
   delay-outside e = rw e
 
-  pub delay-number : rangedOf number 0 999999 ≡ Outside → Stop 3 ≡ lineOf (delayLine p late)
+  pub delay-number : rangedOf number 0 999999 ≡ Outside → Stop 3 ≡ lineAnswer (delayLine p late)
   unfolding delayRange
   delay-number e = delay-outside (and-left _ (above-range number 999999 e))
 
-  pub delay-delay : rangedOf delay 1 (st .d) ≡ Outside → Stop 3 ≡ lineOf (delayLine p late)
+  pub delay-delay : rangedOf delay 1 (st .d) ≡ Outside → Stop 3 ≡ lineAnswer (delayLine p late)
   unfolding delayRange sofarOf
-  delay-delay e = delay-outside (and-right (leb number 999999) (outside delay 1 (p .d) (ap (rangedOf delay 1) (sym (ap (λ (s : Sofar). s .d) (kept .same))) ∙ e)))
+  delay-delay e =
+      delay-outside (and-right (leb number 999999) (outside delay 1 (p .d) (ap (rangedOf delay 1) (sym (ap (λ (s : Sofar). s .d) (kept .same))) ∙ e)))
 
   module _ (k t : ℕ) (rk : rangedOf number 0 999999 ≡ Within k) (rt : rangedOf delay 1 (st .d) ≡ Within t) where
     delay-inside : delayRange p late ≡ true
     unfolding delayRange sofarOf
     delay-inside =
         let a = range-bound number 0 999999 k rk in
-        and-both (le-leb number 999999 (omega arith)) (inside delay 1 (p .d) t (ap (rangedOf delay 1) (sym (ap (λ (s : Sofar). s .d) (kept .same))) ∙ rt))
+        and-intro (le-leb number 999999 (omega arith)) (inside delay 1 (p .d) t (ap (rangedOf delay 1) (sym (ap (λ (s : Sofar). s .d) (kept .same))) ∙ rt))
 
     delay-order : delayOrder (p .delays ++ (late ∷ [])) ≡ leb (st .number) k
     unfolding sofarOf
     delay-order =
-        delay-order-snoc (p .delays) late (delays-ordered p (kept .good))
+        delay-order-snoc (p .delays) late (delays-rise p (kept .good))
         ∙ rw (kept .same, ← range-bound number 0 999999 k rk .0)
 
     delay-few : fewDelays (p .delays ++ (late ∷ [])) ≡ ltb (st .delays) 2048
     unfolding sofarOf
     delay-few = few-snoc (p .delays) late ∙ rw (kept .same)
 
-    pub delay-low : k < st .number → Stop 5 ≡ lineOf (delayLine p late)
-    unfolding delayLine withDelay orElse lineOf
+    pub delay-low : k < st .number → Stop 5 ≡ lineAnswer (delayLine p late)
+    unfolding delayLine withDelay orElse lineAnswer
     delay-low h = rw (delay-inside, delay-order ∙ lt-leb (st .number) k h)
 
     module _ (rises : st .number ≤ k) where
-      pub delay-many : 2048 ≤ st .delays → Stop 6 ≡ lineOf (delayLine p late)
-      unfolding delayLine withDelay orElse lineOf
+      pub delay-many : 2048 ≤ st .delays → Stop 6 ≡ lineAnswer (delayLine p late)
+      unfolding delayLine withDelay orElse lineAnswer
       delay-many h = rw (delay-inside, delay-order ∙ le-leb (st .number) k rises, delay-few ∙ le-ltb (st .delays) 2048 h)
 
-      pub delay-next : st .delays < 2048
-          → Next (record { n = st .n; h = st .h; w = st .w; d = st .d; end = st .end; crashes = st .crashes; delays = st .delays + 1; tick = st .tick; node = st .node; seen = st .seen; number = k + 1 }) ≡ lineOf (delayLine p late)
-      unfolding delayLine withDelay orElse lineOf sofarOf
+      -- what is kept with the row
+      abbrev with-delay : Sofar
+      with-delay = record {
+        n = st .n;
+        h = st .h;
+        w = st .w;
+        d = st .d;
+        end = st .end;
+        crashes = st .crashes;
+        delays = st .delays + 1;
+        tick = st .tick;
+        node = st .node;
+        seen = st .seen;
+        number = k + 1;
+      }
+
+      pub delay-next : st .delays < 2048 → Next with-delay ≡ lineAnswer (delayLine p late)
+      unfolding delayLine withDelay orElse lineAnswer sofarOf
       delay-next h =
           rw (
             delay-inside,

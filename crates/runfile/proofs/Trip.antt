@@ -12,14 +12,16 @@ use Rattle.ring.specs.Ring.{numbers}
 use Rattle.text.specs.declared.Number.{Number}
 use Rattle.text.specs.declared.Number.the-variants.{Value, NoNumber}
 use Rattle.text.specs.Number.{ceiling}
-use Rattle.text.specs.Field.{fieldAt, ends, field}
+use Rattle.text.specs.Field.{numberFieldAt, ends, field}
 use Rattle.text.proofs.FieldTrip.{field-trip, ends-trip}
-use Rattle.runfile.specs.Plan.{Crash, Delay, Plan, fieldsText, lineText, startText, crashText, delayText}
-use Rattle.runfile.specs.File.{Row, start, crash, delay, opening, fieldThen, pairOf, startOf, crashOf, delayOf, formOf, rowOf}
+use Rattle.plans.specs.Plan.{Crash, Delay, Plan, startPlan}
+use Rattle.runfile.specs.Text.{fieldsText, lineText, startText, crashText, delayText}
+use Rattle.runfile.specs.File.{Row, start, crash, delay, fieldThen, pairOf, startOf, crashOf, delayOf, formOf, rowOf}
 
 -- ---- what was read, taken apart
 
-field-inv : (x : Number) (f : ℕ → ℕ → Option Row) (r : Row) → fieldThen x f ≡ some r → (v : ℕ) × (j : ℕ) × (x ≡ Value v j) × (f v j ≡ some r)
+field-inv : (x : Number) (f : ℕ → ℕ → Option Row) (r : Row) → fieldThen x f ≡ some r
+    → (v : ℕ) × (j : ℕ) × (x ≡ Value v j) × (f v j ≡ some r)
 unfolding fieldThen
 field-inv (Value v j) f r e = (v, j, refl, e)
 field-inv NoNumber f r e = let z : _≡_ {A = ℕ} 0 1 = cc in absurd (omega arith)
@@ -32,15 +34,15 @@ end-inv false x r e = let z : _≡_ {A = ℕ} 0 1 = cc in absurd (omega arith)
 record Two (l : List ℕ) (a b : ℕ) : Type 0 where
   i : ℕ
   j : ℕ
-  one : fieldAt l 1 ≡ Value a i
-  two : fieldAt l i ≡ Value b j
+  one : numberFieldAt l 1 ≡ Value a i
+  two : numberFieldAt l i ≡ Value b j
   feed : ends l j ≡ true
 
 pair-inv : (row : ℕ → ℕ → Row) (l : List ℕ) (r : Row) → pairOf row l ≡ some r → (a : ℕ) × (b : ℕ) × Two l a b × (row a b ≡ r)
 unfolding pairOf
 pair-inv row l r e =
-    let x = field-inv (fieldAt l 1) _ r e in
-    let y = field-inv (fieldAt l (x .1)) _ r (x .3) in
+    let x = field-inv (numberFieldAt l 1) _ r e in
+    let y = field-inv (numberFieldAt l (x .1)) _ r (x .3) in
     let z = end-inv (ends l (y .1)) (row (x .0) (y .0)) r (y .3) in
     (x .0, y .0, record { i = x .1; j = y .1; one = x .2; two = y .2; feed = z .0 }, z .1)
 
@@ -57,22 +59,23 @@ record Five (l : List ℕ) (n h w d end : ℕ) : Type 0 where
   k : ℕ
   m : ℕ
   z : ℕ
-  one : fieldAt l 1 ≡ Value n i
-  two : fieldAt l i ≡ Value h j
-  three : fieldAt l j ≡ Value w k
-  four : fieldAt l k ≡ Value d m
-  five : fieldAt l m ≡ Value end z
+  one : numberFieldAt l 1 ≡ Value n i
+  two : numberFieldAt l i ≡ Value h j
+  three : numberFieldAt l j ≡ Value w k
+  four : numberFieldAt l k ≡ Value d m
+  five : numberFieldAt l m ≡ Value end z
   feed : ends l z ≡ true
 
-start-inv : (l : List ℕ) (r : Row) → startOf l ≡ some r → (n : ℕ) × (h : ℕ) × (w : ℕ) × (d : ℕ) × (end : ℕ) × Five l n h w d end × (start (opening n h w d end) ≡ r)
+start-inv : (l : List ℕ) (r : Row) → startOf l ≡ some r
+    → (n : ℕ) × (h : ℕ) × (w : ℕ) × (d : ℕ) × (end : ℕ) × Five l n h w d end × (start (startPlan n h w d end) ≡ r)
 unfolding startOf
 start-inv l r e =
-    let n = field-inv (fieldAt l 1) _ r e in
-    let h = field-inv (fieldAt l (n .1)) _ r (n .3) in
-    let w = field-inv (fieldAt l (h .1)) _ r (h .3) in
-    let d = field-inv (fieldAt l (w .1)) _ r (w .3) in
-    let t = field-inv (fieldAt l (d .1)) _ r (d .3) in
-    let z = end-inv (ends l (t .1)) (start (opening (n .0) (h .0) (w .0) (d .0) (t .0))) r (t .3) in (
+    let n = field-inv (numberFieldAt l 1) _ r e in
+    let h = field-inv (numberFieldAt l (n .1)) _ r (n .3) in
+    let w = field-inv (numberFieldAt l (h .1)) _ r (h .3) in
+    let d = field-inv (numberFieldAt l (w .1)) _ r (w .3) in
+    let t = field-inv (numberFieldAt l (d .1)) _ r (d .3) in
+    let z = end-inv (ends l (t .1)) (start (startPlan (n .0) (h .0) (w .0) (d .0) (t .0))) r (t .3) in (
       n .0,
       h .0,
       w .0,
@@ -159,7 +162,7 @@ record Opens (l : List ℕ) (p : Plan) : Type 0 where
   rest : List ℕ
   letter : l ≡ 80 ∷ rest
   fields : Five l n h w d end
-  plan : opening n h w d end ≡ p
+  plan : startPlan n h w d end ≡ p
 
 opens : (l : List ℕ) (p : Plan) → rowOf l ≡ some (start p) → Opens l p
 unfolding crashOf delayOf
@@ -168,14 +171,14 @@ opens l p e = by (row-inv l (start p) e)
     by : Said l (start p) → Opens l p
     by (by-start x) =
         let w = start-inv l (start p) (x .2) in
-        let q : opening (w .0) (w .1) (w .2) (w .3) (w .4) ≡ p = cc (w .6) in
+        let q : startPlan (w .0) (w .1) (w .2) (w .3) (w .4) ≡ p = cc (w .6) in
         record { n = w .0; h = w .1; w = w .2; d = w .3; end = w .4; rest = x .0; letter = x .1; fields = w .5; plan = q }
     by (by-crash x) = let w = pair-inv _ l (start p) (x .2) in let z : _≡_ {A = ℕ} 0 1 = cc (w .3) in absurd (omega arith)
     by (by-delay x) = let w = pair-inv _ l (start p) (x .2) in let z : _≡_ {A = ℕ} 0 1 = cc (w .3) in absurd (omega arith)
 
 pub start-text : (l : List ℕ) (p : Plan) → rowOf l ≡ some (start p)
     → p .n < ceiling → p .h < ceiling → p .w < ceiling → p .d < ceiling → p .end < ceiling → l ≡ startText p
-unfolding opening startText
+unfolding startPlan startText
 start-text l p e hn hh hw hd he =
     let o = opens l p e in
     let n : o .n ≡ p .n = ap (λ (q : Plan). q .n) (o .plan) in
@@ -184,11 +187,13 @@ start-text l p e hn hh hw hd he =
     let d : o .d ≡ p .d = ap (λ (q : Plan). q .d) (o .plan) in
     let end : o .end ≡ p .end = ap (λ (q : Plan). q .end) (o .plan) in
     lettered-text 80 l (o .rest) _ (o .letter)
-    (five-text l (o .n) (o .h) (o .w) (o .d) (o .end) (o .fields) (omega arith) (omega arith) (omega arith) (omega arith) (omega arith) ∙ rw (n, h, w, d, end))
+    (five-text l (o .n) (o .h) (o .w) (o .d) (o .end) (o .fields) (omega arith) (omega arith) (omega arith) (omega arith) (omega arith)
+    ∙ rw (n, h, w, d, end))
 
 -- what a P line leaves out
 pub start-rows : (l : List ℕ) (p : Plan) → rowOf l ≡ some (start p) → (p .crashes ≡ []) × (p .delays ≡ []) × (p .order ≡ numbers 0 (p .n))
-unfolding opening
+unfolding startPlan
 start-rows l p e =
     let o = opens l p e in
-    (ap (λ (q : Plan). q .crashes) (sym (o .plan)), ap (λ (q : Plan). q .delays) (sym (o .plan)), subst (λ (q : Plan). q .order ≡ numbers 0 (q .n)) (o .plan) refl)
+    let order : p .order ≡ numbers 0 (p .n) = subst (λ (q : Plan). q .order ≡ numbers 0 (q .n)) (o .plan) refl in
+    (ap (λ (q : Plan). q .crashes) (sym (o .plan)), ap (λ (q : Plan). q .delays) (sym (o .plan)), order)

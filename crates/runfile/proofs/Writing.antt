@@ -7,20 +7,23 @@ use lib.ListN.{length, length-append}
 use Rattle.text.specs.Field.{field}
 use Rattle.text.specs.Put.{Put}
 use Rattle.text.proofs.PutLaws.{put-then, put-text, put-kept}
-use Rattle.runfile.specs.Plan.{fieldsText, lineText, startText}
-use Rattle.runfile.specs.File.{opening}
+use Rattle.runfile.specs.Text.{fieldsText, lineText, startText}
+use Rattle.plans.specs.Plan.{startPlan}
 
 -- a text in two parts that fits has room for the first
 pub room-first : (size at : ℕ) (w t u : List ℕ) → w ≡ t ++ u → at + length w ≤ size → at + length t ≤ size
 room-first size at w t u e h = omega (arith, ap length e, length-append t u, h)
 
 -- and, once that is put, for the second
-pub room-rest : {l m : List ℕ} {at r : ℕ} (w : List ℕ) {t : List ℕ} (u : List ℕ) → w ≡ t ++ u → at + length w ≤ length l → Put l at t r m → r + length u ≤ length m
+pub room-rest : {l m : List ℕ} {at r : ℕ} (w : List ℕ) {t : List ℕ} (u : List ℕ) → w ≡ t ++ u → at + length w ≤ length l → Put l at t r m
+    → r + length u ≤ length m
 room-rest {l} {m} {at} {r} w {t} u e h p =
     omega (arith, ap length e, length-append t u, h, p .next, put-kept (room-first (length l) at w t u e h) p)
 
 -- both parts put are the text put
-pub put-both : {l m k : List ℕ} {at r q : ℕ} (w : List ℕ) {t u : List ℕ} → w ≡ t ++ u → at + length w ≤ length l → Put l at t r m → Put m r u q k → Put l at w q k
+pub put-both : {l m k : List ℕ} {at r q : ℕ} (w : List ℕ) {t u : List ℕ} → w ≡ t ++ u → at + length w ≤ length l → Put l at t r m
+    → Put m r u q k
+    → Put l at w q k
 put-both {l} {m} {k} {at} {r} {q} w {t} {u} e h p s = put-text (sym e) (put-then (room-first (length l) at w t u e h) p s)
 
 -- a line of two numbers, part by part
@@ -29,8 +32,10 @@ unfolding lineText fieldsText
 row-parts letter a b = ap (λ (l : List ℕ). letter ∷ l) (sym (append-assoc (field a) (field b) (10 ∷ [])))
 
 -- a P line, part by part
-pub start-parts : (n h w d end : ℕ) → startText (opening n h w d end) ≡ (80 ∷ []) ++ ((field n ++ field h) ++ ((field w ++ field d) ++ (field end ++ (10 ∷ []))))
-unfolding startText opening lineText fieldsText
+pub start-parts : (n h w d end : ℕ)
+    → startText (startPlan n h w d end) ≡ (80 ∷ []) ++ ((field n ++ field h) ++ ((field w ++ field d) ++ (field end ++ (10 ∷ []))))
+unfolding startText startPlan lineText fieldsText
 start-parts n h w d end =
     let last : List ℕ = field end ++ (10 ∷ []) in
-    ap (λ (l : List ℕ). 80 ∷ l) (sym (append-assoc (field n) (field h) ((field w ++ field d) ++ last) ∙ ap (λ (l : List ℕ). field n ++ (field h ++ l)) (append-assoc (field w) (field d) last)))
+    ap (λ (l : List ℕ). 80 ∷ l) (sym (append-assoc (field n) (field h) ((field w ++ field d) ++ last)
+    ∙ ap (λ (l : List ℕ). field n ++ (field h ++ l)) (append-assoc (field w) (field d) last)))

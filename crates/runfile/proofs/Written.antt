@@ -8,14 +8,14 @@ use mathlib.Core.List.{List, [], _∷_, _++_, append-assoc, append-nil}
 use mathlib.Core.Option.{some}
 use lib.ListN.{length, drop, length-drop}
 use borrow.Author.Tests.{ne-eqb}
-use Rattle.ring.specs.Ring.{numbers}
 use Rattle.text.specs.Number.{digit, ceiling, decimal}
-use Rattle.text.specs.Field.{fieldAt, ends, field}
+use Rattle.text.specs.Field.{ends, field, onto, numberFieldAt}
 use Rattle.text.specs.declared.Number.the-variants.{Value}
 use Rattle.text.proofs.NumberLaws.{decimal-small, decimal-more}
 use Rattle.text.proofs.FieldTrip.{drop-past, field-back, ends-back}
-use Rattle.runfile.specs.Plan.{Crash, Delay, Plan, fieldsText, lineText, startText, crashText, delayText}
-use Rattle.runfile.specs.File.{Row, start, crash, delay, opening, onto, lines, pairOf, startOf, crashOf, delayOf, formOf, rowOf}
+use Rattle.plans.specs.Plan.{Crash, Delay, Plan, startPlan}
+use Rattle.runfile.specs.Text.{fieldsText, lineText, startText, crashText, delayText}
+use Rattle.runfile.specs.File.{Row, start, crash, delay, lines, pairOf, startOf, crashOf, delayOf, formOf, rowOf}
 use Rattle.runfile.proofs.Forms.{pair-some, start-some}
 
 -- ---- fields that were written
@@ -30,7 +30,7 @@ feed-no = refl
 
 -- a field before another one, in a line that r follows
 pub field-next : (l : List ℕ) (at x y : ℕ) (ys r : List ℕ) → drop at l ≡ fieldsText (x ∷ y ∷ ys) ++ r → x < ceiling
-    → (fieldAt l at ≡ Value x (at + length (field x))) × (drop (at + length (field x)) l ≡ fieldsText (y ∷ ys) ++ r)
+    → (numberFieldAt l at ≡ Value x (at + length (field x))) × (drop (at + length (field x)) l ≡ fieldsText (y ∷ ys) ++ r)
 unfolding fieldsText
 field-next l at x y ys r e h =
     let parts = e ∙ append-assoc (field x) (fieldsText (y ∷ ys)) r in
@@ -38,7 +38,7 @@ field-next l at x y ys r e h =
 
 -- the last field
 pub field-last : (l : List ℕ) (at x : ℕ) (r : List ℕ) → drop at l ≡ fieldsText (x ∷ []) ++ r → x < ceiling
-    → (fieldAt l at ≡ Value x (at + length (field x))) × (drop (at + length (field x)) l ≡ 10 ∷ r)
+    → (numberFieldAt l at ≡ Value x (at + length (field x))) × (drop (at + length (field x)) l ≡ 10 ∷ r)
 unfolding fieldsText
 field-last l at x r e h =
     let parts = e ∙ append-assoc (field x) (10 ∷ []) r in
@@ -48,7 +48,8 @@ field-last l at x r e h =
 end-there : (l : List ℕ) (at : ℕ) → drop at l ≡ 10 ∷ [] → ends l at ≡ true
 end-there l at e = ends-back l at (omega (arith, length-drop at l, ap length e)) e
 
-pub pair-back : (row : ℕ → ℕ → Row) (letter a b : ℕ) → a < ceiling → b < ceiling → pairOf row (lineText letter (a ∷ b ∷ [])) ≡ some (row a b)
+pub pair-back : (row : ℕ → ℕ → Row) (letter a b : ℕ) → a < ceiling → b < ceiling
+    → pairOf row (lineText letter (a ∷ b ∷ [])) ≡ some (row a b)
 unfolding lineText
 pair-back row letter a b ha hb =
     let l : List ℕ = letter ∷ fieldsText (a ∷ b ∷ []) in
@@ -57,7 +58,7 @@ pair-back row letter a b ha hb =
     pair-some row l a _ (x .0) b _ (y .0) (end-there l _ (y .1))
 
 pub start-back : (n h w d end : ℕ) → n < ceiling → h < ceiling → w < ceiling → d < ceiling → end < ceiling
-    → startOf (lineText 80 (n ∷ h ∷ w ∷ d ∷ end ∷ [])) ≡ some (start (opening n h w d end))
+    → startOf (lineText 80 (n ∷ h ∷ w ∷ d ∷ end ∷ [])) ≡ some (start (startPlan n h w d end))
 unfolding lineText
 start-back n h w d end hn hh hw hd he =
     let l : List ℕ = 80 ∷ fieldsText (n ∷ h ∷ w ∷ d ∷ end ∷ []) in
@@ -68,18 +69,18 @@ start-back n h w d end hn hh hw hd he =
     let f = field-last l _ end [] (e .1) he in
     start-some l n _ (a .0) h _ (b .0) w _ (c .0) d _ (e .0) end _ (f .0) (end-there l _ (f .1))
 
-pub crash-row : (r : Crash) → r .tick < ceiling → r .node < ceiling → rowOf (crashText r) ≡ some (crash r)
+pub crash-read : (r : Crash) → r .tick < ceiling → r .node < ceiling → rowOf (crashText r) ≡ some (crash r)
 unfolding crashText lineText rowOf formOf crashOf
-crash-row r ht hk = pair-back (λ t k. crash (record { tick = t; node = k })) 67 (r .tick) (r .node) ht hk
+crash-read r ht hk = pair-back (λ t k. crash (record { tick = t; node = k })) 67 (r .tick) (r .node) ht hk
 
-pub delay-row : (r : Delay) → r .number < ceiling → r .delay < ceiling → rowOf (delayText r) ≡ some (delay r)
+pub delay-read : (r : Delay) → r .number < ceiling → r .delay < ceiling → rowOf (delayText r) ≡ some (delay r)
 unfolding delayText lineText rowOf formOf delayOf
-delay-row r hk ht = pair-back (λ k t. delay (record { number = k; delay = t })) 76 (r .number) (r .delay) hk ht
+delay-read r hk ht = pair-back (λ k t. delay (record { number = k; delay = t })) 76 (r .number) (r .delay) hk ht
 
-pub start-row : (p : Plan) → p .n < ceiling → p .h < ceiling → p .w < ceiling → p .d < ceiling → p .end < ceiling
-    → rowOf (startText p) ≡ some (start (opening (p .n) (p .h) (p .w) (p .d) (p .end)))
+pub start-read : (p : Plan) → p .n < ceiling → p .h < ceiling → p .w < ceiling → p .d < ceiling → p .end < ceiling
+    → rowOf (startText p) ≡ some (start (startPlan (p .n) (p .h) (p .w) (p .d) (p .end)))
 unfolding startText lineText rowOf formOf
-start-row p hn hh hw hd he = start-back (p .n) (p .h) (p .w) (p .d) (p .end) hn hh hw hd he
+start-read p hn hh hw hd he = start-back (p .n) (p .h) (p .w) (p .d) (p .end) hn hh hw hd he
 
 -- ---- a line's bytes have one line feed, the last
 
@@ -98,7 +99,8 @@ unfolding Plain
 plain-by zero n h big = absurd (omega arith)
 plain-by (suc f) n h big = elim (decLt n 10) [
   | yes p ↦ rw (decimal-small n p) (λ e. omega arith, tt)
-  | no p ↦ rw (decimal-more n (omega arith) big) (plain-append (decimal (n / 10)) ((48 + n % 10) ∷ []) (plain-by f (n / 10) (omega arith) (omega arith)) (λ e. omega arith, tt))
+  | no p ↦ rw (decimal-more n (omega arith) big)
+      (plain-append (decimal (n / 10)) ((48 + n % 10) ∷ []) (plain-by f (n / 10) (omega arith) (omega arith)) (λ e. omega arith, tt))
 ]
 
 plain-decimal : (n : ℕ) → n < ceiling → Plain (decimal n)
@@ -127,6 +129,7 @@ fields-line t (x ∷ xs) s h k =
     (fields-line (t ++ field x) xs s (plain-append t (field x) h (plain-field x (k .0))) (k .1))
 
 -- a line that is written is the first line of what it begins
-pub line-first : (letter : ℕ) (xs s : List ℕ) → (letter ≡ 10 → ⊥) → Small xs → lines (lineText letter xs ++ s) ≡ lineText letter xs ∷ lines s
+pub line-first : (letter : ℕ) (xs s : List ℕ) → (letter ≡ 10 → ⊥) → Small xs
+    → lines (lineText letter xs ++ s) ≡ lineText letter xs ∷ lines s
 unfolding lineText Plain
 line-first letter xs s h k = fields-line (letter ∷ []) xs s (h, tt) k

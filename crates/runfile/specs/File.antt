@@ -1,29 +1,27 @@
 -- What a run file comes to: the plan that it holds, or the number and line of its refusal. Document 01's 'Run file and log' and the
 -- numbers 1 to 6 of 'Where a call is turned down': 'Places are tried downwards; lines one after another, the first bad line deciding'.
 -- Assumes nothing.
-use mathlib.Core.Bool.{Bool, true, false, cond}
-use mathlib.Core.List.{List, [], _∷_, _++_}
+use mathlib.Core.Bool.{Bool, cond}
+use mathlib.Core.List.{List, [], _∷_}
 use mathlib.Core.Option.{Option, none, some}
 use Prim.Native.Nat.{ℕ, suc}
 use lib.Dec.{eqb}
 use lib.ListN.{length}
-use Rattle.ring.specs.Ring.{numbers}
+use Rattle.limits.specs.Limits.{mostBytes}
+use Rattle.limits.specs.Refusals.{badLength, badForm, outOfRange, shortTimeOut, notRising, manyDelays}
 use Rattle.text.specs.declared.Number.{Number}
 use Rattle.text.specs.declared.Number.the-variants.{Value, NoNumber}
-use Rattle.text.specs.Field.{fieldAt, ends, lineFeed}
-use Rattle.runfile.specs.Plan.{Crash, Delay, Plan, within, startRanges, longEnough, crashRange, delayRange, crashOrder, delayOrder, fewDelays, letterP, letterC, letterL}
+use Rattle.text.specs.Field.{lineFeed, onto, ends, numberFieldAt}
+use Rattle.plans.specs.Plan.{Crash, Delay, Plan, startPlan, withCrash, withDelay, within, startRanges, longEnough, crashRange, delayRange, crashOrder}
+use Rattle.plans.specs.Plan.{delayOrder, fewDelays}
+use Rattle.runfile.specs.Text.{letterP, letterC, letterL}
 
-pub data Answer : Type 0 where
-  accepted : Plan → Answer
+pub data FileAnswer : Type 0 where
+  accepted : Plan → FileAnswer
   -- the refusal's number and its line, from 1, else 0
-  refused : ℕ → ℕ → Answer
+  turnedDown : ℕ → ℕ → FileAnswer
 
 -- ---- lines
-
--- a byte before the first of some lines
-unfoldable pub onto : ℕ → List (List ℕ) → List (List ℕ)
-onto b [] = (b ∷ []) ∷ []
-onto b (l ∷ ls) = (b ∷ l) ∷ ls
 
 -- the lines of a file, each with its line feed. What follows the last line feed is a line too
 unfoldable pub lines : List ℕ → List (List ℕ)
@@ -38,10 +36,6 @@ pub data Row : Type 0 where
   crash : Crash → Row
   delay : Delay → Row
 
--- the plan of a P line, in number order and without rows
-unfoldable pub opening : ℕ → ℕ → ℕ → ℕ → ℕ → Plan
-opening n h w d end = record { n = n; h = h; w = w; d = d; end = end; order = numbers 0 n; crashes = []; delays = [] }
-
 -- what a field that was read leads to
 unfoldable pub fieldThen : Number → (ℕ → ℕ → Option Row) → Option Row
 fieldThen (Value x i) f = f x i
@@ -50,8 +44,8 @@ fieldThen NoNumber f = none
 -- two numbers after the letter, and the line's end
 unfoldable pub pairOf : (ℕ → ℕ → Row) → List ℕ → Option Row
 pairOf row l =
-    fieldThen (fieldAt l 1) λ a i.
-    fieldThen (fieldAt l i) λ b j.
+    fieldThen (numberFieldAt l 1) λ a i.
+    fieldThen (numberFieldAt l i) λ b j.
     cond (ends l j) (some (row a b)) none
 
 unfoldable pub crashOf : List ℕ → Option Row
@@ -63,12 +57,12 @@ delayOf l = pairOf (λ k t. delay (record { number = k; delay = t })) l
 -- five numbers after the letter, and the line's end
 unfoldable pub startOf : List ℕ → Option Row
 startOf l =
-    fieldThen (fieldAt l 1) λ n i.
-    fieldThen (fieldAt l i) λ h j.
-    fieldThen (fieldAt l j) λ w k.
-    fieldThen (fieldAt l k) λ d m.
-    fieldThen (fieldAt l m) λ end e.
-    cond (ends l e) (some (start (opening n h w d end))) none
+    fieldThen (numberFieldAt l 1) λ n i.
+    fieldThen (numberFieldAt l i) λ h j.
+    fieldThen (numberFieldAt l j) λ w k.
+    fieldThen (numberFieldAt l k) λ d m.
+    fieldThen (numberFieldAt l m) λ end e.
+    cond (ends l e) (some (start (startPlan n h w d end))) none
 
 -- a line, by its letter; none where its form is bad: 'letter, field count, digits, line feed'
 unfoldable pub formOf : ℕ → List ℕ → Option Row
@@ -92,69 +86,60 @@ pub data Step : Type 0 where
 unfoldable pub orElse : Bool → ℕ → Step → Step
 orElse passed number step = cond passed step (stop number)
 
-unfoldable pub withCrash : Plan → Crash → Plan
-withCrash p r = record { n = p .n; h = p .h; w = p .w; d = p .d; end = p .end; order = p .order; crashes = p .crashes ++ (r ∷ []); delays = p .delays }
-
-unfoldable pub withDelay : Plan → Delay → Plan
-withDelay p r = record { n = p .n; h = p .h; w = p .w; d = p .d; end = p .end; order = p .order; crashes = p .crashes; delays = p .delays ++ (r ∷ []) }
-
--- a P line: 3, then 4
+-- a P line: out of range, then W below H + D
 unfoldable pub startLine : Plan → Step
-startLine p = orElse (startRanges p) 3 (orElse (longEnough p) 4 (next p))
+startLine p = orElse (startRanges p) outOfRange (orElse (longEnough p) shortTimeOut (next p))
 
 -- no L line came yet: 'order of letters'
 unfoldable pub early : Plan → Bool
 early p = eqb (length (p .delays)) 0
 
--- a C line: 2, 3, then 5
+-- a C line: after an L line, out of range, then not rising
 unfoldable pub crashLine : Plan → Crash → Step
 crashLine p r =
-    orElse (early p) 2
-    (orElse (crashRange p r) 3
-    (orElse (crashOrder (withCrash p r .crashes)) 5
+    orElse (early p) badForm
+    (orElse (crashRange p r) outOfRange
+    (orElse (crashOrder (withCrash p r .crashes)) notRising
     (next (withCrash p r))))
 
--- an L line: 3, 5, then 6
+-- an L line: out of range, not rising, then the 2,049th
 unfoldable pub delayLine : Plan → Delay → Step
 delayLine p r =
-    orElse (delayRange p r) 3
-    (orElse (delayOrder (withDelay p r .delays)) 5
-    (orElse (fewDelays (withDelay p r .delays)) 6
+    orElse (delayRange p r) outOfRange
+    (orElse (delayOrder (withDelay p r .delays)) notRising
+    (orElse (fewDelays (withDelay p r .delays)) manyDelays
     (next (withDelay p r))))
 
 -- the first line is the P line
 unfoldable pub firstLine : Option Row → Step
-firstLine none = stop 2
+firstLine none = stop badForm
 firstLine (some (start p)) = startLine p
-firstLine (some (crash r)) = stop 2
-firstLine (some (delay r)) = stop 2
+firstLine (some (crash r)) = stop badForm
+firstLine (some (delay r)) = stop badForm
 
 -- and no later line is
 unfoldable pub laterLine : Plan → Option Row → Step
-laterLine p none = stop 2
-laterLine p (some (start q)) = stop 2
+laterLine p none = stop badForm
+laterLine p (some (start q)) = stop badForm
 laterLine p (some (crash r)) = crashLine p r
 laterLine p (some (delay r)) = delayLine p r
 
 -- ---- the whole file
 
 -- a line, and then the rest
-unfoldable pub stepThen : Step → ℕ → (Plan → Answer) → Answer
+unfoldable pub stepThen : Step → ℕ → (Plan → FileAnswer) → FileAnswer
 stepThen (next p) line f = f p
-stepThen (stop number) line f = refused number line
+stepThen (stop number) line f = turnedDown number line
 
 -- the lines after the P line, from this line on
-unfoldable pub laterLines : Plan → ℕ → List (List ℕ) → Answer
+unfoldable pub laterLines : Plan → ℕ → List (List ℕ) → FileAnswer
 laterLines p line [] = accepted p
 laterLines p line (l ∷ ls) = stepThen (laterLine p (rowOf l)) line (λ q. laterLines q (suc line) ls)
 
-unfoldable pub allLines : List (List ℕ) → Answer
-allLines [] = refused 2 1
+unfoldable pub allLines : List (List ℕ) → FileAnswer
+allLines [] = turnedDown badForm 1
 allLines (l ∷ ls) = stepThen (firstLine (rowOf l)) 1 (λ p. laterLines p 2 ls)
 
--- 'run file, length: 0 or above 65,536 bytes'
-abbrev pub mostBytes : ℕ
-mostBytes = 65536
-
-unfoldable pub fileOf : List ℕ → Answer
-fileOf s = cond (within 1 mostBytes (length s)) (allLines (lines s)) (refused 1 0)
+-- a file of a length that is allowed, line after line
+unfoldable pub fileOf : List ℕ → FileAnswer
+fileOf s = cond (within 1 mostBytes (length s)) (allLines (lines s)) (turnedDown badLength 0)

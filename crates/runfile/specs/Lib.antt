@@ -1,3 +1,3 @@
-pub mod Plan
+pub mod Text
 pub mod File
 pub mod Reader

@@ -1,6 +1,6 @@
 -- What the reader's answers say of a file, and what it keeps of a plan while it reads. Assumes nothing.
 use mathlib.Core.Path.{_≡_}
-use mathlib.Core.Bool.{Bool, true, false, cond, _&&_, _||_}
+use mathlib.Core.Bool.{Bool, true, cond, _&&_, _||_}
 use mathlib.Core.List.{List, [], _∷_, _++_}
 use Prim.Native.Nat.{ℕ, suc, _+_, _≤_}
 use lib.Dec.{eqb, leb, ltb}
@@ -8,9 +8,10 @@ use lib.ListN.{length, take, drop}
 use Rattle.ring.specs.Ring.{listing}
 use Rattle.text.specs.declared.Number.{Number}
 use Rattle.text.specs.declared.Number.the-variants.{Value, NoNumber}
-use Rattle.text.specs.Field.{fieldAt, lineFeed}
-use Rattle.runfile.specs.Plan.{Crash, Delay, Plan, planTest, startText, crashText, delayText, rowsText}
-use Rattle.runfile.specs.File.{Answer, accepted, refused, Step, next, stop, lines, laterLines, allLines}
+use Rattle.text.specs.Field.{lineFeed, numberFieldAt}
+use Rattle.plans.specs.Plan.{Crash, Delay, Plan, planTest}
+use Rattle.runfile.specs.Text.{startText, crashText, delayText, rowsText}
+use Rattle.runfile.specs.File.{FileAnswer, accepted, turnedDown, Step, next, stop, lines, laterLines, allLines}
 use Rattle.runfile.specs.declared.Outline.{Outline}
 use Rattle.runfile.specs.declared.Read.{Read}
 use Rattle.runfile.specs.declared.Read.the-variants.{Accepted, Refused}
@@ -23,11 +24,20 @@ use Rattle.runfile.specs.declared.Line.the-variants.{Next, Stop}
 
 -- a plan's values, how many rows of each kind it has, and the place of the first row in its text
 unfoldable pub outlineOf : Plan → Outline
-outlineOf p = record { n = p .n; h = p .h; w = p .w; d = p .d; end = p .end; crashes = length (p .crashes); delays = length (p .delays); rows = length (startText p) }
+outlineOf p = record {
+  n = p .n;
+  h = p .h;
+  w = p .w;
+  d = p .d;
+  end = p .end;
+  crashes = length (p .crashes);
+  delays = length (p .delays);
+  rows = length (startText p);
+}
 
-unfoldable pub readOf : Answer → Read
+unfoldable pub readOf : FileAnswer → Read
 readOf (accepted p) = Accepted (outlineOf p)
-readOf (refused number line) = Refused number line
+readOf (turnedDown number line) = Refused number line
 
 -- ---- what is kept of the plan so far
 
@@ -75,13 +85,13 @@ pub record Kept (p : Plan) (st : Sofar) : Type 0 where
   pub good : planTest p ≡ true
   pub same : st ≡ sofarOf p
 
-unfoldable pub lineOf : Step → Line
-lineOf (next p) = Next (sofarOf p)
-lineOf (stop number) = Stop number
+unfoldable pub lineAnswer : Step → Line
+lineAnswer (next p) = Next (sofarOf p)
+lineAnswer (stop number) = Stop number
 
 -- the line r tells what a step does to every plan of which st is kept
 abbrev pub Tells : Sofar → (Plan → Step) → Line → Type 0
-Tells st step r = (p : Plan) → Kept p st → r ≡ lineOf (step p)
+Tells st step r = (p : Plan) → Kept p st → r ≡ lineAnswer (step p)
 
 -- the lines of s before the place `at` were passed, `line` is the number of the one there, and st is kept of them. The P line ends at
 -- the place rows
@@ -107,10 +117,10 @@ rowThen (Value x i) at f = f x i
 rowThen NoNumber at f = record { first = 0; second = 0; next = at }
 
 -- the two numbers of the line at the place `at`, and the place after it
-unfoldable pub rowAt : List ℕ → ℕ → Fields
-rowAt s at =
-    rowThen (fieldAt s (at + 1)) at λ a i.
-    rowThen (fieldAt s i) at λ b j.
+unfoldable pub fieldsAt : List ℕ → ℕ → Fields
+fieldsAt s at =
+    rowThen (numberFieldAt s (at + 1)) at λ a i.
+    rowThen (numberFieldAt s i) at λ b j.
     record { first = a; second = b; next = j + 1 }
 
 -- the places of crash row i and of delay row i in the plan's text

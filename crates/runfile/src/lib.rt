@@ -1,4 +1,18 @@
 // Run files: their reader, the rows of an accepted file, and their writer.
+use limits::BAD_FORM;
+use limits::BAD_LENGTH;
+use limits::MANY_DELAYS;
+use limits::MOST_BYTES;
+use limits::MOST_D;
+use limits::MOST_DELAYS;
+use limits::MOST_H;
+use limits::MOST_NODES;
+use limits::MOST_NUMBER;
+use limits::MOST_TICK;
+use limits::MOST_W;
+use limits::NOT_RISING;
+use limits::OUT_OF_RANGE;
+use limits::SHORT_TIME_OUT;
 use text::Number;
 use text::Ranged;
 ghost use mathlib.Core.Path.{_≡_};
@@ -7,40 +21,10 @@ ghost use Prim.Native.Nat.{_+_, _<_, _≤_};
 ghost use lib.ListN.{drop, length};
 ghost use Rattle.text.specs.Field.{field};
 ghost use Rattle.text.specs.Put.{Put};
-ghost use Rattle.runfile.specs.Plan.{lineText, startText, crashText, delayText};
-ghost use Rattle.runfile.specs.File.{rowOf, fileOf, allLines, lines, opening, firstLine, laterLine, startLine, crashLine, delayLine, crashOf, delayOf};
-ghost use Rattle.runfile.specs.Reader.{readOf, lineOf, Tells, Passed, follows as Reader·follows, lineLength, rowAt};
-
-// The ranges of a run file.
-pub const MOST_BYTES: usize = 65536;
-
-pub const MOST_NODES: u64 = 64;
-
-pub const MOST_H: u64 = 1000;
-
-pub const MOST_W: u64 = 65535;
-
-pub const MOST_D: u64 = 255;
-
-pub const MOST_END: u64 = 1000000;
-
-pub const MOST_NUMBER: u64 = 999999;
-
-pub const MOST_DELAYS: usize = 2048;
-
-// The numbers of its refusals: the file's length; a line's form; a range; W below H + D; rows that do not rise, or a node twice; one
-// L line too many.
-const LENGTH: u64 = 1;
-
-const FORM: u64 = 2;
-
-const RANGE: u64 = 3;
-
-const SHORT: u64 = 4;
-
-const ORDER: u64 = 5;
-
-const MANY: u64 = 6;
+ghost use Rattle.runfile.specs.Text.{lineText, startText, crashText, delayText};
+ghost use Rattle.runfile.specs.File.{rowOf, fileOf, allLines, lines, firstLine, laterLine, startLine, crashLine, delayLine, crashOf, delayOf};
+ghost use Rattle.plans.specs.Plan.{startPlan};
+ghost use Rattle.runfile.specs.Reader.{readOf, lineAnswer, Tells, Passed, follows as Reader·follows, lineLength, fieldsAt};
 
 // What an accepted file plans: the values of its P line, how many C and L lines it has, and the place of the first of them.
 pub struct Outline {
@@ -84,25 +68,25 @@ enum Line {
 
 // The values of a P line.
 fn take_start(n: u64, h: u64, w: u64, d: u64, end: u64) -> Line
-    ensures { λ r. ⌜ r ≡ lineOf (startLine (opening n h w d end)) ⌝ }
+    ensures { λ r. ⌜ r ≡ lineAnswer (startLine (startPlan n h w d end)) ⌝ }
 {
-    let Ranged::Within(n) = text::in_range(n, 1, MOST_NODES) else {
-        return Line::Stop(RANGE);
+    let Ranged::Within(n) = text::in_range(n, 1, MOST_NODES as u64) else {
+        return Line::Stop(OUT_OF_RANGE);
     };
     let Ranged::Within(h) = text::in_range(h, 1, MOST_H) else {
-        return Line::Stop(RANGE);
+        return Line::Stop(OUT_OF_RANGE);
     };
     let Ranged::Within(w) = text::in_range(w, 1, MOST_W) else {
-        return Line::Stop(RANGE);
+        return Line::Stop(OUT_OF_RANGE);
     };
     let Ranged::Within(d) = text::in_range(d, 1, MOST_D) else {
-        return Line::Stop(RANGE);
+        return Line::Stop(OUT_OF_RANGE);
     };
-    let Ranged::Within(end) = text::in_range(end, 0, MOST_END) else {
-        return Line::Stop(RANGE);
+    let Ranged::Within(end) = text::in_range(end, 0, MOST_TICK) else {
+        return Line::Stop(OUT_OF_RANGE);
     };
     if w < h + d {
-        return Line::Stop(SHORT);
+        return Line::Stop(SHORT_TIME_OUT);
     }
     Line::Next(Sofar {
         n,
@@ -121,31 +105,31 @@ fn take_start(n: u64, h: u64, w: u64, d: u64, end: u64) -> Line
 
 // The first line, which is to be the P line.
 fn first_line(l: &[u8]) -> Line
-    ensures { λ r. ⌜ r ≡ lineOf (firstLine (rowOf (now (l .entry)))) ⌝ }
+    ensures { λ r. ⌜ r ≡ lineAnswer (firstLine (rowOf (now (l .entry)))) ⌝ }
 {
     if l.len() == 0 {
-        return Line::Stop(FORM);
+        return Line::Stop(BAD_FORM);
     }
     if l[0] != b'P' {
-        return Line::Stop(FORM);
+        return Line::Stop(BAD_FORM);
     }
     let Number::Value(n, i) = text::read_field(l, 1) else {
-        return Line::Stop(FORM);
+        return Line::Stop(BAD_FORM);
     };
     let Number::Value(h, j) = text::read_field(l, i) else {
-        return Line::Stop(FORM);
+        return Line::Stop(BAD_FORM);
     };
     let Number::Value(w, k) = text::read_field(l, j) else {
-        return Line::Stop(FORM);
+        return Line::Stop(BAD_FORM);
     };
     let Number::Value(d, m) = text::read_field(l, k) else {
-        return Line::Stop(FORM);
+        return Line::Stop(BAD_FORM);
     };
     let Number::Value(end, e) = text::read_field(l, m) else {
-        return Line::Stop(FORM);
+        return Line::Stop(BAD_FORM);
     };
     if !text::ends(l, e) {
-        return Line::Stop(FORM);
+        return Line::Stop(BAD_FORM);
     }
     take_start(n, h, w, d, end)
 }
@@ -169,19 +153,19 @@ fn take_crash(st: Sofar, tick: u64, node: u64) -> Line
     ensures { λ r. ⌜ Tells st (λ p. crashLine p (record { tick = tick; node = node })) r ⌝ }
 {
     if st.delays != 0 {
-        return Line::Stop(FORM);
+        return Line::Stop(BAD_FORM);
     }
     let Ranged::Within(tick) = text::in_range(tick, 0, st.end) else {
-        return Line::Stop(RANGE);
+        return Line::Stop(OUT_OF_RANGE);
     };
     let Ranged::Within(node) = text::in_range(node, 0, st.n - 1) else {
-        return Line::Stop(RANGE);
+        return Line::Stop(OUT_OF_RANGE);
     };
     if !follows(st.tick, st.node, tick, node) {
-        return Line::Stop(ORDER);
+        return Line::Stop(NOT_RISING);
     }
     if ring::is_listed(st.seen, node as u8) {
-        return Line::Stop(ORDER);
+        return Line::Stop(NOT_RISING);
     }
     Line::Next(Sofar {
         n: st.n,
@@ -203,16 +187,16 @@ fn take_delay(st: Sofar, number: u64, delay: u64) -> Line
     ensures { λ r. ⌜ Tells st (λ p. delayLine p (record { number = number; delay = delay })) r ⌝ }
 {
     let Ranged::Within(number) = text::in_range(number, 0, MOST_NUMBER) else {
-        return Line::Stop(RANGE);
+        return Line::Stop(OUT_OF_RANGE);
     };
     let Ranged::Within(_) = text::in_range(delay, 1, st.d) else {
-        return Line::Stop(RANGE);
+        return Line::Stop(OUT_OF_RANGE);
     };
     if number < st.number {
-        return Line::Stop(ORDER);
+        return Line::Stop(NOT_RISING);
     }
     if MOST_DELAYS <= st.delays {
-        return Line::Stop(MANY);
+        return Line::Stop(MANY_DELAYS);
     }
     Line::Next(Sofar {
         n: st.n,
@@ -235,13 +219,13 @@ fn crash_line(st: Sofar, l: &[u8]) -> Line
     ensures { λ r. ⌜ Tells st (λ p. laterLine p (crashOf (now (l .entry)))) r ⌝ }
 {
     let Number::Value(tick, i) = text::read_field(l, 1) else {
-        return Line::Stop(FORM);
+        return Line::Stop(BAD_FORM);
     };
     let Number::Value(node, j) = text::read_field(l, i) else {
-        return Line::Stop(FORM);
+        return Line::Stop(BAD_FORM);
     };
     if !text::ends(l, j) {
-        return Line::Stop(FORM);
+        return Line::Stop(BAD_FORM);
     }
     take_crash(st, tick, node)
 }
@@ -251,13 +235,13 @@ fn delay_line(st: Sofar, l: &[u8]) -> Line
     ensures { λ r. ⌜ Tells st (λ p. laterLine p (delayOf (now (l .entry)))) r ⌝ }
 {
     let Number::Value(number, i) = text::read_field(l, 1) else {
-        return Line::Stop(FORM);
+        return Line::Stop(BAD_FORM);
     };
     let Number::Value(delay, j) = text::read_field(l, i) else {
-        return Line::Stop(FORM);
+        return Line::Stop(BAD_FORM);
     };
     if !text::ends(l, j) {
-        return Line::Stop(FORM);
+        return Line::Stop(BAD_FORM);
     }
     take_delay(st, number, delay)
 }
@@ -268,13 +252,13 @@ fn later_line(st: Sofar, l: &[u8]) -> Line
     ensures { λ r. ⌜ Tells st (λ p. laterLine p (rowOf (now (l .entry)))) r ⌝ }
 {
     if l.len() == 0 {
-        return Line::Stop(FORM);
+        return Line::Stop(BAD_FORM);
     }
     let letter = l[0];
     match letter {
         b'C' => crash_line(st, l),
         b'L' => delay_line(st, l),
-        _ => Line::Stop(FORM),
+        _ => Line::Stop(BAD_FORM),
     }
 }
 
@@ -332,10 +316,10 @@ pub fn read_file(s: &[u8]) -> Read
     ensures { λ r. ⌜ r ≡ readOf (fileOf (now (s .entry))) ⌝ }
 {
     if s.len() == 0 {
-        return Read::Refused(LENGTH, 0);
+        return Read::Refused(BAD_LENGTH, 0);
     }
     if MOST_BYTES < s.len() {
-        return Read::Refused(LENGTH, 0);
+        return Read::Refused(BAD_LENGTH, 0);
     }
     let rows = line_end(s, 0);
     let step = first_line(&s[..rows]);
@@ -354,7 +338,7 @@ pub struct Fields {
 
 // The C or L line at the place at. Where there is none, the answer's place is at.
 pub fn row_at(s: &[u8], at: usize) -> Fields
-    ensures { λ r. ⌜ r ≡ rowAt (now (s .entry)) at ⌝ }
+    ensures { λ r. ⌜ r ≡ fieldsAt (now (s .entry)) at ⌝ }
 {
     if s.len() <= at {
         return Fields {
@@ -407,8 +391,8 @@ fn put_row(out: &mut [u8], at: usize, letter: u8, a: u64, b: u64) -> usize
 
 // A P line.
 pub fn put_start(out: &mut [u8], at: usize, n: u64, h: u64, w: u64, d: u64, end: u64) -> usize
-    requires { ⌜ at + length (startText (opening n h w d end)) ≤ length (now out) ⌝ }
-    ensures { λ r. ⌜ Put (now (out .entry)) at (startText (opening n h w d end)) r (now (out .exit)) ⌝ }
+    requires { ⌜ at + length (startText (startPlan n h w d end)) ≤ length (now out) ⌝ }
+    ensures { λ r. ⌜ Put (now (out .entry)) at (startText (startPlan n h w d end)) r (now (out .exit)) ⌝ }
 {
     let i = text::put_byte(out, at, b'P');
     let j = put_two(out, i, n, h);

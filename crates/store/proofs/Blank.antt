@@ -1,185 +1,90 @@
--- The counts and the unused bytes of a store, part by part, as number 7's test goes through them. Assumes nothing.
-use Prim.Native.Nat.{ℕ}
-use mathlib.Core.Path.{_≡_, refl, sym, ap, _∙_}
-use mathlib.Core.Bool.{Bool, true, false, _&&_}
-use mathlib.Core.List.{List}
-use borrow.Author.Tests.{leb-true}
-use lib.Dec.{eqb, leb}
-use lib.ListN.{length, length-map}
-use lib.Seq.{slice, slice-empty}
-use Rattle.node.specs.declared.Node.{Node}
-use Rattle.runfile.specs.Plan.{Crash, Delay, planTest}
-use Rattle.model.specs.Platform.{InFlight}
-use Rattle.ring.specs.Limits.{mostNext}
-use Rattle.model.specs.Range.{soundTest, storeTest}
-use Rattle.model.proofs.Bools.{and-split}
+-- The unused bytes of a store: what was encoded has zeros there, and a test of them, kind by kind of rows. Assumes nothing.
+use Prim.Native.Nat.{ℕ, zero, suc, _+_, _-_, _*_, _≤_}
+use mathlib.Core.Path.{_≡_, refl, sym, _∙_}
+use mathlib.Core.Bool.{true, _&&_, and-eq-true-iff, and-true}
+use mathlib.Core.List.{List, [], _∷_, _++_, append-assoc}
+use native.Mathlib.Nat.{mul-le-mul-left}
+use native.Mathlib.Omega.{arith}
+use borrow.Author.Tests.{eqb-true}
+use lib.Dec.{eqb}
+use lib.ListN.{length, replicate, length-append, length-replicate}
+use lib.Seq.{slice, slice-empty, take-at, drop-at}
 use Rattle.fields.specs.Fields.{zeros}
-use Rattle.store.specs.Columns.{roomTest, restZero, unusedTest}
-use Rattle.store.specs.Store.{storeSize, columns, planIn, stateIn, spareHead, spareNodes, spareTail, emitters, observers, watches, heartbeats, deadLists, crashTicks, crashNodes, delayNumbers, delayTicks, messageNumbers, messageDues, messageKinds, messageSenders, messageReceivers, messageSubjects, storeInRange}
-use Rattle.store.specs.Inside.{Sized, nodesRest, rowsRest, messagesRest}
-use Rattle.store.proofs.Store.{length-nodes}
+use Rattle.plans.specs.Plan.{Plan}
+use Rattle.model.specs.Platform.{State}
+use Rattle.store.specs.Columns.{Column, Part, size, used, packs, columnBytes, bytesOf, restZero, unusedTest, columnsOf, placesTest, restTest}
+use Rattle.store.specs.Store.{spareHead, spareNodes, spareTail, headParts, nodeParts, crashParts, delayParts, messageParts, contents, columns, encode}
+use Rattle.store.specs.Inside.{Fits}
+use Rattle.store.proofs.Parts.{length-packs}
+use Rattle.store.proofs.Columns.{Laid, length-column}
+use Rattle.store.proofs.Groups.{unused-append, rests-test}
+use Rattle.store.proofs.Store.{laid, head-places}
 
--- ---- conjunctions
+-- ---- what was encoded
 
-and-true : (a : Bool) → (a && true) ≡ a
-and-true true = refl
-and-true false = refl
+zeros-all : (n : ℕ) → zeros (replicate n 0) ≡ true
+unfolding zeros
+zeros-all zero = refl
+zeros-all (suc n) = zeros-all n
 
--- a group of tests, or one after another
-two : (a b x : Bool) → ((a && b) && x) ≡ (a && (b && x))
-two false b x = refl
-two true b x = refl
+-- the unused bytes of a column that stands after a and before z
+unused-column : (a z : List ℕ) (c : Column) → length a ≡ c .field .at → length (c .values) ≤ c .field .places
+    → zeros (slice (c .field .at + used c) (c .field .at + size (c .field)) (a ++ (columnBytes c ++ z))) ≡ true
+unfolding columnBytes
+unused-column a z c starts room =
+    let w : ℕ = c .field .width in
+    let k : ℕ = size (c .field) - used c in
+    let front : List ℕ = a ++ packs w (c .values) in
+    let blank : List ℕ = replicate k 0 in
+    let le : used c ≤ size (c .field) = mul-le-mul-left w room in
+    let split : a ++ ((packs w (c .values) ++ blank) ++ z) ≡ (front ++ blank) ++ z = simp append-assoc in
+    let before : length front ≡ c .field .at + used c = length-append a (packs w (c .values)) ∙ rw (starts, length-packs w (c .values)) in
+    let whole : length (front ++ blank) ≡ c .field .at + size (c .field) =
+    length-append front blank ∙ rw (before, length-replicate {A = ℕ} k 0) (omega arith) in
+    rw (split, take-at (front ++ blank) z (c .field .at + size (c .field)) whole, drop-at front blank (c .field .at + used c) before) (zeros-all k)
 
-four : (a b c d x : Bool) → (a && (b && (c && (d && x)))) ≡ ((a && (b && (c && d))) && x)
-four false b c d x = refl
-four true false c d x = refl
-four true true false d x = refl
-four true true true d x = refl
+-- columns one after another, after bytes that end at o
+unused-from : (a : List ℕ) (cs : List Column) (o : ℕ) → length a ≡ o → Laid o cs → unusedTest (a ++ bytesOf cs) cs ≡ true
+unfolding Laid bytesOf unusedTest
+unused-from a [] o starts l = refl
+unused-from a (c ∷ cs) o starts l =
+    let ends : length (a ++ columnBytes c) ≡ o + size (c .field) = length-append a (columnBytes c) ∙ rw (starts, length-column c (l .1)) in
+    let rest : unusedTest (a ++ (columnBytes c ++ bytesOf cs)) cs ≡ true =
+    rw (← append-assoc a (columnBytes c) (bytesOf cs)) (unused-from (a ++ columnBytes c) cs (o + size (c .field)) ends (l .2)) in
+    rw (unused-column a (bytesOf cs) c (starts ∙ sym (l .0)) (l .1), rest)
 
-five : (a b c d e x : Bool) → (a && (b && (c && (d && (e && x))))) ≡ ((a && (b && (c && (d && e)))) && x)
-five false b c d e x = refl
-five true b c d e x = four b c d e x
+pub unused-encode : (p : Plan) (s : State) → Fits p s → unusedTest (encode p s) (columns p s) ≡ true
+unfolding encode
+unused-encode p s f = unused-from [] (columns p s) 0 refl (laid p s f)
 
-six : (a b c d e f x : Bool) → (a && (b && (c && (d && (e && (f && x)))))) ≡ ((a && (b && (c && (d && (e && f))))) && x)
-six false b c d e f x = refl
-six true b c d e f x = five b c d e f x
+-- ---- the test, kind by kind
 
--- tests that are made again and again are made once
-once : (n c l m : Bool)
-    → (n && (n && (n && (n && (n && (c && (c && (l && (l && (m && (m && (m && (m && (m && (m && true))))))))))))))) ≡ (n && (c && (l && m)))
-once false c l m = refl
-once true false l m = refl
-once true true false m = refl
-once true true true false = refl
-once true true true true = refl
+-- where all places are in use, none is left
+rest-full : {A : Type 0} (k : ℕ) (gs : List (Part A)) (b : List ℕ) → placesTest k gs ≡ true → restTest gs b k ≡ true
+unfolding placesTest restTest zeros
+rest-full k [] b h = refl
+rest-full k (g ∷ gs) b h =
+    let h′ = and-eq-true-iff (eqb (g .field .places) k) (placesTest k gs) .0 h in
+    let places : g .field .places ≡ k = eqb-true (g .field .places) k (h′ .0) in
+    rw (places, slice-empty (g .field .at + g .field .width * k) b, rest-full k gs b (h′ .1))
 
-groups : (h k t n1 n2 n3 n4 n5 r1 r2 r3 r4 m1 m2 m3 m4 m5 m6 : Bool)
-    → (h && (n1 && (n2 && (n3 && (n4 && (n5 && (k && (r1 && (r2 && (r3 && (r4 && (m1 && (m2 && (m3 && (m4 && (m5 && (m6 && (t && true))))))))))))))))))
-    ≡ (h && ((n1 && (n2 && (n3 && (n4 && n5)))) && (k && ((r1 && (r2 && (r3 && r4))) && ((m1 && (m2 && (m3 && (m4 && (m5 && m6))))) && t)))))
-groups h k t n1 n2 n3 n4 n5 r1 r2 r3 r4 m1 m2 m3 m4 m5 m6 =
-    rw (and-true t, six m1 m2 m3 m4 m5 m6 t)
-    (ap (λ (x : Bool). h && (n1 && (n2 && (n3 && (n4 && (n5 && (k && x))))))) (four r1 r2 r3 r4 ((m1 && (m2 && (m3 && (m4 && (m5 && m6))))) && t))
-    ∙ ap (λ (x : Bool). h && x) (five n1 n2 n3 n4 n5 (k && ((r1 && (r2 && (r3 && r4))) && ((m1 && (m2 && (m3 && (m4 && (m5 && m6))))) && t)))))
-
-module _ (b : List ℕ) where
-  abbrev n : ℕ
-  n = planIn b .n
-
-  abbrev c : ℕ
-  c = length (planIn b .crashes)
-
-  abbrev l : ℕ
-  l = length (planIn b .delays)
-
-  abbrev m : ℕ
-  m = length (stateIn b .flight)
-
-  -- ---- the counts
-
-  pub room-parts : roomTest (columns (planIn b) (stateIn b)) ≡ (leb n 64 && (leb c 64 && (leb l 2048 && leb m 2048)))
-  unfolding roomTest columns
-  room-parts =
-      rw (
-        length-map (stateIn b .nodes) (λ (a : Node). a .emitter),
-        length-map (stateIn b .nodes) (λ (a : Node). a .observer),
-        length-map (stateIn b .nodes) (λ (a : Node). a .watch),
-        length-map (stateIn b .nodes) (λ (a : Node). a .heartbeat),
-        length-map (stateIn b .nodes) (λ (a : Node). a .list),
-        length-map (planIn b .crashes) (λ (r : Crash). r .tick),
-        length-map (planIn b .crashes) (λ (r : Crash). r .node),
-        length-map (planIn b .delays) (λ (r : Delay). r .number),
-        length-map (planIn b .delays) (λ (r : Delay). r .delay),
-        length-map (stateIn b .flight) (λ (r : InFlight). r .number),
-        length-map (stateIn b .flight) (λ (r : InFlight). r .due),
-        length-map (stateIn b .flight) (λ (r : InFlight). r .kind),
-        length-map (stateIn b .flight) (λ (r : InFlight). r .from),
-        length-map (stateIn b .flight) (λ (r : InFlight). r .to),
-        length-map (stateIn b .flight) (λ (r : InFlight). r .subject),
-        length-nodes b,
-      )
-      (once (leb n 64) (leb c 64) (leb l 2048) (leb m 2048))
-
-  -- ---- the unused bytes
-
-  -- a field of one place that holds a number has none
-  full : (at : ℕ) → zeros (slice at at b) ≡ true
-  unfolding zeros
-  full at = rw (slice-empty at b)
-
-  pub unused-parts : unusedTest b (columns (planIn b) (stateIn b))
-      ≡ (restZero b spareHead 0 && (nodesRest b n && (restZero b spareNodes 0 && (rowsRest b c l && (messagesRest b m && restZero b spareTail 0)))))
-  unfolding unusedTest columns nodesRest rowsRest messagesRest
-  unused-parts =
-      rw (
-        length-map (stateIn b .nodes) (λ (a : Node). a .emitter),
-        length-map (stateIn b .nodes) (λ (a : Node). a .observer),
-        length-map (stateIn b .nodes) (λ (a : Node). a .watch),
-        length-map (stateIn b .nodes) (λ (a : Node). a .heartbeat),
-        length-map (stateIn b .nodes) (λ (a : Node). a .list),
-        length-map (planIn b .crashes) (λ (r : Crash). r .tick),
-        length-map (planIn b .crashes) (λ (r : Crash). r .node),
-        length-map (planIn b .delays) (λ (r : Delay). r .number),
-        length-map (planIn b .delays) (λ (r : Delay). r .delay),
-        length-map (stateIn b .flight) (λ (r : InFlight). r .number),
-        length-map (stateIn b .flight) (λ (r : InFlight). r .due),
-        length-map (stateIn b .flight) (λ (r : InFlight). r .kind),
-        length-map (stateIn b .flight) (λ (r : InFlight). r .from),
-        length-map (stateIn b .flight) (λ (r : InFlight). r .to),
-        length-map (stateIn b .flight) (λ (r : InFlight). r .subject),
-        length-nodes b,
-        full 1,
-        full 2,
-        full 4,
-        full 6,
-        full 7,
-        full 8,
-        full 12,
-        full 16,
-        full 24,
-        full 26,
-        full 28,
-      )
-      (groups
-      (restZero b spareHead 0)
-      (restZero b spareNodes 0)
-      (restZero b spareTail 0)
-      (restZero b emitters n)
-      (restZero b observers n)
-      (restZero b watches n)
-      (restZero b heartbeats n)
-      (restZero b deadLists n)
-      (restZero b crashTicks c)
-      (restZero b crashNodes c)
-      (restZero b delayNumbers l)
-      (restZero b delayTicks l)
-      (restZero b messageNumbers m)
-      (restZero b messageDues m)
-      (restZero b messageKinds m)
-      (restZero b messageSenders m)
-      (restZero b messageReceivers m)
-      (restZero b messageSubjects m))
-
-  -- bytes of a store's length that pass are what the readers ask for
-  pub sized-of : length b ≡ storeSize → roomTest (columns (planIn b) (stateIn b)) ≡ true → Sized b
-  sized-of size room =
-      let nodes = and-split (leb n 64) _ (sym room-parts ∙ room) in
-      let crashes = and-split (leb c 64) _ (nodes .1) in
-      let rest = and-split (leb l 2048) (leb m 2048) (crashes .1) in
-      record {
-        size = size;
-        counts = record {
-          nodes = leb-true n 64 (nodes .0);
-          crashes = leb-true c 64 (crashes .0);
-          delays = leb-true l 2048 (rest .0);
-          messages = leb-true m 2048 (rest .1);
-        };
-      }
-
-  -- the whole test, place by place
-  pub range-parts : storeInRange b
-      ≡ (eqb (length b) storeSize
-      && (roomTest (columns (planIn b) (stateIn b))
-      && (planTest (planIn b) && ((soundTest (planIn b) (stateIn b) && leb (stateIn b .next) mostNext) && unusedTest b (columns (planIn b) (stateIn b))))))
-  unfolding storeInRange storeTest
-  range-parts = ap (λ (x : Bool). eqb (length b) storeSize && (roomTest (columns (planIn b) (stateIn b)) && x))
-      (two (planTest (planIn b)) (soundTest (planIn b) (stateIn b) && leb (stateIn b .next) mostNext) (unusedTest b (columns (planIn b) (stateIn b))))
+pub unused-parts : (b : List ℕ) (p : Plan) (s : State) → unusedTest b (columns p s)
+    ≡ (restZero b spareHead 0 && (restTest nodeParts b (length (s .nodes)) && (restZero b spareNodes 0
+    && (restTest crashParts b (length (p .crashes)) && (restTest delayParts b (length (p .delays))
+    && (restTest messageParts b (length (s .flight)) && restZero b spareTail 0))))))
+unfolding unusedTest columns
+unused-parts b p s =
+    rw (
+      unused-append b (columnsOf headParts (contents p s ∷ [])),
+      unused-append b (columnsOf nodeParts (s .nodes)),
+      unused-append b (columnsOf crashParts (p .crashes)),
+      unused-append b (columnsOf delayParts (p .delays)),
+      unused-append b (columnsOf messageParts (s .flight)),
+      rests-test (contents p s ∷ []) b headParts,
+      rest-full 1 headParts b head-places,
+      rests-test (s .nodes) b nodeParts,
+      rests-test (p .crashes) b crashParts,
+      rests-test (p .delays) b delayParts,
+      rests-test (s .flight) b messageParts,
+      and-true (restZero b spareTail 0),
+    )

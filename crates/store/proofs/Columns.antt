@@ -1,17 +1,19 @@
 -- Laws of columns, for any list of them: a number of any column is got, put, added after the last or taken out, or all of them are
 -- cleared away, and the bytes are those of the columns so changed. Assumes nothing.
-use Prim.Native.Nat.{ℕ, zero, suc, _+_, _-_, _*_, _≤_, _<_, _^_}
+use Prim.Native.Nat.{ℕ, suc, _+_, _-_, _*_, _≤_, _<_, _^_}
 use mathlib.Core.Path.{_≡_, refl, sym, ap, _∙_}
-use mathlib.Core.Bool.{cond}
+use mathlib.Core.Bool.{Bool, true, false, cond, _&&_, and-eq-true-iff}
 use mathlib.Core.List.{List, [], _∷_, _++_, append-assoc}
 use native.Mathlib.Nat.{mul-zero, mul-suc, mul-le-mul-left}
 use native.Mathlib.Omega.{arith}
+use borrow.Author.Tests.{eqb-true}
 use lib.Dec.{eqb}
 use lib.ListN.{length, take, drop, getD, set, replicate, length-append, length-replicate, length-set, length-drop, replicate-append-replicate}
-use lib.Seq.{split-at, set-split, length-take-le}
+use lib.Seq.{length-take-le}
 use Rattle.fields.specs.Fields.{fieldAt, putAt, cleared}
-use Rattle.store.specs.Gap.{without, closed}
-use Rattle.store.specs.Columns.{Field, Column, field, unused, withValues, cell, size, used, packs, columnBytes, bytesOf}
+use Rattle.model.specs.Platform.{without}
+use Rattle.store.specs.Gap.{closed}
+use Rattle.store.specs.Columns.{Field, Column, withValues, cell, cellPut, cellOut, fieldCleared, numbersPut, size, used, packs, columnBytes, bytesOf}
 use Rattle.store.proofs.Parts.{cleared-part, length-packs, get-packs, put-packs, closed-packs, add-packs}
 
 pub length-without : {A : Type 0} (i : ℕ) (l : List A) → i < length l → suc (length (without i l)) ≡ length l
@@ -27,7 +29,8 @@ unfolding columnBytes
 length-column c h =
     let w : ℕ = c .field .width in
     let le : w * length (c .values) ≤ w * c .field .places = mul-le-mul-left w h in
-    rw (length-append (packs w (c .values)) (replicate (size (c .field) - used c) 0), length-packs w (c .values), length-replicate {A = ℕ} (size (c .field) - used c) 0) (omega arith)
+    let k : ℕ = size (c .field) - used c in
+    rw (length-append (packs w (c .values)) (replicate k 0), length-packs w (c .values), length-replicate {A = ℕ} k 0) (omega arith)
 
 -- a column that stands after a, which ends at o, and before z
 module _ (a z : List ℕ) (c : Column) (o : ℕ) (starts : length a ≡ o) where
@@ -91,132 +94,140 @@ module _ (a z : List ℕ) (c : Column) (o : ℕ) (starts : length a ≡ o) where
 
 -- ---- columns one after another
 
-abbrev pub columnAt : List Column → ℕ → Column
-columnAt cs k = getD cs k (unused (field 0 0 0))
-
--- which column has a field
-unfoldable pub columnOf : List Column → Field → ℕ
-columnOf [] f = 0
-columnOf (c ∷ cs) f = cond (eqb (c .field .at) (f .at)) 0 (suc (columnOf cs f))
-
--- columns with another number at place i of column k, with one more, with one fewer, with none
-unfoldable pub putIn : List Column → ℕ → ℕ → ℕ → List Column
-putIn cs k i x = set cs k (withValues (columnAt cs k) (set ((columnAt cs k) .values) i x))
-
-unfoldable pub addIn : List Column → ℕ → ℕ → List Column
-addIn cs k x = set cs k (withValues (columnAt cs k) ((columnAt cs k) .values ++ (x ∷ [])))
-
-unfoldable pub takeIn : List Column → ℕ → ℕ → List Column
-takeIn cs k i = set cs k (withValues (columnAt cs k) (without i ((columnAt cs k) .values)))
-
-unfoldable pub clearIn : List Column → ℕ → List Column
-clearIn cs k = set cs k (withValues (columnAt cs k) [])
-
 -- each column starts where the one before it ends, the first at o, and has no more numbers than places
 unfoldable pub Laid : ℕ → List Column → Type 0
 Laid o [] = Unit
 Laid o (c ∷ cs) = (c .field .at ≡ o) × (length (c .values) ≤ c .field .places) × Laid (o + size (c .field)) cs
 
-pub laid-room : (o : ℕ) (cs : List Column) (k : ℕ) → Laid o cs → k < length cs → length ((columnAt cs k) .values) ≤ (columnAt cs k) .field .places
-unfolding Laid
-laid-room o [] k l h = absurd (omega arith)
-laid-room o (c ∷ cs) zero l h = l .1
-laid-room o (c ∷ cs) (suc k) l h = laid-room (o + size (c .field)) cs k (l .2) (omega arith)
-
--- other numbers in a column leave the columns laid
-pub laid-set : (o : ℕ) (cs : List Column) (k : ℕ) (ys : List ℕ) → Laid o cs → length ys ≤ (columnAt cs k) .field .places
-    → Laid o (set cs k (withValues (columnAt cs k) ys))
-unfolding Laid
-laid-set o [] k ys l h = tt
-laid-set o (c ∷ cs) zero ys l h = (l .0, h, l .2)
-laid-set o (c ∷ cs) (suc k) ys l h = (l .0, l .1, laid-set (o + size (c .field)) cs k ys (l .2) h)
-
-bytes-append : (cs ds : List Column) → bytesOf (cs ++ ds) ≡ bytesOf cs ++ bytesOf ds
+pub bytes-append : (cs ds : List Column) → bytesOf (cs ++ ds) ≡ bytesOf cs ++ bytesOf ds
 unfolding bytesOf
 bytes-append [] ds = refl
 bytes-append (c ∷ cs) ds = rw (bytes-append cs ds) (sym (append-assoc (columnBytes c) (bytesOf cs) (bytesOf ds)))
 
-front-ends : (o : ℕ) (cs : List Column) (k : ℕ) → Laid o cs → k < length cs → o + length (bytesOf (take k cs)) ≡ (columnAt cs k) .field .at
-unfolding Laid bytesOf
-front-ends o [] k l h = absurd (omega arith)
-front-ends o (c ∷ cs) zero l h = omega (arith, l .0)
-front-ends o (c ∷ cs) (suc k) l h =
-    let rec : o + size (c .field) + length (bytesOf (take k cs)) ≡ (columnAt cs k) .field .at =
-    front-ends (o + size (c .field)) cs k (l .2) (omega arith) in
-    rw (length-append (columnBytes c) (bytesOf (take k cs)), length-column c (l .1)) (omega arith)
+-- column c, after the columns of front
+module _ (c : Column) (back : List Column) where
+  pub laid-room : (front : List Column) (o : ℕ) → Laid o (front ++ (c ∷ back)) → length (c .values) ≤ c .field .places
+  unfolding Laid
+  laid-room [] o l = l .1
+  laid-room (d ∷ front) o l = laid-room front (o + size (d .field)) (l .2)
 
--- columns that start at 0; column k among them
-module _ (cs : List Column) (laid : Laid 0 cs) (k : ℕ) (has : k < length cs) where
-  abbrev c : Column
-  c = columnAt cs k
+  -- other numbers in a column leave the columns laid
+  pub laid-with : (front : List Column) (o : ℕ) (ys : List ℕ) → length ys ≤ c .field .places → Laid o (front ++ (c ∷ back))
+      → Laid o (front ++ (withValues c ys ∷ back))
+  unfolding Laid
+  laid-with [] o ys h l = (l .0, h, l .2)
+  laid-with (d ∷ front) o ys h l = (l .0, l .1, laid-with front (o + size (d .field)) ys h (l .2))
 
+  front-ends : (front : List Column) (o : ℕ) → Laid o (front ++ (c ∷ back)) → o + length (bytesOf front) ≡ c .field .at
+  unfolding Laid bytesOf
+  front-ends [] o l = omega (arith, l .0)
+  front-ends (d ∷ front) o l =
+      let rec : o + size (d .field) + length (bytesOf front) ≡ c .field .at = front-ends front (o + size (d .field)) (l .2) in
+      rw (length-append (columnBytes d) (bytesOf front), length-column d (l .1)) (omega arith)
+
+-- columns that start at 0; column c among them
+module _ (front : List Column) (c : Column) (back : List Column) (laid : Laid 0 (front ++ (c ∷ back))) where
   abbrev at : ℕ
   at = c .field .at
 
-  abbrev front : List ℕ
-  front = bytesOf (take k cs)
+  abbrev n : ℕ
+  n = length (c .values)
 
-  abbrev back : List ℕ
-  back = bytesOf (drop (suc k) cs)
+  -- the same columns with other numbers in c
+  abbrev with : List ℕ → List Column
+  with ys = front ++ (withValues c ys ∷ back)
 
-  starts : length front ≡ at
-  starts = let e : 0 + length front ≡ at = front-ends 0 cs k laid has in omega arith
+  starts : length (bytesOf front) ≡ at
+  starts = let e : 0 + length (bytesOf front) ≡ at = front-ends c back front 0 laid in omega arith
 
-  around : bytesOf cs ≡ front ++ (columnBytes c ++ back)
+  around : (ys : List ℕ) → bytesOf (with ys) ≡ bytesOf front ++ (columnBytes (withValues c ys) ++ bytesOf back)
   unfolding bytesOf
-  around = ap bytesOf (split-at cs k (unused (field 0 0 0)) has) ∙ bytes-append (take k cs) (c ∷ drop (suc k) cs)
-
-  around-set : (d : Column) → bytesOf (set cs k d) ≡ front ++ (columnBytes d ++ back)
-  unfolding bytesOf
-  around-set d = ap bytesOf (set-split cs k d has) ∙ bytes-append (take k cs) (d ∷ drop (suc k) cs)
+  around ys = bytes-append front (withValues c ys ∷ back)
 
   -- the number at place i is got
-  pub get-cell : (i : ℕ) → i < length (c .values) → getD (c .values) i 0 < 256 ^ c .field .width → cell (bytesOf cs) (c .field) i ≡ getD (c .values) i 0
-  get-cell i h fits = rw around (get-column front back c at starts i h fits)
+  pub get-cell : (i : ℕ) → i < n → getD (c .values) i 0 < 256 ^ c .field .width
+      → cell (bytesOf (front ++ (c ∷ back))) (c .field) i ≡ getD (c .values) i 0
+  get-cell i h fits = rw (around (c .values)) (get-column (bytesOf front) (bytesOf back) c at starts i h fits)
 
   -- a number is put at place i
-  pub put-cell : (i x : ℕ) → i < length (c .values) → putAt (bytesOf cs) (at + c .field .width * i) (c .field .width) x ≡ bytesOf (putIn cs k i x)
-  unfolding putIn
+  pub put-cell : (i x : ℕ) → i < n → cellPut (bytesOf (front ++ (c ∷ back))) (c .field) i x ≡ bytesOf (with (set (c .values) i x))
   put-cell i x h =
-      ap (λ (l : List ℕ). putAt l (at + c .field .width * i) (c .field .width) x) around ∙ put-column front back c at starts i x h ∙ sym (around-set (withValues c (set (c .values) i x)))
-
-  pub laid-put : (i x : ℕ) → Laid 0 (putIn cs k i x)
-  unfolding putIn
-  laid-put i x = laid-set 0 cs k (set (c .values) i x) laid (rw (length-set (c .values) i x) (laid-room 0 cs k laid has))
+      ap (λ (l : List ℕ). cellPut l (c .field) i x) (around (c .values))
+      ∙ put-column (bytesOf front) (bytesOf back) c at starts i x h
+      ∙ sym (around (set (c .values) i x))
 
   -- a number is put after the last
-  pub add-cell : (x : ℕ) → length (c .values) < c .field .places → putAt (bytesOf cs) (at + c .field .width * length (c .values)) (c .field .width) x ≡ bytesOf (addIn cs k x)
-  unfolding addIn
+  pub add-cell : (x : ℕ) → n < c .field .places → cellPut (bytesOf (front ++ (c ∷ back))) (c .field) n x ≡ bytesOf (with (c .values ++ (x ∷ [])))
   add-cell x h =
-      ap (λ (l : List ℕ). putAt l (at + c .field .width * length (c .values)) (c .field .width) x) around
-      ∙ add-column front back c at starts x h
-      ∙ sym (around-set (withValues c (c .values ++ (x ∷ []))))
-
-  pub laid-add : (x : ℕ) → length (c .values) < c .field .places → Laid 0 (addIn cs k x)
-  unfolding addIn
-  laid-add x h = laid-set 0 cs k (c .values ++ (x ∷ [])) laid (rw (length-append (c .values) (x ∷ [])) (omega arith))
+      ap (λ (l : List ℕ). cellPut l (c .field) n x) (around (c .values))
+      ∙ add-column (bytesOf front) (bytesOf back) c at starts x h
+      ∙ sym (around (c .values ++ (x ∷ [])))
 
   -- the number at place i is taken out, and those after it move down
-  pub take-cell : (i : ℕ) → i < length (c .values) → closed (bytesOf cs) (at + c .field .width * i) (c .field .width) (at + c .field .width * length (c .values)) ≡ bytesOf (takeIn cs k i)
-  unfolding takeIn
+  pub take-cell : (i : ℕ) → i < n → cellOut (bytesOf (front ++ (c ∷ back))) (c .field) i n ≡ bytesOf (with (without i (c .values)))
   take-cell i h =
-      ap (λ (l : List ℕ). closed l (at + c .field .width * i) (c .field .width) (at + c .field .width * length (c .values))) around
-      ∙ take-column front back c at starts i h (laid-room 0 cs k laid has)
-      ∙ sym (around-set (withValues c (without i (c .values))))
-
-  pub laid-take : (i : ℕ) → i < length (c .values) → Laid 0 (takeIn cs k i)
-  unfolding takeIn
-  laid-take i h =
-      laid-set 0 cs k (without i (c .values)) laid (omega (arith, length-without i (c .values) h, laid-room 0 cs k laid has))
+      ap (λ (l : List ℕ). cellOut l (c .field) i n) (around (c .values))
+      ∙ take-column (bytesOf front) (bytesOf back) c at starts i h (laid-room c back front 0 laid)
+      ∙ sym (around (without i (c .values)))
 
   -- all numbers are cleared away
-  pub clear-cells : cleared (bytesOf cs) at (at + used c) ≡ bytesOf (clearIn cs k)
-  unfolding clearIn
+  pub clear-cells : fieldCleared (bytesOf (front ++ (c ∷ back))) (c .field) n ≡ bytesOf (with [])
   clear-cells =
-      ap (λ (l : List ℕ). cleared l at (at + used c)) around
-      ∙ clear-column front back c at starts (laid-room 0 cs k laid has)
-      ∙ sym (around-set (withValues c []))
+      ap (λ (l : List ℕ). fieldCleared l (c .field) n) (around (c .values))
+      ∙ clear-column (bytesOf front) (bytesOf back) c at starts (laid-room c back front 0 laid)
+      ∙ sym (around [])
 
-  pub laid-clear : Laid 0 (clearIn cs k)
-  unfolding clearIn
-  laid-clear = laid-set 0 cs k [] laid (omega arith)
+-- ---- a number of its own
+
+-- columns with another number in a field, which holds one
+unfoldable pub withNumber : List Column → Field → ℕ → List Column
+withNumber [] f x = []
+withNumber (c ∷ cs) f x = cond (eqb (c .field .at) (f .at)) (withValues c (x ∷ []) ∷ cs) (c ∷ withNumber cs f x)
+
+unfoldable pub hasNumber : List Column → Field → Bool
+hasNumber [] f = false
+hasNumber (c ∷ cs) f = cond (eqb (c .field .at) (f .at)) (eqb (c .field .width) (f .width) && eqb (length (c .values)) 1) (hasNumber cs f)
+
+set-one : (xs : List ℕ) (x : ℕ) → length xs ≡ 1 → set xs 0 x ≡ x ∷ []
+set-one [] x h = absurd (omega arith)
+set-one (y ∷ []) x h = refl
+set-one (y ∷ z ∷ xs) x h = absurd (omega arith)
+
+pub number-put : (front cs : List Column) (f : Field) (x : ℕ) → hasNumber cs f ≡ true → Laid 0 (front ++ cs)
+    → (cellPut (bytesOf (front ++ cs)) f 0 x ≡ bytesOf (front ++ withNumber cs f x)) × Laid 0 (front ++ withNumber cs f x)
+unfolding hasNumber withNumber
+number-put front [] f x h l = let z : _≡_ {A = ℕ} 0 1 = cc in absurd (omega arith)
+number-put front (c ∷ cs) f x h l =
+    go (eqb (c .field .at) (f .at)) refl (λ h. number-put (front ++ (c ∷ [])) cs f x h (rw (append-assoc front (c ∷ []) cs) l))
+  where
+    go : (t : Bool) → eqb (c .field .at) (f .at) ≡ t
+        → (hasNumber cs f ≡ true → (cellPut (bytesOf ((front ++ (c ∷ [])) ++ cs)) f 0 x ≡ bytesOf ((front ++ (c ∷ [])) ++ withNumber cs f x))
+        × Laid 0 ((front ++ (c ∷ [])) ++ withNumber cs f x))
+        → (cellPut (bytesOf (front ++ (c ∷ cs))) f 0 x ≡ bytesOf (front ++ withNumber (c ∷ cs) f x)) × Laid 0 (front ++ withNumber (c ∷ cs) f x)
+    go true e rec =
+        let h′ = and-eq-true-iff (eqb (c .field .width) (f .width)) (eqb (length (c .values)) 1) .0 (rw e at h) in
+        let at : c .field .at ≡ f .at = eqb-true (c .field .at) (f .at) e in
+        let width : c .field .width ≡ f .width = eqb-true (c .field .width) (f .width) (h′ .0) in
+        let one : length (c .values) ≡ 1 = eqb-true (length (c .values)) 1 (h′ .1) in
+        let put : putAt (bytesOf (front ++ (c ∷ cs))) (f .at + f .width * 0) (f .width) x ≡ bytesOf (front ++ (withValues c (x ∷ []) ∷ cs)) =
+        rw (← at, ← width, ← set-one (c .values) x one) (put-cell front c cs l 0 x (omega arith)) in
+        rw e (put, laid-with c cs front 0 (x ∷ []) (omega (arith, laid-room c cs front 0 l)) l)
+    go false e rec = rw (e, ← append-assoc front (c ∷ []) cs, ← append-assoc front (c ∷ []) (withNumber cs f x)) (rec (rw e at h))
+
+-- several of them, one after another
+unfoldable pub withNumbers : List Column → List (Field × ℕ) → List Column
+withNumbers cs [] = cs
+withNumbers cs (n ∷ ns) = withNumbers (withNumber cs (n .0) (n .1)) ns
+
+unfoldable pub hasNumbers : List Column → List (Field × ℕ) → Bool
+hasNumbers cs [] = true
+hasNumbers cs (n ∷ ns) = hasNumber cs (n .0) && hasNumbers (withNumber cs (n .0) (n .1)) ns
+
+pub numbers-put : (cs : List Column) (ns : List (Field × ℕ)) → hasNumbers cs ns ≡ true → Laid 0 cs
+    → numbersPut (bytesOf cs) ns ≡ bytesOf (withNumbers cs ns)
+unfolding hasNumbers withNumbers numbersPut
+numbers-put cs [] h l = refl
+numbers-put cs (n ∷ ns) h l =
+    let h′ = and-eq-true-iff (hasNumber cs (n .0)) (hasNumbers (withNumber cs (n .0) (n .1)) ns) .0 h in
+    let first = number-put [] cs (n .0) (n .1) (h′ .0) l in
+    ap (λ (b : List ℕ). numbersPut b ns) (first .0) ∙ numbers-put (withNumber cs (n .0) (n .1)) ns (h′ .1) (first .1)

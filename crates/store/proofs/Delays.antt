@@ -9,7 +9,7 @@ use native.Mathlib.Omega.{arith}
 use borrow.Author.Tests.{ltb-true, eq-eqb, ne-eqb}
 use lib.Dec.{ltb}
 use lib.ListN.{length, getD}
-use Rattle.runfile.specs.Plan.{Delay, above, rising, risingFrom, delayOrder}
+use Rattle.plans.specs.Plan.{Delay, above, rising, risingFrom, delayOrder}
 use Rattle.fields.specs.Fields.{fieldAt}
 use Rattle.model.specs.Platform.{delayIn, delayOf}
 use Rattle.store.specs.Store.{planIn, delayNumbers, delayTicks}

@@ -6,14 +6,14 @@ use native.Mathlib.Nat.{mul-suc, mul-le-mul-left}
 use native.Mathlib.Omega.{arith}
 use lib.ListN.{length, getD, take, drop, set, take-append-drop}
 use lib.Seq.{take-suc-set, append-snoc, drop-set-lt, drop-cons}
-use Rattle.store.specs.Gap.{moved}
+use Rattle.store.specs.Gap.{movedDown}
 
 -- a place of w bytes among n
 pub gap-room : (w i n : ℕ) → i < n → w * i + w ≤ w * n
 gap-room w i n h = rw (← mul-suc w i) (mul-le-mul-left w h)
 
-pub move-turn : (s : List ℕ) (i by e : ℕ) → i + by < e → e ≤ length s → moved s i by e ≡ moved (set s i (getD s (i + by) 0)) (i + 1) by e
-unfolding moved
+pub move-turn : (s : List ℕ) (i by e : ℕ) → i + by < e → e ≤ length s → movedDown s i by e ≡ movedDown (set s i (getD s (i + by) 0)) (i + 1) by e
+unfolding movedDown
 move-turn s i by e h l =
     let f : i + 1 ≡ suc i = omega arith in
     let g : e - (i + by) ≡ suc (e - (suc i + by)) = omega arith in
@@ -32,8 +32,8 @@ move-turn s i by e h l =
     (ap (λ (z : List ℕ). z ++ drop (suc i + (e - suc (i + by))) s)
     (sym (append-snoc (take i s) (getD s (i + by) 0) (take (e - suc (i + by)) (drop (suc (i + by)) s)))))
 
-pub move-end : (s : List ℕ) (i by e : ℕ) → i + by ≤ e → e ≤ i + by → moved s i by e ≡ s
-unfolding moved
+pub move-end : (s : List ℕ) (i by e : ℕ) → i + by ≤ e → e ≤ i + by → movedDown s i by e ≡ s
+unfolding movedDown
 move-end s i by e h k =
     let f : e - (i + by) ≡ 0 = omega arith in
     let g : i + 0 ≡ i = omega arith in

@@ -1,12 +1,12 @@
 pub mod Gap
 pub mod Parts
 pub mod Columns
+pub mod Groups
 pub mod Reading
 pub mod Store
-pub mod Changes
 pub mod States
+pub mod Crashes
 pub mod Delays
-pub mod RowTests
-pub mod StateTests
-pub mod Blank
 pub mod Filling
+pub mod Fitting
+pub mod Blank

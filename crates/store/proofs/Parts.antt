@@ -9,7 +9,8 @@ use lib.Seq.{split-at, set-split, take-at, drop-at, drop-append-add, drop-drop, 
 use Rattle.fields.specs.Fields.{bytes, fieldAt, putAt, cleared}
 use Rattle.fields.proofs.Bytes.{length-bytes}
 use Rattle.fields.proofs.Fields.{put-eq, field-part}
-use Rattle.store.specs.Gap.{without, moved, closed}
+use Rattle.model.specs.Platform.{without}
+use Rattle.store.specs.Gap.{movedDown, closed}
 use Rattle.store.specs.Columns.{packs}
 
 -- a number of w bytes is put over b
@@ -23,7 +24,7 @@ put-part a b c o w x ha hb =
 -- of four lists in a row, the second is taken out
 pub closed-parts : (p q r t : List ℕ) (a by e : ℕ) → length p ≡ a → length q ≡ by → a + by + length r ≡ e
     → closed (p ++ (q ++ (r ++ t))) a by e ≡ p ++ (r ++ (replicate by 0 ++ t))
-unfolding closed cleared moved
+unfolding closed cleared movedDown
 closed-parts p q r t a by e hp hq he =
     let l : List ℕ = p ++ (q ++ (r ++ t)) in
     let n : e - (a + by) ≡ length r = omega arith in
@@ -31,7 +32,7 @@ closed-parts p q r t a by e hp hq he =
     let lpr : length (p ++ r) ≡ e - by = length-append p r ∙ omega arith in
     let tp : take a l ≡ p = take-at p (q ++ (r ++ t)) a hp in
     let dq : drop (a + by) l ≡ r ++ t = ap (drop (a + by)) (sym (append-assoc p q (r ++ t))) ∙ drop-at (p ++ q) (r ++ t) (a + by) lpq in
-    let mv : moved l a by e ≡ (p ++ r) ++ drop (a + length r) l =
+    let mv : movedDown l a by e ≡ (p ++ r) ++ drop (a + length r) l =
     rw (n, tp, dq, take-at r t (length r) refl) in
     let rest : drop e l ≡ t =
     ap (drop e) (simp append-assoc) ∙ drop-at ((p ++ q) ++ r) t e (length-append (p ++ q) r ∙ omega arith) in
@@ -113,7 +114,8 @@ module _ (w : ℕ) where
           let ends : o + w * i + w + length (packs w r) ≡ o + w * length xs =
           rw (length-packs r, n, mul-add w i (suc (length r)), mul-suc w (length r)) (omega arith) in
           ap (λ (z : List ℕ). closed z (o + w * i) w (o + w * length xs)) around
-          ∙ closed-parts front (bytes w (getD xs i 0)) (packs w r) b (o + w * i) w (o + w * length xs) (front-ends (omega arith)) (length-bytes w (getD xs i 0)) ends
+          ∙ closed-parts front (bytes w (getD xs i 0)) (packs w r) b (o + w * i) w (o + w * length xs) (front-ends (omega arith))
+          (length-bytes w (getD xs i 0)) ends
           ∙ rw (packs-append (take i xs) r) (simp append-assoc)
 
   -- a number is put after the last

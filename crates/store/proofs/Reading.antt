@@ -1,22 +1,23 @@
 -- Columns that are read from bytes have these bytes, where the unused ones are zero. Assumes nothing.
-use Prim.Native.Nat.{ℕ, zero, suc, _+_, _-_, _*_, _≤_, _<_, _^_}
+use Prim.Native.Nat.{ℕ, zero, suc, _+_, _-_, _*_, _≤_, _<_}
 use mathlib.Core.Path.{_≡_, refl, sym, ap, _∙_}
 use mathlib.Core.Bool.{true, and-eq-true-iff}
-use mathlib.Core.List.{List, [], _∷_, _++_, map, map-map}
-use native.Mathlib.Nat.{mul-add, mul-suc, mul-zero, add-zero, mul-le-mul-left, one-le-pow}
-use native.Mathlib.Decide.{decLt}
+use mathlib.Core.List.{List, [], _∷_, _++_, map}
+use native.Mathlib.Nat.{mul-add, mul-suc, mul-zero, add-zero, mul-le-mul-left}
 use native.Mathlib.Omega.{arith}
-use borrow.Author.Tests.{eqb-true, leb-true, le-leb}
-use lib.Dec.{eqb, leb, lit<}
-use lib.ListN.{length, take, drop, getD, replicate, length-append, length-drop, length-map, take-append-drop, List·getD-eq-default}
+use borrow.Author.Tests.{eqb-true, leb-true}
+use lib.Dec.{eqb, leb}
+use lib.ListN.{length, take, drop, getD, replicate, length-append, length-drop, length-map, take-append-drop}
 use lib.Seq.{slice, take-add, drop-drop, drop-at, length-take-le, drop-length}
 use Rattle.ring.specs.Ring.{numbers}
 use Rattle.ring.proofs.Rows.{length-numbers}
 use Rattle.fields.specs.Fields.{zeros}
 use Rattle.fields.proofs.Zeros.{zeros-all}
 use Rattle.fields.proofs.Fields.{bytes-field, field-lt}
-use Rattle.store.specs.Columns.{Field, Column, cell, size, used, packs, columnBytes, bytesOf, Fit, AllFit, joined, roomTest, unusedTest}
-use Rattle.store.proofs.Columns.{columnAt, Laid, length-column}
+use Rattle.store.specs.Columns.{Field, Column, cell, size, used, packs, columnBytes, bytesOf, joined, roomTest, unusedTest}
+use Rattle.store.specs.Columns.{Part, columnsOf, numbersOf, cellsAt, RowFits, RowsFit}
+use Rattle.store.proofs.Columns.{Laid, length-column}
+use Rattle.store.proofs.Groups.{getD-part, row-read, fit-at, fit-each}
 
 -- ---- rows by their numbers
 
@@ -48,7 +49,8 @@ made-rows {A} f l d same = go l 0 (λ i h. let e : 0 + i ≡ i = omega arith in 
     go [] j h = refl
     go (x ∷ l) j h =
         let first : f j ≡ x = ap f (sym (add-zero j)) ∙ h 0 (omega arith) in
-        let rest : map f (numbers (suc j) (length l)) ≡ l = go l (suc j) (λ i k. let e : suc j + i ≡ j + suc i = omega arith in ap f e ∙ h (suc i) (omega arith)) in
+        let rest : map f (numbers (suc j) (length l)) ≡ l =
+        go l (suc j) (λ i k. let e : suc j + i ≡ j + suc i = omega arith in ap f e ∙ h (suc i) (omega arith)) in
         rw (first, rest)
 
 -- ---- columns that are read
@@ -57,13 +59,6 @@ made-rows {A} f l d same = go l 0 (λ i h. let e : 0 + i ≡ i = omega arith in 
 unfoldable pub ReadFrom : List ℕ → List Column → Type 0
 ReadFrom b [] = Unit
 ReadFrom b (c ∷ cs) = (c .values ≡ map (cell b (c .field)) (numbers 0 (length (c .values)))) × ReadFrom b cs
-
--- a field of rows that are read
-pub read-rows : {A : Type 0} (get : A → ℕ) (row : ℕ → A) (n : ℕ)
-    → map get (map row (numbers 0 n)) ≡ map (λ (i : ℕ). get (row i)) (numbers 0 (length (map get (map row (numbers 0 n)))))
-read-rows get row n =
-    let e : length (map get (map row (numbers 0 n))) ≡ n = length-map (map row (numbers 0 n)) get ∙ length-made row n in
-    rw e (map-map get row (numbers 0 n))
 
 slice-take : (f t : ℕ) (l : List ℕ) → f ≤ t → t ≤ length l → slice f t l ≡ take (t - f) (drop f l)
 slice-take f t l h k =
@@ -135,47 +130,64 @@ module _ (b : List ℕ) (byte : (i : ℕ) → getD b i 0 < 256) where
       column-read c (leb-true (length (c .values)) (f .places) (r′ .0)) (omega arith) (h .0) (u′ .0) ∙ rw at in
       rw (first, read-back cs (o + size f) (j′ .1) (r′ .1) (h .1) (u′ .1), ← drop-drop (size f) o b) (take-append-drop (size f) (drop o b))
 
-  -- and each of their numbers fits
-  pub read-fit : (cs : List Column) → roomTest cs ≡ true → ReadFrom b cs → AllFit cs
-  unfolding roomTest ReadFrom AllFit
-  read-fit [] r h = tt
-  read-fit (c ∷ cs) r h =
-      let r′ = and-eq-true-iff (leb (length (c .values)) (c .field .places)) (roomTest cs) .0 r in
-      (record { room = leb-true (length (c .values)) (c .field .places) (r′ .0); below = λ i. rw (h .0) (cell-lt (c .field) (length (c .values)) i) }, read-fit cs (r′ .1) (h .1))
+-- ---- rows that are read
+
+-- row i of those that are read has the numbers of the cells at i
+module _ {A : Type 0} (b : List ℕ) (rows : List A) (d : A) where
+  abbrev Read : List (Part A) → Type 0
+  Read gs = (i : ℕ) → i < length rows → numbersOf gs (getD rows i d) ≡ cellsAt gs b i
+
+  first : (x y : ℕ) (xs ys : List ℕ) → x ∷ xs ≡ y ∷ ys → x ≡ y
+  first x y xs ys e = cc
+
+  later : (x y : ℕ) (xs ys : List ℕ) → x ∷ xs ≡ y ∷ ys → xs ≡ ys
+  later x y xs ys e = cc
+
+  pub columns-read : (gs : List (Part A)) (rest : List Column) → Read gs → ReadFrom b rest → ReadFrom b (columnsOf gs rows ++ rest)
+  unfolding ReadFrom columnsOf numbersOf cellsAt
+  columns-read [] rest h r = r
+  columns-read (g ∷ gs) rest h r =
+      let e : length (map (g .get) rows) ≡ length rows = length-map rows (g .get) in
+      let same : (i : ℕ) → i < length (map (g .get) rows) → cell b (g .field) i ≡ getD (map (g .get) rows) i 0 =
+      λ i k. let k′ : i < length rows = omega arith in sym (getD-part (g .get) rows i 0 d k′ ∙ first _ _ _ _ (h i k′)) in
+      (sym (made-rows (cell b (g .field)) (map (g .get) rows) 0 same), columns-read gs rest (λ i k. later _ _ _ _ (h i k)) r)
+
+  -- and its numbers fit
+  pub rows-read-fit : ((i : ℕ) → getD b i 0 < 256) → (gs : List (Part A)) → Read gs → RowsFit gs rows
+  unfolding numbersOf cellsAt RowFits
+  rows-read-fit byte gs h = fit-each gs rows (λ i. d) (λ i k. fits gs (getD rows i d) i (h i k))
     where
-      cell-lt : (f : Field) (n i : ℕ) → getD (map (cell b f) (numbers 0 n)) i 0 < 256 ^ f .width
-      cell-lt f n i = go (decLt i n)
-        where
-          go : Dec (i < n) → getD (map (cell b f) (numbers 0 n)) i 0 < 256 ^ f .width
-          go (yes k) = rw (row-made (cell b f) n i 0 k) (field-lt b (f .at + f .width * i) (f .width) byte)
-          go (no k) =
-              let le : length (map (cell b f) (numbers 0 n)) ≤ i = rw (length-made (cell b f) n) (omega (arith, k)) in
-              rw (List·getD-eq-default (map (cell b f) (numbers 0 n)) 0 le) (one-le-pow (f .width) 256 (lit< tt))
+      fits : (gs : List (Part A)) (r : A) (i : ℕ) → numbersOf gs r ≡ cellsAt gs b i → RowFits gs r
+      fits [] r i e = tt
+      fits (g ∷ gs) r i e = (rw (first _ _ _ _ e) (field-lt b (g .field .at + g .field .width * i) (g .field .width) byte), fits gs r i (later _ _ _ _ e))
 
--- ---- columns that fit
+-- columns among which are those of rows: the rows whose numbers are read one after another are those rows
+pub rows-read : {A : Type 0} (cs front back : List Column) (gs : List (Part A)) (rows : List A) → cs ≡ front ++ (columnsOf gs rows ++ back)
+    → Laid 0 cs → RowsFit gs rows → (d : A) (row : ℕ → A)
+    → ((i : ℕ) → cellsAt gs (bytesOf cs) i ≡ numbersOf gs (getD rows i d) → row i ≡ getD rows i d)
+    → map row (numbers 0 (length rows)) ≡ rows
+rows-read cs front back gs rows split laid f d row same =
+    made-rows row rows d (λ i h. same i (rw split (row-read gs front back rows (rw (← split) laid) i d h (fit-at gs rows i d f h))))
 
-pub all-room : (cs : List Column) → AllFit cs → roomTest cs ≡ true
-unfolding AllFit roomTest
-all-room [] a = refl
-all-room (c ∷ cs) a = rw (le-leb (length (c .values)) (c .field .places) (a .0 .room), all-room cs (a .1))
+-- the number at place k of two lists that are the same
+pub same-at : {l m : List ℕ} → l ≡ m → (k : ℕ) → getD l k 0 ≡ getD m k 0
+same-at e k = ap (λ (x : List ℕ). getD x k 0) e
 
-pub fit-at : (cs : List Column) (k : ℕ) → AllFit cs → k < length cs → Fit (columnAt cs k)
-unfolding AllFit
-fit-at [] k a h = absurd (omega arith)
-fit-at (c ∷ cs) zero a h = a .0
-fit-at (c ∷ cs) (suc k) a h = fit-at cs k (a .1) (omega arith)
+-- ---- columns that have room
 
-pub fit-laid : (cs : List Column) (o e : ℕ) → joined o e cs ≡ true → AllFit cs → Laid o cs
-unfolding joined AllFit Laid
-fit-laid [] o e j a = tt
-fit-laid (c ∷ cs) o e j a =
+pub columns-laid : (cs : List Column) (o e : ℕ) → joined o e cs ≡ true → roomTest cs ≡ true → Laid o cs
+unfolding joined roomTest Laid
+columns-laid [] o e j r = tt
+columns-laid (c ∷ cs) o e j r =
     let j′ = and-eq-true-iff (eqb (c .field .at) o) (joined (o + size (c .field)) e cs) .0 j in
-    (eqb-true (c .field .at) o (j′ .0), a .0 .room, fit-laid cs (o + size (c .field)) e (j′ .1) (a .1))
+    let r′ = and-eq-true-iff (leb (length (c .values)) (c .field .places)) (roomTest cs) .0 r in
+    let rest : Laid (o + size (c .field)) cs = columns-laid cs (o + size (c .field)) e (j′ .1) (r′ .1) in
+    (eqb-true (c .field .at) o (j′ .0), leb-true (length (c .values)) (c .field .places) (r′ .0), rest)
 
-pub fit-length : (cs : List Column) (o e : ℕ) → joined o e cs ≡ true → AllFit cs → o + length (bytesOf cs) ≡ e
-unfolding joined AllFit bytesOf
-fit-length [] o e j a = omega (arith, eqb-true o e j)
-fit-length (c ∷ cs) o e j a =
+pub laid-length : (cs : List Column) (o e : ℕ) → joined o e cs ≡ true → Laid o cs → o + length (bytesOf cs) ≡ e
+unfolding joined Laid bytesOf
+laid-length [] o e j l = omega (arith, eqb-true o e j)
+laid-length (c ∷ cs) o e j l =
     let j′ = and-eq-true-iff (eqb (c .field .at) o) (joined (o + size (c .field)) e cs) .0 j in
-    let rec : o + size (c .field) + length (bytesOf cs) ≡ e = fit-length cs (o + size (c .field)) e (j′ .1) (a .1) in
-    rw (length-append (columnBytes c) (bytesOf cs), length-column c (a .0 .room)) (omega arith)
+    let rec : o + size (c .field) + length (bytesOf cs) ≡ e = laid-length cs (o + size (c .field)) e (j′ .1) (l .2) in
+    rw (length-append (columnBytes c) (bytesOf cs), length-column c (l .1)) (omega arith)

@@ -1,248 +1,140 @@
 -- The bytes that each change of a state leaves. Assumes nothing.
-use Prim.Native.Nat.{ℕ, zero, suc, _+_, _-_, _<_, _^_}
+use Prim.Native.Nat.{ℕ, suc, _+_, _-_, _<_, _≤_, _^_}
 use mathlib.Core.Path.{_≡_, refl, sym, ap, _∙_}
-use mathlib.Core.List.{List, [], _∷_, _++_, map, map-append}
+use mathlib.Core.Bool.{true}
+use mathlib.Core.List.{List, [], _∷_, _++_}
 use native.Mathlib.Numerals.{add-one}
 use native.Mathlib.Omega.{arith}
-use lib.Dec.{lit<}
-use lib.ListN.{length, take, drop, set, length-map, length-set, length-append}
+use borrow.Author.Needs.{needs}
+use lib.ListN.{length, length-set, length-append}
 use Rattle.fields.specs.Fields.{putAt}
 use Rattle.node.specs.declared.Node.{Node}
-use Rattle.runfile.specs.Plan.{Plan}
-use Rattle.ring.specs.Limits.{mostInFlight}
-use Rattle.model.specs.Platform.{State, InFlight}
-use Rattle.model.specs.Platform as model
-use Rattle.store.specs.Gap.{without}
-use Rattle.store.specs.Columns.{cellPut, cellOut, bytesOf}
-use Rattle.store.specs.Store.{crashesDone, lastTick, nextNumber, messageCount, emitters, observers, watches, heartbeats, deadLists, messageNumbers, messageDues, messageKinds, messageSenders, messageReceivers, messageSubjects, columns, encode, planIn, stateIn}
+use Rattle.plans.specs.Plan.{Plan}
+use Rattle.limits.specs.Limits.{mostInFlight}
+use Rattle.model.specs.Platform.{State, InFlight, without}
+use Rattle.store.specs.Columns.{Field, cellPut, cellOut, fieldCleared, bytesOf, columnsOf, RowFits, RowsFit, rowPut, rowOut, rowsCleared, Column}
+use Rattle.store.specs.Store.{crashesDone, lastTick, nextNumber, messageCount, columns, encode, planIn, stateIn, contents}
+use Rattle.store.specs.Store.{headParts, nodeParts, crashParts, delayParts, timeParts, routeParts, messageParts}
 use Rattle.store.specs.Inside.{SmallNode, Fits, Held, withNode, withTick, crashed, withoutMessage, withFlight, withMessage, numberTaken}
-use Rattle.store.specs.Inside.{timesCleared, routesCleared}
 use Rattle.store.specs.Filling.{putNode}
-use Rattle.store.proofs.Columns.{columnOf, putIn, addIn, takeIn, clearIn, length-without}
-use Rattle.store.proofs.Changes.{Change, put, add, out, clear, onBytes, onColumns, Admit, AdmitAll, Small, AllSmall}
-use Rattle.store.proofs.Changes.{bytesAfter, columnsAfter, changes-bytes, changes-fit}
-use Rattle.store.proofs.Store.{laid, fits-of}
+use Rattle.store.proofs.Columns.{withNumber, hasNumber, number-put, length-without, Laid}
+use Rattle.store.proofs.Groups.{each-append, row-put, row-added, row-out, rows-cleared, fit-set, fit-append, fit-without}
+use Rattle.store.proofs.Store.{laid, node-places, message-places, at-nodes, at-messages, beforeNodes, afterNodes, beforeMessages, afterMessages}
 
--- ---- a field of rows of which one is changed
+-- ---- the bytes
 
-module _ {A : Type 0} (f : A → ℕ) where
-  pub map-set : (l : List A) (i : ℕ) (a : A) → map f (set l i a) ≡ set (map f l) i (f a)
-  map-set [] i a = refl
-  map-set (x ∷ l) zero a = refl
-  map-set (x ∷ l) (suc i) a = ap (λ (r : List ℕ). f x ∷ r) (map-set l i a)
+module _ (p : Plan) (s : State) (f : Fits p s) where
+  -- a number of the head is put
+  head-put : (g : Field) (x : ℕ) (s′ : State) → hasNumber (columns p s) g ≡ true → withNumber (columns p s) g x ≡ columns p s′
+      → cellPut (encode p s) g 0 x ≡ encode p s′
+  unfolding encode
+  head-put g x s′ has same = number-put [] (columns p s) g x has (laid p s f) .0 ∙ ap bytesOf same
 
-  map-take : (i : ℕ) (l : List A) → map f (take i l) ≡ take i (map f l)
-  map-take zero l = refl
-  map-take (suc i) [] = refl
-  map-take (suc i) (x ∷ l) = ap (λ (r : List ℕ). f x ∷ r) (map-take i l)
+  tick-bytes : (t : ℕ) → cellPut (encode p s) lastTick 0 t ≡ encode p (withTick s t)
+  unfolding columns columnsOf headParts hasNumber withNumber withTick
+  tick-bytes t = head-put lastTick t (withTick s t) refl refl
 
-  map-drop : (i : ℕ) (l : List A) → map f (drop i l) ≡ drop i (map f l)
-  map-drop zero l = refl
-  map-drop (suc i) [] = refl
-  map-drop (suc i) (x ∷ l) = map-drop i l
+  crash-bytes : cellPut (encode p s) crashesDone 0 (s .done + 1) ≡ encode p (crashed s)
+  unfolding columns columnsOf headParts hasNumber withNumber crashed
+  crash-bytes = head-put crashesDone (s .done + 1) (crashed s) refl (rw (add-one (s .done)))
 
-  pub map-without : (i : ℕ) (l : List A) → map f (without i l) ≡ without i (map f l)
-  unfolding without
-  map-without i l = map-append f (take i l) (drop (suc i) l) ∙ rw (map-take i l, map-drop (suc i) l)
+  number-bytes : cellPut (encode p s) nextNumber 0 (s .next + 1) ≡ encode p (numberTaken s)
+  unfolding columns columnsOf headParts hasNumber withNumber numberTaken
+  number-bytes = head-put nextNumber (s .next + 1) (numberTaken s) refl (rw (add-one (s .next)))
 
-module _ (p : Plan) (s : State) where
-  -- the tick of the last event
-  abbrev pub tickPuts : ℕ → List Change
-  tickPuts t = put lastTick 0 t ∷ []
+  node-bytes : (i : ℕ) (a : Node) → i < length (s .nodes) → rowPut nodeParts (encode p s) i a ≡ encode p (withNode s i a)
+  unfolding encode withNode columnsOf headParts
+  node-bytes i a h =
+      let room : length (s .nodes) ≤ 64 = omega (arith, f .nodes, f .counts .nodes) in
+      rw (at-nodes p s, at-nodes p (withNode s i a))
+      (row-put 64 nodeParts node-places (beforeNodes p s) (afterNodes p s) (s .nodes) (rw (← at-nodes p s) (laid p s f)) i a h room .0)
 
-  tick-admit : (t : ℕ) → AdmitAll (tickPuts t) (columns p s)
-  unfolding columns columnOf AdmitAll Admit
-  tick-admit t = (((lit< tt, refl), lit< tt), tt)
+  -- the columns with other messages, and the count of those before
+  abbrev flying : List InFlight → List Column
+  flying ms = beforeMessages p s ++ (columnsOf messageParts ms ++ afterMessages p s)
 
-  tick-columns : (t : ℕ) → columnsAfter (tickPuts t) (columns p s) ≡ columns p (withTick s t)
-  unfolding columns columnOf columnsAfter onColumns putIn withTick
-  tick-columns t = refl
+  -- the messages are changed, then their count
+  flight-put : (ms : List InFlight) (b : List ℕ) (n : ℕ) → n ≡ length ms
+      → (b ≡ bytesOf (flying ms)) × Laid 0 (flying ms)
+      → cellPut b messageCount 0 n ≡ encode p (withFlight s ms)
+  unfolding encode columns columnsOf headParts nodeParts crashParts delayParts hasNumber withNumber withFlight
+  flight-put ms b n e h = rw (h .0, e) (number-put [] (flying ms) messageCount (length ms) refl (h .1) .0)
 
-  -- one crash row more is done
-  abbrev pub crashPuts : List Change
-  crashPuts = put crashesDone 0 (s .done + 1) ∷ []
+  few : length (s .flight) ≤ 2048
+  few = f .counts .messages
 
-  crash-admit : AdmitAll crashPuts (columns p s)
-  unfolding columns columnOf AdmitAll Admit
-  crash-admit = (((lit< tt, refl), lit< tt), tt)
+  laid-here : Laid 0 (flying (s .flight))
+  laid-here = rw (← at-messages p s) (laid p s f)
 
-  crash-columns : columnsAfter crashPuts (columns p s) ≡ columns p (crashed s)
-  unfolding columns columnOf columnsAfter onColumns putIn crashed
-  crash-columns = rw (add-one (s .done))
+  message-bytes : (m : InFlight) → length (s .flight) < mostInFlight
+      → cellPut (rowPut messageParts (encode p s) (length (s .flight)) m) messageCount 0 (length (s .flight) + 1) ≡ encode p (withMessage s m)
+  unfolding encode
+  message-bytes m h =
+      flight-put (s .flight ++ (m ∷ [])) _ _ (sym (length-append (s .flight) (m ∷ [])))
+      (rw (at-messages p s) (row-added 2048 messageParts message-places (beforeMessages p s) (afterMessages p s) (s .flight) laid-here m h))
 
-  -- a node's fields at its place
-  abbrev pub nodePuts : ℕ → Node → List Change
-  nodePuts i a = put emitters i (a .emitter) ∷ put observers i (a .observer) ∷ put watches i (a .watch) ∷ put heartbeats i (a .heartbeat) ∷ put deadLists i (a .list) ∷ []
+  take-bytes : (i : ℕ) → i < length (s .flight)
+      → cellPut (rowOut messageParts (encode p s) i (length (s .flight))) messageCount 0 (length (s .flight) - 1) ≡ encode p (withoutMessage s i)
+  unfolding encode withoutMessage withFlight
+  take-bytes i h =
+      flight-put (without i (s .flight)) _ _ (omega (arith, length-without i (s .flight) h))
+      (rw (at-messages p s) (row-out 2048 messageParts message-places (beforeMessages p s) (afterMessages p s) (s .flight) laid-here i h few))
 
-  node-admit : (i : ℕ) (a : Node) → i < length (s .nodes) → AdmitAll (nodePuts i a) (columns p s)
-  unfolding columns columnOf AdmitAll Admit onColumns putIn
-  node-admit i a h =
-      let n : (g : Node → ℕ) → i < length (map g (s .nodes)) = λ g. rw (length-map (s .nodes) g) h in
-      (((lit< tt, refl), n (λ x. x .emitter)), (((lit< tt, refl), n (λ x. x .observer)), (((lit< tt, refl), n (λ x. x .watch)), (((lit< tt, refl), n (λ x. x .heartbeat)), (((lit< tt, refl), n (λ x. x .list)), tt)))))
+  clear-bytes : cellPut (rowsCleared messageParts (encode p s) (length (s .flight))) messageCount 0 0 ≡ encode p (withFlight s [])
+  unfolding encode
+  clear-bytes =
+      flight-put [] _ _ refl
+      (rw (at-messages p s) (rows-cleared 2048 messageParts message-places (beforeMessages p s) (afterMessages p s) (s .flight) laid-here))
 
-  node-columns : (i : ℕ) (a : Node) → columnsAfter (nodePuts i a) (columns p s) ≡ columns p (withNode s i a)
-  unfolding columns columnOf columnsAfter onColumns putIn withNode
-  node-columns i a =
-      rw (map-set (λ (x : Node). x .emitter), map-set (λ (x : Node). x .observer), map-set (λ (x : Node). x .watch), map-set (λ (x : Node). x .heartbeat), map-set (λ (x : Node). x .list))
+  -- ---- what is changed fits
 
-  -- a message after the last of those in flight
-  abbrev pub messagePuts : InFlight → List Change
-  messagePuts m =
-      let n : ℕ = length (s .flight) in
-      add messageNumbers n (m .number) ∷ add messageDues n (m .due) ∷ add messageKinds n (m .kind)
-      ∷ add messageSenders n (m .from) ∷ add messageReceivers n (m .to) ∷ add messageSubjects n (m .subject) ∷ put messageCount 0 (n + 1) ∷ []
+  -- a state of as many nodes, whose numbers fit
+  fits-with : (s′ : State) → length (s′ .nodes) ≡ length (s .nodes) → length (s′ .flight) ≤ mostInFlight → RowFits headParts (contents p s′)
+      → RowsFit nodeParts (s′ .nodes) → RowsFit messageParts (s′ .flight) → Fits p s′
+  fits-with s′ nodes few head nodeRows messageRows = record {
+    order = f .order;
+    nodes = nodes ∙ f .nodes;
+    counts = record { nodes = f .counts .nodes; crashes = f .counts .crashes; delays = f .counts .delays; messages = few };
+    head = head;
+    nodeRows = nodeRows;
+    crashRows = f .crashRows;
+    delayRows = f .delayRows;
+    messageRows = messageRows;
+  }
 
-  message-admit : (m : InFlight) → length (s .flight) < mostInFlight → AdmitAll (messagePuts m) (columns p s)
-  unfolding columns columnOf AdmitAll Admit onColumns putIn addIn
-  message-admit m h =
-      let n : (g : InFlight → ℕ) → length (s .flight) ≡ length (map g (s .flight)) = λ g. sym (length-map (s .flight) g) in (
-        ((lit< tt, refl), n (λ x. x .number), h),
-        (
-          ((lit< tt, refl), n (λ x. x .due), h),
-          (
-            ((lit< tt, refl), n (λ x. x .kind), h),
-            (
-              ((lit< tt, refl), n (λ x. x .from), h),
-              (((lit< tt, refl), n (λ x. x .to), h), (((lit< tt, refl), n (λ x. x .subject), h), (((lit< tt, refl), lit< tt), tt))),
-            ),
-          ),
-        ),
-      )
+  pub tick-fits : (t : ℕ) → t < 256 ^ 4 → Fits p (withTick s t)
+  unfolding withTick RowFits headParts
+  tick-fits t h = let k = f .head in fits-with (withTick s t) refl few (search needs) (f .nodeRows) (f .messageRows)
 
-  message-columns : (m : InFlight) → columnsAfter (messagePuts m) (columns p s) ≡ columns p (withMessage s m)
-  unfolding columns columnOf columnsAfter onColumns putIn addIn withFlight
-  message-columns m =
-      let e : (g : InFlight → ℕ) → map g (s .flight ++ (m ∷ [])) ≡ map g (s .flight) ++ (g m ∷ []) = λ g. map-append g (s .flight) (m ∷ []) in
-      rw (e (λ x. x .number), e (λ x. x .due), e (λ x. x .kind), e (λ x. x .from), e (λ x. x .to), e (λ x. x .subject), length-append (s .flight) (m ∷ []))
+  pub crash-fits : s .done + 1 < 256 ^ 1 → Fits p (crashed s)
+  unfolding crashed RowFits headParts
+  crash-fits h = let k = f .head in fits-with (crashed s) refl few (search needs) (f .nodeRows) (f .messageRows)
 
-  -- the next number
-  abbrev pub numberPuts : List Change
-  numberPuts = put nextNumber 0 (s .next + 1) ∷ []
+  pub number-fits : s .next + 1 < 256 ^ 8 → Fits p (numberTaken s)
+  unfolding numberTaken RowFits headParts
+  number-fits h = let k = f .head in fits-with (numberTaken s) refl few (search needs) (f .nodeRows) (f .messageRows)
 
-  number-admit : AdmitAll numberPuts (columns p s)
-  unfolding columns columnOf AdmitAll Admit
-  number-admit = (((lit< tt, refl), lit< tt), tt)
+  pub node-fits : (i : ℕ) (a : Node) → i < length (s .nodes) → SmallNode a → Fits p (withNode s i a)
+  unfolding withNode RowFits headParts nodeParts
+  node-fits i a h k =
+      fits-with (withNode s i a) (length-set (s .nodes) i a) few (f .head) (fit-set nodeParts (s .nodes) i a (f .nodeRows) (search needs)) (f .messageRows)
 
-  number-columns : columnsAfter numberPuts (columns p s) ≡ columns p (numberTaken s)
-  unfolding columns columnOf columnsAfter onColumns putIn numberTaken
-  number-columns = rw (add-one (s .next))
+  pub message-fits : (m : InFlight) → length (s .flight) < mostInFlight → m .number < 256 ^ 8
+      → m .kind < 256 → m .from < 256 → m .to < 256 → m .subject < 256 → m .due < 256 ^ 4
+      → Fits p (withMessage s m)
+  unfolding withFlight RowFits RowsFit headParts timeParts routeParts
+  message-fits m h n k1 k2 k3 k4 k5 =
+      let k = f .head in
+      let e : length (s .flight ++ (m ∷ [])) ≡ length (s .flight) + 1 = length-append (s .flight) (m ∷ []) in
+      let row : RowsFit messageParts (m ∷ []) = search needs in
+      fits-with (withMessage s m) refl (omega arith) (search needs) (f .nodeRows) (fit-append messageParts (s .flight) (m ∷ []) (f .messageRows) row)
 
-  -- the message at place i out, and those after it down
-  abbrev pub takePuts : ℕ → List Change
-  takePuts i =
-      let n : ℕ = length (s .flight) in
-      out messageNumbers i n ∷ out messageDues i n ∷ out messageKinds i n ∷ out messageSenders i n ∷ out messageReceivers i n ∷ out messageSubjects i n ∷ put messageCount 0 (n - 1) ∷ []
-
-  take-admit : (i : ℕ) → i < length (s .flight) → AdmitAll (takePuts i) (columns p s)
-  unfolding columns columnOf AdmitAll Admit onColumns putIn takeIn
-  take-admit i h =
-      let n : (g : InFlight → ℕ) → length (s .flight) ≡ length (map g (s .flight)) = λ g. sym (length-map (s .flight) g) in
-      (((lit< tt, refl), n (λ x. x .number), h), (((lit< tt, refl), n (λ x. x .due), h), (((lit< tt, refl), n (λ x. x .kind), h), (((lit< tt, refl), n (λ x. x .from), h), (((lit< tt, refl), n (λ x. x .to), h), (((lit< tt, refl), n (λ x. x .subject), h), (((lit< tt, refl), lit< tt), tt)))))))
-
-  take-columns : (i : ℕ) → i < length (s .flight) → columnsAfter (takePuts i) (columns p s) ≡ columns p (withoutMessage s i)
-  unfolding columns columnOf columnsAfter onColumns putIn takeIn withoutMessage model.without without
-  take-columns i h =
-      let e : (g : InFlight → ℕ) → map g (without i (s .flight)) ≡ without i (map g (s .flight)) = λ g. map-without g i (s .flight) in
-      let l : length (without i (s .flight)) ≡ length (s .flight) - 1 = omega (arith, length-without i (s .flight) h) in
-      rw (e (λ x. x .number), e (λ x. x .due), e (λ x. x .kind), e (λ x. x .from), e (λ x. x .to), e (λ x. x .subject), l)
-
-  -- no message left in flight
-  abbrev clearPuts : List Change
-  clearPuts =
-      let n : ℕ = length (s .flight) in
-      clear messageNumbers n ∷ clear messageDues n ∷ clear messageKinds n ∷ clear messageSenders n ∷ clear messageReceivers n
-      ∷ clear messageSubjects n ∷ put messageCount 0 0 ∷ []
-
-  clear-admit : AdmitAll clearPuts (columns p s)
-  unfolding columns columnOf AdmitAll Admit onColumns putIn clearIn
-  clear-admit =
-      let n : (g : InFlight → ℕ) → length (s .flight) ≡ length (map g (s .flight)) = λ g. sym (length-map (s .flight) g) in (
-        ((lit< tt, refl), n (λ x. x .number)),
-        (
-          ((lit< tt, refl), n (λ x. x .due)),
-          (
-            ((lit< tt, refl), n (λ x. x .kind)),
-            (
-              ((lit< tt, refl), n (λ x. x .from)),
-              (
-                ((lit< tt, refl), n (λ x. x .to)),
-                (
-                  ((lit< tt, refl), n (λ x. x .subject)),
-                  (((lit< tt, refl), lit< tt), tt),
-                ),
-              ),
-            ),
-          ),
-        ),
-      )
-
-  clear-columns : columnsAfter clearPuts (columns p s) ≡ columns p (withFlight s [])
-  unfolding columns columnOf columnsAfter onColumns putIn clearIn withFlight
-  clear-columns = refl
-
-  -- ---- of a plan and a state that a store can hold
-
-  module _ (f : Fits p s) where
-    after : (chs : List Change) (s′ : State) → AdmitAll chs (columns p s) → columnsAfter chs (columns p s) ≡ columns p s′
-        → bytesAfter chs (encode p s) ≡ encode p s′
-    unfolding encode
-    after chs s′ a e = changes-bytes chs (columns p s) (laid p s f) a ∙ ap bytesOf e
-
-    fits-after : (chs : List Change) (s′ : State) → AdmitAll chs (columns p s) → AllSmall chs → columnsAfter chs (columns p s) ≡ columns p s′
-        → length (s′ .nodes) ≡ length (s .nodes) → Fits p s′
-    fits-after chs s′ a k e n =
-        fits-of p s′ (f .order) (n ∙ f .nodes) (rw (← e) (changes-fit chs (columns p s) (f .columns) a k))
-
-    pub tick-bytes : (t : ℕ) → bytesAfter (tickPuts t) (encode p s) ≡ encode p (withTick s t)
-    tick-bytes t = after (tickPuts t) (withTick s t) (tick-admit t) (tick-columns t)
-
-    pub tick-fits : (t : ℕ) → t < 256 ^ 4 → Fits p (withTick s t)
-    unfolding withTick AllSmall Small
-    tick-fits t h = fits-after (tickPuts t) (withTick s t) (tick-admit t) (h, tt) (tick-columns t) refl
-
-    pub crash-bytes : bytesAfter crashPuts (encode p s) ≡ encode p (crashed s)
-    crash-bytes = after crashPuts (crashed s) crash-admit crash-columns
-
-    pub crash-fits : s .done + 1 < 256 ^ 1 → Fits p (crashed s)
-    unfolding crashed AllSmall Small
-    crash-fits h = fits-after crashPuts (crashed s) crash-admit (h, tt) crash-columns refl
-
-    pub node-bytes : (i : ℕ) (a : Node) → i < length (s .nodes) → bytesAfter (nodePuts i a) (encode p s) ≡ encode p (withNode s i a)
-    node-bytes i a h = after (nodePuts i a) (withNode s i a) (node-admit i a h) (node-columns i a)
-
-    pub node-fits : (i : ℕ) (a : Node) → i < length (s .nodes) → SmallNode a → Fits p (withNode s i a)
-    unfolding withNode AllSmall Small
-    node-fits i a h k =
-        fits-after (nodePuts i a) (withNode s i a) (node-admit i a h) (k .emitter, (k .observer, (k .watch, (k .heartbeat, (k .list, tt)))))
-        (node-columns i a) (length-set (s .nodes) i a)
-
-    pub message-bytes : (m : InFlight) → length (s .flight) < mostInFlight → bytesAfter (messagePuts m) (encode p s) ≡ encode p (withMessage s m)
-    message-bytes m h = after (messagePuts m) (withMessage s m) (message-admit m h) (message-columns m)
-
-    pub message-fits : (m : InFlight) → length (s .flight) < mostInFlight → m .number < 256 ^ 8
-        → m .kind < 256 → m .from < 256 → m .to < 256 → m .subject < 256 → m .due < 256 ^ 4
-        → Fits p (withMessage s m)
-    unfolding withFlight AllSmall Small
-    message-fits m h n k1 k2 k3 k4 k5 =
-        fits-after (messagePuts m) (withMessage s m) (message-admit m h) (n, (k5, (k1, (k2, (k3, (k4, (omega arith, tt))))))) (message-columns m) refl
-
-    pub number-bytes : bytesAfter numberPuts (encode p s) ≡ encode p (numberTaken s)
-    number-bytes = after numberPuts (numberTaken s) number-admit number-columns
-
-    pub number-fits : s .next + 1 < 256 ^ 8 → Fits p (numberTaken s)
-    unfolding numberTaken AllSmall Small
-    number-fits h = fits-after numberPuts (numberTaken s) number-admit (h, tt) number-columns refl
-
-    pub take-bytes : (i : ℕ) → i < length (s .flight) → bytesAfter (takePuts i) (encode p s) ≡ encode p (withoutMessage s i)
-    take-bytes i h = after (takePuts i) (withoutMessage s i) (take-admit i h) (take-columns i h)
-
-    pub take-fits : (i : ℕ) → i < length (s .flight) → Fits p (withoutMessage s i)
-    unfolding withoutMessage AllSmall Small
-    take-fits i h =
-        fits-after (takePuts i) (withoutMessage s i) (take-admit i h) (tt, (tt, (tt, (tt, (tt, (tt, (omega arith, tt))))))) (take-columns i h) refl
-
-    clear-bytes : bytesAfter clearPuts (encode p s) ≡ encode p (withFlight s [])
-    clear-bytes = after clearPuts (withFlight s []) clear-admit clear-columns
+  pub take-fits : (i : ℕ) → i < length (s .flight) → Fits p (withoutMessage s i)
+  unfolding withoutMessage RowFits headParts
+  take-fits i h =
+      let k = f .head in
+      let e : suc (length (without i (s .flight))) ≡ length (s .flight) = length-without i (s .flight) h in
+      fits-with (withoutMessage s i) refl (omega arith) (search needs) (f .nodeRows) (fit-without messageParts i (s .flight) (f .messageRows))
 
 -- ---- the same of a store's bytes, as the code puts its numbers
 
@@ -253,41 +145,39 @@ module _ (b : List ℕ) (v : Held b) where
   abbrev s : State
   s = stateIn b
 
-  -- changes of a store are changes of the encoding of what it holds
-  of-held : (chs : List Change) (s′ : State) → bytesAfter chs (encode p s) ≡ encode p s′ → bytesAfter chs b ≡ encode p s′
-  of-held chs s′ e = ap (bytesAfter chs) (v .canonical) ∙ e
+  -- a change of a store is that of the encoding of what it holds
+  of-held : (change : List ℕ → List ℕ) (s′ : State) → change (encode p s) ≡ encode p s′ → change b ≡ encode p s′
+  of-held change s′ e = ap change (v .canonical) ∙ e
 
   pub put-tick : (t : ℕ) → putAt b (lastTick .at) 4 t ≡ encode p (withTick s t)
-  unfolding bytesAfter onBytes
-  put-tick t = of-held (tickPuts p s t) (withTick s t) (tick-bytes p s (v .fits) t)
+  put-tick t = of-held (λ l. cellPut l lastTick 0 t) (withTick s t) (tick-bytes p s (v .fits) t)
 
   pub put-crash : putAt b (crashesDone .at) 1 (s .done + 1) ≡ encode p (crashed s)
-  unfolding bytesAfter onBytes
-  put-crash = of-held (crashPuts p s) (crashed s) (crash-bytes p s (v .fits))
-
-  pub put-node : (i : ℕ) (a : Node) → i < p .n → putNode b i a ≡ encode p (withNode s i a)
-  unfolding putNode bytesAfter onBytes
-  put-node i a h = of-held (nodePuts p s i a) (withNode s i a) (node-bytes p s (v .fits) i a (rw (v .fits .nodes) h))
-
-  pub put-take : (i n : ℕ) → n ≡ length (s .flight) → i < n
-      → cellPut (cellOut (cellOut (cellOut (cellOut (cellOut (cellOut b messageNumbers i n) messageDues i n) messageKinds i n) messageSenders i n) messageReceivers i n) messageSubjects i n) messageCount 0 (n - 1)
-      ≡ encode p (withoutMessage s i)
-  unfolding bytesAfter onBytes
-  put-take i n e h = rw e (of-held (takePuts p s i) (withoutMessage s i) (take-bytes p s (v .fits) i (rw (← e) h)))
-
-  pub put-message : (m : InFlight) (n : ℕ) → n ≡ length (s .flight) → n < mostInFlight
-      → cellPut (cellPut (cellPut (cellPut (cellPut (cellPut (cellPut b messageNumbers n (m .number))
-      messageDues n (m .due)) messageKinds n (m .kind)) messageSenders n (m .from))
-      messageReceivers n (m .to)) messageSubjects n (m .subject)) messageCount 0 (n + 1)
-      ≡ encode p (withMessage s m)
-  unfolding bytesAfter onBytes
-  put-message m n e h = rw e (of-held (messagePuts p s m) (withMessage s m) (message-bytes p s (v .fits) m (rw (← e) h)))
-
-  pub put-clear : (n : ℕ) → n ≡ length (s .flight)
-      → cellPut (routesCleared (timesCleared b n) n) messageCount 0 0 ≡ encode p (withFlight s [])
-  unfolding bytesAfter onBytes
-  put-clear n e = rw e (of-held (clearPuts p s) (withFlight s []) (clear-bytes p s (v .fits)))
+  put-crash = of-held (λ l. cellPut l crashesDone 0 (s .done + 1)) (crashed s) (crash-bytes p s (v .fits))
 
   pub put-number : putAt b (nextNumber .at) 8 (s .next + 1) ≡ encode p (numberTaken s)
-  unfolding bytesAfter onBytes
-  put-number = of-held (numberPuts p s) (numberTaken s) (number-bytes p s (v .fits))
+  put-number = of-held (λ l. cellPut l nextNumber 0 (s .next + 1)) (numberTaken s) (number-bytes p s (v .fits))
+
+  pub put-node : (i : ℕ) (a : Node) → i < p .n → putNode b i a ≡ encode p (withNode s i a)
+  unfolding putNode
+  put-node i a h = of-held (λ l. rowPut nodeParts l i a) (withNode s i a) (node-bytes p s (v .fits) i a (rw (v .fits .nodes) h))
+
+  pub put-message : (m : InFlight) (n : ℕ) → n ≡ length (s .flight) → n < mostInFlight
+      → cellPut (rowPut routeParts (rowPut timeParts b n m) n m) messageCount 0 (n + 1) ≡ encode p (withMessage s m)
+  put-message m n e h =
+      rw (e, ← each-append (λ l g. cellPut l (g .field) (length (s .flight)) (g .get m)) timeParts routeParts b)
+      (of-held (λ l. cellPut (rowPut messageParts l (length (s .flight)) m) messageCount 0 (length (s .flight) + 1)) (withMessage s m)
+      (message-bytes p s (v .fits) m (rw (← e) h)))
+
+  pub put-take : (i n : ℕ) → n ≡ length (s .flight) → i < n
+      → cellPut (rowOut routeParts (rowOut timeParts b i n) i n) messageCount 0 (n - 1) ≡ encode p (withoutMessage s i)
+  put-take i n e h =
+      rw (e, ← each-append (λ l g. cellOut l (g .field) i (length (s .flight))) timeParts routeParts b)
+      (of-held (λ l. cellPut (rowOut messageParts l i (length (s .flight))) messageCount 0 (length (s .flight) - 1)) (withoutMessage s i)
+      (take-bytes p s (v .fits) i (rw (← e) h)))
+
+  pub put-clear : (n : ℕ) → n ≡ length (s .flight)
+      → cellPut (rowsCleared routeParts (rowsCleared timeParts b n) n) messageCount 0 0 ≡ encode p (withFlight s [])
+  put-clear n e =
+      rw (e, ← each-append (λ l g. fieldCleared l (g .field) (length (s .flight))) timeParts routeParts b)
+      (of-held (λ l. cellPut (rowsCleared messageParts l (length (s .flight))) messageCount 0 0) (withFlight s []) (clear-bytes p s (v .fits)))

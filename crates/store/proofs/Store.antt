@@ -1,154 +1,239 @@
 -- What a store's bytes hold is what was encoded, and a store of the right length whose unused bytes are zero is the encoding of what it
 -- holds. Assumes nothing.
-use Prim.Native.Nat.{ℕ, _+_, _-_, _<_}
+use Prim.Native.Nat.{ℕ, zero, suc, _+_, _-_, _<_, _≤_}
 use mathlib.Core.Path.{_≡_, refl, sym, _∙_}
-use mathlib.Core.Bool.{true}
-use mathlib.Core.List.{List, map}
+use mathlib.Core.Bool.{Bool, true, _&&_, and-true}
+use mathlib.Core.List.{List, [], _∷_, _++_, map}
 use native.Mathlib.Nat.{one-mul}
 use native.Mathlib.Omega.{arith}
-use lib.Dec.{lit<}
-use lib.ListN.{length, getD, length-map, List·getD-map}
+use borrow.Author.Needs.{needs}
+use borrow.Author.Tests.{leb-true, le-leb}
+use lib.Dec.{leb, lit<}
+use lib.ListN.{length, getD}
 use Rattle.ring.specs.Ring.{numbers}
 use Rattle.node.specs.declared.Node.{Node}
-use Rattle.runfile.specs.Plan.{Plan, Crash, Delay}
+use Rattle.plans.specs.Plan.{Plan, Crash, Delay, planTest}
+use Rattle.plans.proofs.Tests.{in-number-order}
 use Rattle.node.specs.Node.{alone}
 use Rattle.fields.specs.Fields.{fieldAt}
 use Rattle.model.specs.Platform.{State, InFlight, nodeOf, messageAt, noMessage}
-use Rattle.model.specs.Range.{rowAt}
-use Rattle.store.specs.Columns.{Field, cell, number, Fit, AllFit, joined, roomTest, unusedTest}
-use Rattle.store.specs.Store.{storeSize, nodeCount, longestDelay, period, timeOut, crashCount, crashesDone, endTick, lastTick, nextNumber, delayCount, messageCount, emitters, observers, watches, heartbeats, deadLists, crashTicks, crashNodes, delayNumbers, delayTicks, messageNumbers, messageDues, messageKinds, messageSenders, messageReceivers, messageSubjects, columns, encode, nodeIn, crashRowIn, delayRowIn, messageIn, planIn, stateIn}
-use Rattle.store.specs.Inside.{Fits, Held}
-use Rattle.store.proofs.Columns.{columnAt, columnOf, Laid, get-cell}
-use Rattle.store.proofs.Reading.{length-made, row-made, made-rows, ReadFrom, read-rows, read-back, read-fit, fit-at, fit-laid, fit-length}
+use Rattle.plans.specs.Plain.{rowAt}
+use Rattle.model.proofs.Bools.{and-split}
+use Rattle.store.specs.Columns.{Column, unused, cell, number, joined, roomTest, unusedTest}
+use Rattle.store.specs.Columns.{columnsOf, numbersOf, cellsAt, RowFits, RowsFit, placesTest}
+use Rattle.limits.specs.Limits.{storeSize}
+use Rattle.store.specs.Store.{nodeCount, crashCount, delayCount, messageCount, spareHead, spareNodes, spareTail}
+use Rattle.store.specs.Store.{emitters, observers, watches, heartbeats, deadLists, crashTicks, crashNodes, delayNumbers, delayTicks}
+use Rattle.store.specs.Store.{messageNumbers, messageDues, messageKinds, messageSenders, messageReceivers, messageSubjects}
+use Rattle.store.specs.Store.{Contents, contents, headParts, nodeParts, crashParts, delayParts, timeParts, routeParts, messageParts}
+use Rattle.store.specs.Store.{columns, encode, nodeIn, crashRowIn, delayRowIn, messageIn, planIn, stateIn}
+use Rattle.store.specs.Inside.{Counts, Fits, Held}
+use Rattle.store.proofs.Columns.{Laid}
+use Rattle.store.proofs.Groups.{row-read, room-append, room-rows, rooms-test}
+use Rattle.store.proofs.Reading.{length-made, row-made, ReadFrom, columns-read, rows-read, rows-read-fit, read-back}
+use Rattle.store.proofs.Reading.{columns-laid, laid-length, same-at}
+
+-- ---- the layout
 
 -- the fields of the layout stand one after another and fill the store
 pub placed : (p : Plan) (s : State) → joined 0 storeSize (columns p s) ≡ true
-unfolding columns joined
+unfolding columns columnsOf headParts nodeParts crashParts delayParts timeParts routeParts joined
 placed p s = refl
 
-pub fits-of : (p : Plan) (s : State) → p .order ≡ numbers 0 (p .n) → length (s .nodes) ≡ p .n → AllFit (columns p s) → Fits p s
-unfolding columns columnOf
-fits-of p s order nodes a =
-    let room : (g : Field) → columnOf (columns p s) g < length (columns p s) → Fit (columnAt (columns p s) (columnOf (columns p s) g)) =
-    λ g h. fit-at (columns p s) (columnOf (columns p s) g) a h in
-    record {
-      order = order;
-      nodes = nodes;
-      counts = record {
-        nodes = omega (arith, nodes, length-map (s .nodes) (λ (x : Node). x .emitter), room emitters (lit< tt) .room);
-        crashes = omega (arith, length-map (p .crashes) (λ (x : Crash). x .tick), room crashTicks (lit< tt) .room);
-        delays = omega (arith, length-map (p .delays) (λ (x : Delay). x .number), room delayNumbers (lit< tt) .room);
-        messages = omega (arith, length-map (s .flight) (λ (x : InFlight). x .number), room messageNumbers (lit< tt) .room);
-      };
-      columns = a;
-    }
+-- the parts of each kind of row have as many places
+pub head-places : placesTest 1 headParts ≡ true
+unfolding placesTest headParts
+head-places = refl
 
-module _ (p : Plan) (s : State) (f : Fits p s) where
-  pub laid : Laid 0 (columns p s)
-  laid = fit-laid (columns p s) 0 storeSize (placed p s) (f .columns)
+pub node-places : placesTest 64 nodeParts ≡ true
+unfolding placesTest nodeParts
+node-places = refl
 
-  pub length-encode : length (encode p s) ≡ storeSize
-  unfolding encode
-  length-encode = omega (arith, fit-length (columns p s) 0 storeSize (placed p s) (f .columns))
+pub crash-places : placesTest 64 crashParts ≡ true
+unfolding placesTest crashParts
+crash-places = refl
 
-  abbrev valuesOf : Field → List ℕ
-  valuesOf g = (columnAt (columns p s) (columnOf (columns p s) g)) .values
+pub delay-places : placesTest 2048 delayParts ≡ true
+unfolding placesTest delayParts
+delay-places = refl
 
-  abbrev fieldOf : Field → Field
-  fieldOf g = (columnAt (columns p s) (columnOf (columns p s) g)) .field
+pub message-places : placesTest 2048 messageParts ≡ true
+unfolding placesTest timeParts routeParts
+message-places = refl
 
-  -- the number at place i of a field is read
-  read : (g : Field) (i : ℕ) → columnOf (columns p s) g < length (columns p s) → i < length (valuesOf g)
-      → cell (encode p s) (fieldOf g) i ≡ getD (valuesOf g) i 0
-  unfolding encode
-  read g i h hi =
-      get-cell (columns p s) laid (columnOf (columns p s) g) h i hi (fit-at (columns p s) (columnOf (columns p s) g) (f .columns) h .below i)
+module _ (p : Plan) (s : State) where
+  -- the columns that stand before and after those of the nodes, of the C rows, of the L rows and of the messages
+  abbrev pub beforeNodes : List Column
+  beforeNodes = columnsOf headParts (contents p s ∷ []) ++ (unused spareHead ∷ [])
 
-  -- the same of a field of rows
-  read-row : {A : Type 0} (g : Field) (get : A → ℕ) (l : List A) (d : A) (i : ℕ) → columnOf (columns p s) g < length (columns p s)
-      → valuesOf g ≡ map get l → get d ≡ 0 → i < length l → cell (encode p s) (fieldOf g) i ≡ get (getD l i d)
-  read-row g get l d i h e z hi = read g i h (rw (e, length-map l get) hi) ∙ rw (e, ← z) (List·getD-map get l i d)
+  abbrev pub beforeCrashes : List Column
+  beforeCrashes = beforeNodes ++ (columnsOf nodeParts (s .nodes) ++ (unused spareNodes ∷ []))
 
-  abbrev b : List ℕ
-  b = encode p s
+  abbrev pub beforeDelays : List Column
+  beforeDelays = beforeCrashes ++ columnsOf crashParts (p .crashes)
 
-  crashes-read : map (crashRowIn b) (numbers 0 (number b crashCount)) ≡ p .crashes
-  unfolding columns columnOf
-  crashes-read =
-      let d : Crash = record { tick = 0; node = 0 } in
-      let l : List Crash = p .crashes in
-      rw (read crashCount 0 (lit< tt) (lit< tt))
-      (made-rows (crashRowIn b) l d (λ i h.
-      rw (read-row crashTicks (λ (r : Crash). r .tick) l d i (lit< tt) refl refl h, read-row crashNodes (λ (r : Crash). r .node) l d i (lit< tt) refl refl h)))
+  abbrev pub beforeMessages : List Column
+  beforeMessages = beforeDelays ++ columnsOf delayParts (p .delays)
 
-  delays-read : map (delayRowIn b) (numbers 0 (number b delayCount)) ≡ p .delays
-  unfolding columns columnOf
-  delays-read =
-      let d : Delay = record { number = 0; delay = 0 } in
-      let l : List Delay = p .delays in
-      rw (read delayCount 0 (lit< tt) (lit< tt))
-      (made-rows (delayRowIn b) l d (λ i h.
-      rw (read-row delayNumbers (λ (r : Delay). r .number) l d i (lit< tt) refl refl h, read-row delayTicks (λ (r : Delay). r .delay) l d i (lit< tt) refl refl h)))
+  abbrev pub afterMessages : List Column
+  afterMessages = unused spareTail ∷ []
 
-  nodes-read : map (nodeIn b) (numbers 0 (number b nodeCount)) ≡ s .nodes
-  unfolding columns columnOf
-  nodes-read =
-      let d : Node = record { emitter = 0; observer = 0; watch = 0; heartbeat = 0; list = 0 } in
-      let l : List Node = s .nodes in
-      let n : number b nodeCount ≡ length l = read nodeCount 0 (lit< tt) (lit< tt) ∙ sym (f .nodes) in
-      rw n
-      (made-rows (nodeIn b) l d (λ i h.
+  abbrev pub afterDelays : List Column
+  afterDelays = columnsOf messageParts (s .flight) ++ afterMessages
+
+  abbrev pub afterCrashes : List Column
+  afterCrashes = columnsOf delayParts (p .delays) ++ afterDelays
+
+  abbrev pub afterNodes : List Column
+  afterNodes = unused spareNodes ∷ (columnsOf crashParts (p .crashes) ++ afterCrashes)
+
+  pub at-nodes : columns p s ≡ beforeNodes ++ (columnsOf nodeParts (s .nodes) ++ afterNodes)
+  unfolding columns columnsOf headParts
+  at-nodes = refl
+
+  pub at-crashes : columns p s ≡ beforeCrashes ++ (columnsOf crashParts (p .crashes) ++ afterCrashes)
+  unfolding columns columnsOf headParts nodeParts
+  at-crashes = refl
+
+  pub at-delays : columns p s ≡ beforeDelays ++ (columnsOf delayParts (p .delays) ++ afterDelays)
+  unfolding columns columnsOf headParts nodeParts crashParts
+  at-delays = refl
+
+  pub at-messages : columns p s ≡ beforeMessages ++ (columnsOf messageParts (s .flight) ++ afterMessages)
+  unfolding columns columnsOf headParts nodeParts crashParts delayParts
+  at-messages = refl
+
+  -- ---- room
+
+  abbrev rooms : Bool
+  rooms = leb (length (s .nodes)) 64 && (leb (length (p .crashes)) 64 && (leb (length (p .delays)) 2048 && leb (length (s .flight)) 2048))
+
+  nodes-room : roomTest (columnsOf nodeParts (s .nodes)) ≡ leb (length (s .nodes)) 64
+  unfolding nodeParts
+  nodes-room = rooms-test (s .nodes) 64 nodeParts node-places (lit< tt)
+
+  crashes-room : roomTest (columnsOf crashParts (p .crashes)) ≡ leb (length (p .crashes)) 64
+  unfolding crashParts
+  crashes-room = rooms-test (p .crashes) 64 crashParts crash-places (lit< tt)
+
+  delays-room : roomTest (columnsOf delayParts (p .delays)) ≡ leb (length (p .delays)) 2048
+  unfolding delayParts
+  delays-room = rooms-test (p .delays) 2048 delayParts delay-places (lit< tt)
+
+  messages-room : roomTest (columnsOf messageParts (s .flight)) ≡ leb (length (s .flight)) 2048
+  unfolding timeParts routeParts
+  messages-room = rooms-test (s .flight) 2048 messageParts message-places (lit< tt)
+
+  pub room-parts : roomTest (columns p s) ≡ rooms
+  unfolding columns roomTest
+  room-parts =
       rw (
-        read-row emitters (λ (a : Node). a .emitter) l d i (lit< tt) refl refl h,
-        read-row observers (λ (a : Node). a .observer) l d i (lit< tt) refl refl h,
-        read-row watches (λ (a : Node). a .watch) l d i (lit< tt) refl refl h,
-        read-row heartbeats (λ (a : Node). a .heartbeat) l d i (lit< tt) refl refl h,
-        read-row deadLists (λ (a : Node). a .list) l d i (lit< tt) refl refl h,
-      )))
-
-  messages-read : map (messageIn b) (numbers 0 (number b messageCount)) ≡ s .flight
-  unfolding columns columnOf
-  messages-read =
-      let d : InFlight = record { number = 0; kind = 0; from = 0; to = 0; subject = 0; due = 0 } in
-      let l : List InFlight = s .flight in
-      rw (read messageCount 0 (lit< tt) (lit< tt))
-      (made-rows (messageIn b) l d (λ i h.
-      rw (
-        read-row messageNumbers (λ (m : InFlight). m .number) l d i (lit< tt) refl refl h,
-        read-row messageDues (λ (m : InFlight). m .due) l d i (lit< tt) refl refl h,
-        read-row messageKinds (λ (m : InFlight). m .kind) l d i (lit< tt) refl refl h,
-        read-row messageSenders (λ (m : InFlight). m .from) l d i (lit< tt) refl refl h,
-        read-row messageReceivers (λ (m : InFlight). m .to) l d i (lit< tt) refl refl h,
-        read-row messageSubjects (λ (m : InFlight). m .subject) l d i (lit< tt) refl refl h,
-      )))
-
-  -- what was encoded is what the bytes hold
-  pub plan-encode : planIn (encode p s) ≡ p
-  unfolding planIn columns columnOf
-  plan-encode =
-      rw (
-        crashes-read,
-        delays-read,
-        read nodeCount 0 (lit< tt) (lit< tt),
-        read period 0 (lit< tt) (lit< tt),
-        read timeOut 0 (lit< tt) (lit< tt),
-        read longestDelay 0 (lit< tt) (lit< tt),
-        read endTick 0 (lit< tt) (lit< tt),
-        ← f .order,
+        room-append (columnsOf headParts (contents p s ∷ [])),
+        room-rows (contents p s ∷ []) 1 headParts head-places (lit< tt),
+        room-append (columnsOf nodeParts (s .nodes)),
+        room-append (columnsOf crashParts (p .crashes)),
+        room-append (columnsOf delayParts (p .delays)),
+        room-append (columnsOf messageParts (s .flight)),
+        and-true (roomTest (columnsOf messageParts (s .flight))),
+        nodes-room,
+        crashes-room,
+        delays-room,
+        messages-room,
       )
 
-  pub state-encode : stateIn (encode p s) ≡ s
-  unfolding stateIn columns columnOf
-  state-encode =
-      rw (nodes-read, messages-read, read crashesDone 0 (lit< tt) (lit< tt), read lastTick 0 (lit< tt) (lit< tt), read nextNumber 0 (lit< tt) (lit< tt))
+  -- no more nodes, rows and messages than there are places
+  counts-room : length (s .nodes) ≤ 64 → length (p .crashes) ≤ 64 → length (p .delays) ≤ 2048 → length (s .flight) ≤ 2048
+      → roomTest (columns p s) ≡ true
+  counts-room n c l m = rw (room-parts, le-leb _ 64 n, le-leb _ 64 c, le-leb _ 2048 l, le-leb _ 2048 m)
 
-  pub held-encode : Held (encode p s)
-  held-encode = record { size = length-encode; canonical = rw (plan-encode, state-encode); fits = rw (plan-encode, state-encode) f }
+  pub room-laid : length (s .nodes) ≤ 64 → length (p .crashes) ≤ 64 → length (p .delays) ≤ 2048 → length (s .flight) ≤ 2048
+      → Laid 0 (columns p s)
+  room-laid n c l m = columns-laid (columns p s) 0 storeSize (placed p s) (counts-room n c l m)
+
+  pub room-counts : length (s .nodes) ≡ p .n → roomTest (columns p s) ≡ true → Counts p s
+  room-counts e room =
+      let nodes = and-split (leb (length (s .nodes)) 64) _ (sym room-parts ∙ room) in
+      let crashes = and-split (leb (length (p .crashes)) 64) _ (nodes .1) in
+      let rest = and-split (leb (length (p .delays)) 2048) (leb (length (s .flight)) 2048) (crashes .1) in
+      record {
+        nodes = omega (arith, leb-true (length (s .nodes)) 64 (nodes .0));
+        crashes = leb-true _ 64 (crashes .0);
+        delays = leb-true _ 2048 (rest .0);
+        messages = leb-true _ 2048 (rest .1);
+      }
+
+  module _ (f : Fits p s) where
+    pub room-encode : roomTest (columns p s) ≡ true
+    room-encode = let c = f .counts in counts-room (omega (arith, f .nodes)) (c .crashes) (c .delays) (c .messages)
+
+    pub laid : Laid 0 (columns p s)
+    laid = columns-laid (columns p s) 0 storeSize (placed p s) room-encode
+
+    pub length-encode : length (encode p s) ≡ storeSize
+    unfolding encode
+    length-encode = omega (arith, laid-length (columns p s) 0 storeSize (placed p s) laid)
+
+    abbrev b : List ℕ
+    b = encode p s
+
+    -- ---- what was encoded is read
+
+    head-read : cellsAt headParts b 0 ≡ numbersOf headParts (contents p s)
+    unfolding encode columns
+    head-read =
+        let back : List Column = unused spareHead ∷ (columnsOf nodeParts (s .nodes) ++ afterNodes) in
+        row-read headParts [] back (contents p s ∷ []) laid 0 (contents p s) (lit< tt) (f .head)
+
+    -- the number of the head's part k
+    read : (k : ℕ) → getD (cellsAt headParts b 0) k 0 ≡ getD (numbersOf headParts (contents p s)) k 0
+    read = same-at head-read
+
+    nodes-read : map (nodeIn b) (numbers 0 (length (s .nodes))) ≡ s .nodes
+    unfolding encode cellsAt numbersOf nodeParts
+    nodes-read =
+        let d : Node = record { emitter = 0; observer = 0; watch = 0; heartbeat = 0; list = 0 } in
+        rows-read (columns p s) beforeNodes afterNodes nodeParts (s .nodes) at-nodes laid (f .nodeRows) d (nodeIn b)
+        (λ i e. rw (same-at e 0, same-at e 1, same-at e 2, same-at e 3, same-at e 4))
+
+    crashes-read : map (crashRowIn b) (numbers 0 (length (p .crashes))) ≡ p .crashes
+    unfolding encode cellsAt numbersOf crashParts
+    crashes-read =
+        let d : Crash = record { tick = 0; node = 0 } in
+        rows-read (columns p s) beforeCrashes afterCrashes crashParts (p .crashes) at-crashes laid (f .crashRows) d (crashRowIn b)
+        (λ i e. rw (same-at e 0, same-at e 1))
+
+    delays-read : map (delayRowIn b) (numbers 0 (length (p .delays))) ≡ p .delays
+    unfolding encode cellsAt numbersOf delayParts
+    delays-read =
+        let d : Delay = record { number = 0; delay = 0 } in
+        rows-read (columns p s) beforeDelays afterDelays delayParts (p .delays) at-delays laid (f .delayRows) d (delayRowIn b)
+        (λ i e. rw (same-at e 0, same-at e 1))
+
+    messages-read : map (messageIn b) (numbers 0 (length (s .flight))) ≡ s .flight
+    unfolding encode cellsAt numbersOf timeParts routeParts
+    messages-read =
+        let d : InFlight = record { number = 0; kind = 0; from = 0; to = 0; subject = 0; due = 0 } in
+        rows-read (columns p s) beforeMessages afterMessages messageParts (s .flight) at-messages laid (f .messageRows) d (messageIn b)
+        (λ i e. rw (same-at e 0, same-at e 1, same-at e 2, same-at e 3, same-at e 4, same-at e 5))
+
+    -- what was encoded is what the bytes hold
+    pub plan-encode : planIn (encode p s) ≡ p
+    unfolding planIn cellsAt numbersOf headParts
+    plan-encode = rw (read 0, read 1, read 2, read 3, read 4, read 6, read 9, crashes-read, delays-read, ← f .order)
+
+    pub state-encode : stateIn (encode p s) ≡ s
+    unfolding stateIn cellsAt numbersOf headParts
+    state-encode =
+        let count : number b nodeCount ≡ length (s .nodes) = read 0 ∙ sym (f .nodes) in
+        rw (count, read 5, read 7, read 8, read 10, nodes-read, messages-read)
+
+    pub held-encode : Held (encode p s)
+    held-encode = record { size = length-encode; canonical = rw (plan-encode, state-encode); fits = rw (plan-encode, state-encode) f }
 
 -- a store's count of crash rows done fits its byte
 pub done-lt : (b : List ℕ) → Held b → stateIn b .done < 256
-unfolding columns columnOf
-done-lt b v = fit-at (columns (planIn b) (stateIn b)) (columnOf (columns (planIn b) (stateIn b)) crashesDone) (v .fits .columns) (lit< tt) .below 0
+unfolding RowFits headParts
+done-lt b v = let h = v .fits .head in search needs
 
 -- ---- bytes that are read
 
@@ -183,16 +268,19 @@ module _ (b : List ℕ) where
   unfolding planIn stateIn
   node-read i h = row-made (nodeIn b) (number b nodeCount) i (alone i 0) h ∙ rw (one-mul i)
 
-  pub crash-read : (i : ℕ) → i < length (planIn b .crashes) → rowAt (planIn b) i ≡ record { tick = cell b crashTicks i; node = fieldAt b (crashNodes .at + i) 1 }
+  pub crash-read : (i : ℕ) → i < length (planIn b .crashes)
+      → rowAt (planIn b) i ≡ record { tick = cell b crashTicks i; node = fieldAt b (crashNodes .at + i) 1 }
   unfolding planIn
   crash-read i h =
-      row-made (crashRowIn b) (number b crashCount) i (record { tick = 0; node = 0 }) (rw (← length-made (crashRowIn b) (number b crashCount)) h) ∙ rw (one-mul i)
+      let k : i < number b crashCount = omega (arith, crashes-counted) in
+      row-made (crashRowIn b) (number b crashCount) i (record { tick = 0; node = 0 }) k ∙ rw (one-mul i)
 
   pub delay-read : (i : ℕ) → i < length (planIn b .delays)
       → getD (planIn b .delays) i (record { number = 0; delay = 0 }) ≡ record { number = cell b delayNumbers i; delay = fieldAt b (delayTicks .at + i) 1 }
   unfolding planIn
   delay-read i h =
-      row-made (delayRowIn b) (number b delayCount) i (record { number = 0; delay = 0 }) (rw (← length-made (delayRowIn b) (number b delayCount)) h) ∙ rw (one-mul i)
+      let k : i < number b delayCount = omega (arith, delays-counted) in
+      row-made (delayRowIn b) (number b delayCount) i (record { number = 0; delay = 0 }) k ∙ rw (one-mul i)
 
   pub message-read : (i : ℕ) → i < length (stateIn b .flight)
       → messageAt (stateIn b) i
@@ -206,107 +294,68 @@ module _ (b : List ℕ) where
       }
   unfolding stateIn
   message-read i h =
-      row-made (messageIn b) (number b messageCount) i noMessage (rw (← length-made (messageIn b) (number b messageCount)) h) ∙ rw (one-mul i)
+      let k : i < number b messageCount = omega (arith, messages-counted) in
+      row-made (messageIn b) (number b messageCount) i noMessage k ∙ rw (one-mul i)
 
-  columns-read : ReadFrom b (columns (planIn b) (stateIn b))
-  unfolding ReadFrom columns planIn stateIn numbers
-  columns-read =
-      let c : ℕ = number b crashCount in
-      let l : ℕ = number b delayCount in
-      let m : ℕ = number b messageCount in
-      let n : ℕ = number b nodeCount in (
-        refl,
-        (
-          refl,
-          (
-            refl,
-            (
-              refl,
-              (
-                rw (length-made (crashRowIn b) c),
-                (
-                  refl,
-                  (
-                    refl,
-                    (
-                      refl,
-                      (
-                        refl,
-                        (
-                          rw (length-made (delayRowIn b) l),
-                          (
-                            rw (length-made (messageIn b) m),
-                            (
-                              refl,
-                              (
-                                read-rows (λ (a : Node). a .emitter) (nodeIn b) n,
-                                (
-                                  read-rows (λ (a : Node). a .observer) (nodeIn b) n,
-                                  (
-                                    read-rows (λ (a : Node). a .watch) (nodeIn b) n,
-                                    (
-                                      read-rows (λ (a : Node). a .heartbeat) (nodeIn b) n,
-                                      (
-                                        read-rows (λ (a : Node). a .list) (nodeIn b) n,
-                                        (
-                                          refl,
-                                          (
-                                            read-rows (λ (r : Crash). r .tick) (crashRowIn b) c,
-                                            (
-                                              read-rows (λ (r : Crash). r .node) (crashRowIn b) c,
-                                              (
-                                                read-rows (λ (r : Delay). r .number) (delayRowIn b) l,
-                                                (
-                                                  read-rows (λ (r : Delay). r .delay) (delayRowIn b) l,
-                                                  (
-                                                    read-rows (λ (r : InFlight). r .number) (messageIn b) m,
-                                                    (
-                                                      read-rows (λ (r : InFlight). r .due) (messageIn b) m,
-                                                      (
-                                                        read-rows (λ (r : InFlight). r .kind) (messageIn b) m,
-                                                        (
-                                                          read-rows (λ (r : InFlight). r .from) (messageIn b) m,
-                                                          (
-                                                            read-rows (λ (r : InFlight). r .to) (messageIn b) m,
-                                                            (
-                                                              read-rows (λ (r : InFlight). r .subject) (messageIn b) m,
-                                                              (refl, tt),
-                                                            ),
-                                                          ),
-                                                        ),
-                                                      ),
-                                                    ),
-                                                  ),
-                                                ),
-                                              ),
-                                            ),
-                                          ),
-                                        ),
-                                      ),
-                                    ),
-                                  ),
-                                ),
-                              ),
-                            ),
-                          ),
-                        ),
-                      ),
-                    ),
-                  ),
-                ),
-              ),
-            ),
-          ),
-        ),
+  -- the numbers of the head and of each row are those that the bytes have
+  abbrev head : Contents
+  head = contents (planIn b) (stateIn b)
+
+  head-cells : (i : ℕ) → i < 1 → numbersOf headParts (getD (head ∷ []) i head) ≡ cellsAt headParts b i
+  unfolding numbersOf cellsAt headParts planIn stateIn
+  head-cells zero h =
+      rw (
+        length-made (crashRowIn b) (number b crashCount),
+        length-made (delayRowIn b) (number b delayCount),
+        length-made (messageIn b) (number b messageCount),
       )
+  head-cells (suc i) h = absurd (omega arith)
+
+  node-cells : (i : ℕ) → i < length (stateIn b .nodes) → numbersOf nodeParts (getD (stateIn b .nodes) i (nodeIn b 0)) ≡ cellsAt nodeParts b i
+  unfolding numbersOf cellsAt nodeParts stateIn
+  node-cells i h = rw (row-made (nodeIn b) (number b nodeCount) i (nodeIn b 0) (rw (← length-made (nodeIn b) (number b nodeCount)) h))
+
+  crash-cells : (i : ℕ) → i < length (planIn b .crashes) → numbersOf crashParts (getD (planIn b .crashes) i (crashRowIn b 0)) ≡ cellsAt crashParts b i
+  unfolding numbersOf cellsAt crashParts planIn
+  crash-cells i h = rw (row-made (crashRowIn b) (number b crashCount) i (crashRowIn b 0) (rw (← length-made (crashRowIn b) (number b crashCount)) h))
+
+  delay-cells : (i : ℕ) → i < length (planIn b .delays) → numbersOf delayParts (getD (planIn b .delays) i (delayRowIn b 0)) ≡ cellsAt delayParts b i
+  unfolding numbersOf cellsAt delayParts planIn
+  delay-cells i h = rw (row-made (delayRowIn b) (number b delayCount) i (delayRowIn b 0) (rw (← length-made (delayRowIn b) (number b delayCount)) h))
+
+  message-cells : (i : ℕ) → i < length (stateIn b .flight)
+      → numbersOf messageParts (getD (stateIn b .flight) i (messageIn b 0)) ≡ cellsAt messageParts b i
+  unfolding numbersOf cellsAt timeParts routeParts stateIn
+  message-cells i h = rw (row-made (messageIn b) (number b messageCount) i (messageIn b 0) (rw (← length-made (messageIn b) (number b messageCount)) h))
+
+  all-read : ReadFrom b (columns (planIn b) (stateIn b))
+  unfolding columns ReadFrom numbers
+  all-read =
+      let p : Plan = planIn b in
+      let s : State = stateIn b in
+      let messages : ReadFrom b (afterDelays p s) = columns-read b (s .flight) (messageIn b 0) messageParts (afterMessages p s) message-cells (refl, tt) in
+      let delays : ReadFrom b (afterCrashes p s) = columns-read b (p .delays) (delayRowIn b 0) delayParts (afterDelays p s) delay-cells messages in
+      let crashes : ReadFrom b (afterNodes p s) = (refl, columns-read b (p .crashes) (crashRowIn b 0) crashParts (afterCrashes p s) crash-cells delays) in
+      let nodes : ReadFrom b (columnsOf nodeParts (s .nodes) ++ afterNodes p s) =
+      columns-read b (s .nodes) (nodeIn b 0) nodeParts (afterNodes p s) node-cells crashes in
+      columns-read b (head ∷ []) head headParts (unused spareHead ∷ (columnsOf nodeParts (s .nodes) ++ afterNodes p s)) head-cells (refl, nodes)
 
   -- bytes of a store's length, with no more rows than places and unused bytes zero
   pub held-read : ((i : ℕ) → getD b i 0 < 256) → length b ≡ storeSize → roomTest (columns (planIn b) (stateIn b)) ≡ true
       → unusedTest b (columns (planIn b) (stateIn b)) ≡ true → Held b
-  unfolding encode planIn
+  unfolding encode planIn RowsFit
   held-read byte size room blank =
       record {
         size = size;
-        canonical = sym (read-back b byte (columns (planIn b) (stateIn b)) 0 (rw size (placed (planIn b) (stateIn b))) room columns-read blank);
-        fits = fits-of (planIn b) (stateIn b) refl length-nodes (read-fit b byte (columns (planIn b) (stateIn b)) room columns-read);
+        canonical = sym (read-back b byte (columns (planIn b) (stateIn b)) 0 (rw size (placed (planIn b) (stateIn b))) room all-read blank);
+        fits = record {
+          order = refl;
+          nodes = length-nodes;
+          counts = room-counts (planIn b) (stateIn b) length-nodes room;
+          head = rows-read-fit b (head ∷ []) head byte headParts head-cells .0;
+          nodeRows = rows-read-fit b (stateIn b .nodes) (nodeIn b 0) byte nodeParts node-cells;
+          crashRows = rows-read-fit b (planIn b .crashes) (crashRowIn b 0) byte crashParts crash-cells;
+          delayRows = rows-read-fit b (planIn b .delays) (delayRowIn b 0) byte delayParts delay-cells;
+          messageRows = rows-read-fit b (stateIn b .flight) (messageIn b 0) byte messageParts message-cells;
+        };
       }

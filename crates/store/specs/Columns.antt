@@ -1,10 +1,10 @@
 -- Bytes laid out in columns: each field of all records has a column of its own, and its numbers stand there one after another, the
 -- lowest byte first. The places beyond them are zero. Assumes nothing.
 use mathlib.Core.Bool.{Bool, true, _&&_}
-use mathlib.Core.List.{List, [], _∷_, _++_}
-use Prim.Native.Nat.{ℕ, _+_, _-_, _*_, _^_, _<_, _≤_}
+use mathlib.Core.List.{List, [], _∷_, _++_, map}
+use Prim.Native.Nat.{ℕ, _+_, _-_, _*_, _^_, _<_}
 use lib.Dec.{eqb, leb}
-use lib.ListN.{length, getD, replicate}
+use lib.ListN.{length, replicate}
 use lib.Seq.{slice}
 use Rattle.fields.specs.Fields.{bytes, fieldAt, putAt, cleared, zeros}
 use Rattle.store.specs.Gap.{closed}
@@ -50,6 +50,11 @@ cellPut s f i x = putAt s (f .at + f .width * i) (f .width) x
 abbrev pub cellOut : List ℕ → Field → ℕ → ℕ → List ℕ
 cellOut s f i n = closed s (f .at + f .width * i) (f .width) (f .at + f .width * n)
 
+-- numbers put into fields of one place, one after another
+unfoldable pub numbersPut : List ℕ → List (Field × ℕ) → List ℕ
+numbersPut s [] = s
+numbersPut s (n ∷ ns) = numbersPut (cellPut s (n .0) 0 (n .1)) ns
+
 -- zeros in place of the first n numbers of a field
 abbrev pub fieldCleared : List ℕ → Field → ℕ → List ℕ
 fieldCleared s f n = cleared s (f .at) (f .at + f .width * n)
@@ -78,16 +83,53 @@ bytesOf (c ∷ cs) = columnBytes c ++ bytesOf cs
 abbrev pub withValues : Column → List ℕ → Column
 withValues c xs = c .field holds xs
 
--- ---- what columns may hold
+-- ---- the columns of records
 
--- there are no more numbers than places, and each number fits its bytes
-pub record Fit (c : Column) : Type 0 where
-  pub room : length (c .values) ≤ c .field .places
-  pub below : (i : ℕ) → getD (c .values) i 0 < 256 ^ c .field .width
+-- a part of a record: its field, and the number of a record that stands there
+pub record Part (A : Type 0) : Type 0 where
+  pub field : Field
+  pub get : A → ℕ
 
-unfoldable pub AllFit : List Column → Type 0
-AllFit [] = Unit
-AllFit (c ∷ cs) = Fit c × AllFit cs
+abbrev pub part : {A : Type 0} → Field → (A → ℕ) → Part A
+part f get = record { field = f; get = get }
+
+-- the column of a part of rows, and the columns of all parts of them
+abbrev pub columnOf : {A : Type 0} → List A → Part A → Column
+columnOf rows g = g .field holds map (g .get) rows
+
+unfoldable pub columnsOf : {A : Type 0} → List (Part A) → List A → List Column
+columnsOf gs rows = map (columnOf rows) gs
+
+-- the numbers of a row, and those at place i, part by part
+unfoldable pub numbersOf : {A : Type 0} → List (Part A) → A → List ℕ
+numbersOf gs r = map (λ (g : Part _). g .get r) gs
+
+unfoldable pub cellsAt : {A : Type 0} → List (Part A) → List ℕ → ℕ → List ℕ
+cellsAt gs b i = map (λ (g : Part _). cell b (g .field) i) gs
+
+-- a row whose numbers fit their fields, and rows of such
+unfoldable pub RowFits : {A : Type 0} → List (Part A) → A → Type 0
+RowFits [] r = Unit
+RowFits (g ∷ gs) r = (g .get r < 256 ^ g .field .width) × RowFits gs r
+
+unfoldable pub RowsFit : {A : Type 0} → List (Part A) → List A → Type 0
+RowsFit gs [] = Unit
+RowsFit gs (r ∷ rows) = RowFits gs r × RowsFit gs rows
+
+-- bytes that are changed at one part after another
+unfoldable pub eachPart : {A : Type 0} → (List ℕ → Part A → List ℕ) → List (Part A) → List ℕ → List ℕ
+eachPart change [] b = b
+eachPart change (g ∷ gs) b = eachPart change gs (change b g)
+
+-- a row put at place i; the row at place i of n taken out; the first n rows cleared away
+abbrev pub rowPut : {A : Type 0} → List (Part A) → List ℕ → ℕ → A → List ℕ
+rowPut gs b i r = eachPart (λ l g. cellPut l (g .field) i (g .get r)) gs b
+
+abbrev pub rowOut : {A : Type 0} → List (Part A) → List ℕ → ℕ → ℕ → List ℕ
+rowOut gs b i n = eachPart (λ l g. cellOut l (g .field) i n) gs b
+
+abbrev pub rowsCleared : {A : Type 0} → List (Part A) → List ℕ → ℕ → List ℕ
+rowsCleared gs b n = eachPart (λ l g. fieldCleared l (g .field) n) gs b
 
 -- ---- as computed tests
 
@@ -109,3 +151,13 @@ restZero s f n = zeros (slice (f .at + f .width * n) (f .at + size f) s)
 unfoldable pub unusedTest : List ℕ → List Column → Bool
 unusedTest s [] = true
 unusedTest s (c ∷ cs) = restZero s (c .field) (length (c .values)) && unusedTest s cs
+
+-- every part has k places
+unfoldable pub placesTest : {A : Type 0} → ℕ → List (Part A) → Bool
+placesTest k [] = true
+placesTest k (g ∷ gs) = eqb (g .field .places) k && placesTest k gs
+
+-- the places of each part beyond the first n are zero
+unfoldable pub restTest : {A : Type 0} → List (Part A) → List ℕ → ℕ → Bool
+restTest [] b n = true
+restTest (g ∷ gs) b n = restZero b (g .field) n && restTest gs b n

@@ -1,17 +1,16 @@
--- What the functions on a store ask for and answer among themselves: which bytes they take, what a change leaves, and the parts of number
--- 7's test. The store itself is defined in Store.antt. Assumes nothing.
-use mathlib.Core.Bool.{Bool, true, _&&_}
+-- What the functions on a store ask for and answer among themselves: which bytes they take, and what a change leaves. The store itself is
+-- defined in Store.antt. Assumes nothing.
 use mathlib.Core.List.{List, [], _∷_, _++_}
 use mathlib.Core.Path.{_≡_}
 use Prim.Native.Nat.{ℕ, suc, _^_, _≤_, _<_}
 use lib.ListN.{length, getD, set}
-use Rattle.ring.specs.Limits.{mostNodes, mostDelays, mostInFlight}
+use Rattle.limits.specs.Limits.{mostNodes, mostDelays, mostInFlight, storeSize}
 use Rattle.ring.specs.Ring.{numbers}
 use Rattle.node.specs.declared.Node.{Node}
-use Rattle.runfile.specs.Plan.{Plan, Crash, Delay, planTest}
+use Rattle.plans.specs.Plan.{Plan, Crash, Delay, planTest}
 use Rattle.model.specs.Platform.{State, InFlight, without}
-use Rattle.store.specs.Columns.{AllFit, fieldCleared, restZero}
-use Rattle.store.specs.Store.{storeSize, columns, encode, planIn, stateIn, emitters, observers, watches, heartbeats, deadLists, crashTicks, crashNodes, delayNumbers, delayTicks, messageNumbers, messageDues, messageKinds, messageSenders, messageReceivers, messageSubjects}
+use Rattle.store.specs.Store.{encode, planIn, stateIn, contents, headParts, nodeParts, crashParts, delayParts, messageParts}
+use Rattle.store.specs.Columns.{RowFits, RowsFit}
 use Rattle.store.specs.declared.CrashRow.{CrashRow}
 use Rattle.store.specs.declared.DelayRow.{DelayRow}
 use Rattle.store.specs.declared.Flight.{Flight}
@@ -43,7 +42,11 @@ pub record Fits (p : Plan) (s : State) : Type 0 where
   pub order : p .order ≡ numbers 0 (p .n)
   pub nodes : length (s .nodes) ≡ p .n
   pub counts : Counts p s
-  pub columns : AllFit (columns p s)
+  pub head : RowFits headParts (contents p s)
+  pub nodeRows : RowsFit nodeParts (s .nodes)
+  pub crashRows : RowsFit crashParts (p .crashes)
+  pub delayRows : RowsFit delayParts (p .delays)
+  pub messageRows : RowsFit messageParts (s .flight)
 
 -- bytes that are the store of what they hold
 pub record Held (b : List ℕ) : Type 0 where
@@ -79,16 +82,6 @@ withMessage s m = withFlight s (s .flight ++ (m ∷ []))
 unfoldable pub numberTaken : State → State
 numberTaken s = record { done = s .done; last = s .last; next = suc (s .next); nodes = s .nodes; flight = s .flight }
 
--- ---- the messages in flight cleared away
-
--- of n messages, the numbers and dues; the kinds, senders, receivers and subjects
-abbrev pub timesCleared : List ℕ → ℕ → List ℕ
-timesCleared b n = fieldCleared (fieldCleared b messageNumbers n) messageDues n
-
-abbrev pub routesCleared : List ℕ → ℕ → List ℕ
-routesCleared b n =
-    fieldCleared (fieldCleared (fieldCleared (fieldCleared b messageKinds n) messageSenders n) messageReceivers n) messageSubjects n
-
 -- ---- rows as the code answers them
 
 abbrev pub crashRow : Crash → CrashRow
@@ -119,23 +112,3 @@ pub record FirstRow (rows : List Delay) (x r : ℕ) : Type 0 where
   pub inside : r ≤ length rows
   pub before : (i : ℕ) → i < r → delayNumber rows i < x
   pub from : (i : ℕ) → r ≤ i → i < length rows → x ≤ delayNumber rows i
-
--- ---- the parts of number 7's test
-
--- the places beyond the last of n nodes are zero
-unfoldable pub nodesRest : List ℕ → ℕ → Bool
-nodesRest b n = restZero b emitters n && (restZero b observers n && (restZero b watches n && (restZero b heartbeats n && restZero b deadLists n)))
-
--- those beyond the last of c C rows and of l L rows
-unfoldable pub rowsRest : List ℕ → ℕ → ℕ → Bool
-rowsRest b c l = restZero b crashTicks c && (restZero b crashNodes c && (restZero b delayNumbers l && restZero b delayTicks l))
-
--- those beyond the last of m messages
-unfoldable pub messagesRest : List ℕ → ℕ → Bool
-messagesRest b m = restZero b messageNumbers m && (restZero b messageDues m && (restZero b messageKinds m && (restZero b messageSenders m && (restZero b messageReceivers m && restZero b messageSubjects m))))
-
--- bytes that can be read as a store, whose plan a run file may hold, and a tick up to its end: what the tests of its state ask for
-pub record Planned (b : List ℕ) (t : ℕ) : Type 0 where
-  pub sized : Sized b
-  pub plan : planTest (planIn b) ≡ true
-  pub tick : t ≤ planIn b .end

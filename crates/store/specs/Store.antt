@@ -1,19 +1,17 @@
 -- The store: the bytes of a plan and of the platform's state, and what a store's bytes hold. Document 01's 'The store is 65,536 lent
 -- bytes .. its unused part zero' and 'The team writes the layouts of record, message and store in docs/'. Assumes nothing.
 use mathlib.Core.Bool.{Bool, _&&_}
-use mathlib.Core.List.{List, [], _∷_, map}
+use mathlib.Core.List.{List, [], _∷_, _++_, map}
 use Prim.Native.Nat.{ℕ}
 use lib.Dec.{eqb}
 use lib.ListN.{length}
+use Rattle.limits.specs.Limits.{storeSize}
 use Rattle.ring.specs.Ring.{numbers}
 use Rattle.node.specs.declared.Node.{Node}
-use Rattle.runfile.specs.Plan.{Plan, Crash, Delay}
+use Rattle.plans.specs.Plan.{Plan, Crash, Delay}
 use Rattle.model.specs.Platform.{State, InFlight}
 use Rattle.model.specs.Range.{storeTest}
-use Rattle.store.specs.Columns.{Field, Column, field, _holds_, unused, cell, number, bytesOf, roomTest, unusedTest}
-
-abbrev pub storeSize : ℕ
-storeSize = 65536
+use Rattle.store.specs.Columns.{Field, Column, Part, field, unused, part, columnsOf, cell, number, bytesOf, roomTest, unusedTest}
 
 -- ---- the layout: where each field starts, its width and its places
 
@@ -113,39 +111,69 @@ spareTail = field 45120 1 20416
 
 -- ---- encoding
 
--- each field with what it holds, in the layout's order
+-- what a store holds
+pub record Contents : Type 0 where
+  pub plan : Plan
+  pub state : State
+
+abbrev pub contents : Plan → State → Contents
+contents p s = record { plan = p; state = s }
+
+-- the parts of the head, of a node, of a C row, of an L row and of a message, in the layout's order
+unfoldable pub headParts : List (Part Contents)
+headParts =
+    part nodeCount (λ x. x .plan .n)
+    ∷ part longestDelay (λ x. x .plan .d)
+    ∷ part period (λ x. x .plan .h)
+    ∷ part timeOut (λ x. x .plan .w)
+    ∷ part crashCount (λ x. length (x .plan .crashes))
+    ∷ part crashesDone (λ x. x .state .done)
+    ∷ part endTick (λ x. x .plan .end)
+    ∷ part lastTick (λ x. x .state .last)
+    ∷ part nextNumber (λ x. x .state .next)
+    ∷ part delayCount (λ x. length (x .plan .delays))
+    ∷ part messageCount (λ x. length (x .state .flight))
+    ∷ []
+
+unfoldable pub nodeParts : List (Part Node)
+nodeParts =
+    part emitters (λ a. a .emitter)
+    ∷ part observers (λ a. a .observer)
+    ∷ part watches (λ a. a .watch)
+    ∷ part heartbeats (λ a. a .heartbeat)
+    ∷ part deadLists (λ a. a .list)
+    ∷ []
+
+unfoldable pub crashParts : List (Part Crash)
+crashParts = part crashTicks (λ r. r .tick) ∷ part crashNodes (λ r. r .node) ∷ []
+
+unfoldable pub delayParts : List (Part Delay)
+delayParts = part delayNumbers (λ r. r .number) ∷ part delayTicks (λ r. r .delay) ∷ []
+
+-- a message's number and due; its kind, sender, receiver and subject
+unfoldable pub timeParts : List (Part InFlight)
+timeParts = part messageNumbers (λ m. m .number) ∷ part messageDues (λ m. m .due) ∷ []
+
+unfoldable pub routeParts : List (Part InFlight)
+routeParts =
+    part messageKinds (λ m. m .kind)
+    ∷ part messageSenders (λ m. m .from)
+    ∷ part messageReceivers (λ m. m .to)
+    ∷ part messageSubjects (λ m. m .subject)
+    ∷ []
+
+abbrev pub messageParts : List (Part InFlight)
+messageParts = timeParts ++ routeParts
+
+-- the columns of the layout, one after another
 unfoldable pub columns : Plan → State → List Column
 columns p s =
-    nodeCount holds (p .n ∷ [])
-    ∷ longestDelay holds (p .d ∷ [])
-    ∷ period holds (p .h ∷ [])
-    ∷ timeOut holds (p .w ∷ [])
-    ∷ crashCount holds (length (p .crashes) ∷ [])
-    ∷ crashesDone holds (s .done ∷ [])
-    ∷ endTick holds (p .end ∷ [])
-    ∷ lastTick holds (s .last ∷ [])
-    ∷ nextNumber holds (s .next ∷ [])
-    ∷ delayCount holds (length (p .delays) ∷ [])
-    ∷ messageCount holds (length (s .flight) ∷ [])
-    ∷ unused spareHead
-    ∷ emitters holds map (λ (a : Node). a .emitter) (s .nodes)
-    ∷ observers holds map (λ (a : Node). a .observer) (s .nodes)
-    ∷ watches holds map (λ (a : Node). a .watch) (s .nodes)
-    ∷ heartbeats holds map (λ (a : Node). a .heartbeat) (s .nodes)
-    ∷ deadLists holds map (λ (a : Node). a .list) (s .nodes)
-    ∷ unused spareNodes
-    ∷ crashTicks holds map (λ (r : Crash). r .tick) (p .crashes)
-    ∷ crashNodes holds map (λ (r : Crash). r .node) (p .crashes)
-    ∷ delayNumbers holds map (λ (r : Delay). r .number) (p .delays)
-    ∷ delayTicks holds map (λ (r : Delay). r .delay) (p .delays)
-    ∷ messageNumbers holds map (λ (m : InFlight). m .number) (s .flight)
-    ∷ messageDues holds map (λ (m : InFlight). m .due) (s .flight)
-    ∷ messageKinds holds map (λ (m : InFlight). m .kind) (s .flight)
-    ∷ messageSenders holds map (λ (m : InFlight). m .from) (s .flight)
-    ∷ messageReceivers holds map (λ (m : InFlight). m .to) (s .flight)
-    ∷ messageSubjects holds map (λ (m : InFlight). m .subject) (s .flight)
-    ∷ unused spareTail
-    ∷ []
+    columnsOf headParts (contents p s ∷ [])
+    ++ (unused spareHead ∷ (columnsOf nodeParts (s .nodes)
+    ++ (unused spareNodes ∷ (columnsOf crashParts (p .crashes)
+    ++ (columnsOf delayParts (p .delays)
+    ++ (columnsOf messageParts (s .flight)
+    ++ (unused spareTail ∷ [])))))))
 
 -- the store of a plan and a state
 unfoldable pub encode : Plan → State → List ℕ
@@ -154,7 +182,13 @@ encode p s = bytesOf (columns p s)
 -- ---- decoding
 
 abbrev pub nodeIn : List ℕ → ℕ → Node
-nodeIn b i = record { emitter = cell b emitters i; observer = cell b observers i; watch = cell b watches i; heartbeat = cell b heartbeats i; list = cell b deadLists i }
+nodeIn b i = record {
+  emitter = cell b emitters i;
+  observer = cell b observers i;
+  watch = cell b watches i;
+  heartbeat = cell b heartbeats i;
+  list = cell b deadLists i;
+}
 
 abbrev pub crashRowIn : List ℕ → ℕ → Crash
 crashRowIn b i = record { tick = cell b crashTicks i; node = cell b crashNodes i }

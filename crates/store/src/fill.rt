@@ -1,15 +1,18 @@
-// The parts that a store is filled with: the P line, a node, the row of a C line, the row of an L line.
+// A store is filled: zeros, the P line and the nodes, then the rows of C and L lines one after another.
 use crate::layout;
 use node::Node;
 ghost use mathlib.Core.Path.{_≡_};
-ghost use Prim.Native.Nat.{_<_};
+ghost use Prim.Native.Nat.{_<_, _≤_};
 ghost use lib.ListN.{length};
-ghost use Rattle.ring.specs.Limits.{mostNodes, mostDelays};
-ghost use Rattle.store.specs.Store.{storeSize};
-ghost use Rattle.store.specs.Filling.{putStart, putNode, putCrash, putDelay};
+ghost use Rattle.limits.specs.Limits.{mostNodes, mostDelays, storeSize, mostH, mostW};
+ghost use Rattle.store.specs.Filling.{putStart, putNode, putCrash, putDelay, putNodes};
+ghost use Rattle.ring.specs.Ring.{numbers};
+ghost use Rattle.plans.specs.Plan.{startPlan as opening};
+ghost use Rattle.model.specs.Platform.{start};
+ghost use Rattle.store.specs.Store.{encode};
 
 // The P line.
-pub fn put_start(s: &mut [u8], n: u64, h: u64, w: u64, d: u64, end: u64)
+fn put_start(s: &mut [u8], n: u64, h: u64, w: u64, d: u64, end: u64)
     requires { ⌜ length (now s) ≡ storeSize ⌝ }
     ensures { λ _. ⌜ now (s .exit) ≡ putStart (now (s .entry)) n h w d end ⌝ }
 {
@@ -25,11 +28,35 @@ pub fn put_node(s: &mut [u8], i: usize, a: Node)
     requires { ⌜ (i < mostNodes) × (length (now s) ≡ storeSize) ⌝ }
     ensures { λ _. ⌜ now (s .exit) ≡ putNode (now (s .entry)) i a ⌝ }
 {
-    fields::put(s, layout::EMITTERS + i, 1, a.emitter as u64);
-    fields::put(s, layout::OBSERVERS + i, 1, a.observer as u64);
+    fields::put(s, layout::EMITTERS + 1 * i, 1, a.emitter as u64);
+    fields::put(s, layout::OBSERVERS + 1 * i, 1, a.observer as u64);
     fields::put(s, layout::WATCHES + 4 * i, 4, a.watch as u64);
     fields::put(s, layout::HEARTBEATS + 4 * i, 4, a.heartbeat as u64);
     fields::put(s, layout::DEAD_LISTS + 8 * i, 8, a.list);
+}
+
+// The nodes, each as it is opened.
+fn put_nodes(s: &mut [u8], n: usize, h: u32, w: u32)
+    requires { ⌜ (n ≤ mostNodes) × (h ≤ mostH) × (w ≤ mostW) × (length (now s) ≡ storeSize) ⌝ }
+    ensures { λ _. ⌜ now (s .exit) ≡ putNodes (now (s .entry)) (numbers 0 n) h w n ⌝ }
+{
+    let order = ring::number_order();
+    let mut i: usize = 0;
+    while i < n {
+        let a = node::opened(&order[..n], h, w, i as u8);
+        put_node(s, i, a);
+        i += 1;
+    }
+}
+
+// The store of a P line alone: no rows, and the nodes as they are opened.
+pub fn begin(s: &mut [u8], n: u64, h: u64, w: u64, d: u64, end: u64)
+    requires { ⌜ (n ≤ mostNodes) × (h ≤ mostH) × (w ≤ mostW) × (length (now s) ≡ storeSize) ⌝ }
+    ensures { λ _. ⌜ now (s .exit) ≡ encode (opening n h w d end) (start (opening n h w d end)) ⌝ }
+{
+    fields::clear(s, 0, layout::STORE_SIZE);
+    put_start(s, n, h, w, d, end);
+    put_nodes(s, n as usize, h as u32, w as u32);
 }
 
 // A C row after the first i.
@@ -38,7 +65,7 @@ pub fn put_crash(s: &mut [u8], i: usize, tick: u64, node: u64)
     ensures { λ _. ⌜ now (s .exit) ≡ putCrash (now (s .entry)) i tick node ⌝ }
 {
     fields::put(s, layout::CRASH_TICKS + 4 * i, 4, tick);
-    fields::put(s, layout::CRASH_NODES + i, 1, node);
+    fields::put(s, layout::CRASH_NODES + 1 * i, 1, node);
     fields::put(s, layout::CRASH_COUNT, 1, i as u64 + 1);
 }
 
@@ -48,6 +75,6 @@ pub fn put_delay(s: &mut [u8], i: usize, number: u64, delay: u64)
     ensures { λ _. ⌜ now (s .exit) ≡ putDelay (now (s .entry)) i number delay ⌝ }
 {
     fields::put(s, layout::DELAY_NUMBERS + 4 * i, 4, number);
-    fields::put(s, layout::DELAY_TICKS + i, 1, delay);
+    fields::put(s, layout::DELAY_TICKS + 1 * i, 1, delay);
     fields::put(s, layout::DELAY_COUNT, 2, i as u64 + 1);
 }

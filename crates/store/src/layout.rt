@@ -1,13 +1,11 @@
 // The store's layout: where each field starts, and how many places there are, in the order of specs/Store.antt.
-pub const STORE_SIZE: usize = 65536;
+pub use limits::STORE_SIZE;
 
 // ---- the places: of nodes and of C rows, of L rows, of messages in flight
 
-pub const MOST_NODES: usize = 64;
-
-pub const MOST_DELAYS: usize = 2048;
-
-pub const MOST_IN_FLIGHT: usize = 2048;
+pub use limits::MOST_DELAYS;
+pub use limits::MOST_IN_FLIGHT;
+pub use limits::MOST_NODES;
 
 // ---- the P line and the counts
 

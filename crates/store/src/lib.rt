@@ -5,9 +5,6 @@ pub mod plan; // plan.rt: the P line, the rows of C and L lines, and what of the
 pub mod nodes; // nodes.rt: the nodes
 pub mod messages; // messages.rt: the messages in flight
 pub mod fill; // fill.rt: the parts that a store is filled with
-pub mod rows; // rows.rt: whether the P line and the rows of C and L lines are those of a run file
-pub mod state; // state.rt: whether the state is in range
-pub mod range; // range.rt: number 7's test of a lent store
 
 // A row of a C line.
 pub struct CrashRow {

@@ -6,13 +6,13 @@ ghost use mathlib.Core.List.{[]};
 ghost use mathlib.Core.Path.{_≡_};
 ghost use Prim.Native.Nat.{_+_, _*_, _<_, _≤_};
 ghost use lib.ListN.{length};
-ghost use Rattle.ring.specs.Limits.{mostInFlight};
+ghost use Rattle.limits.specs.Limits.{mostInFlight, storeSize};
 ghost use Rattle.fields.specs.Fields.{cleared};
 ghost use Rattle.model.specs.Platform.{messageAt};
-ghost use Rattle.store.specs.Columns.{cellPut, cellOut};
-ghost use Rattle.store.specs.Gap.{moved, closed};
-ghost use Rattle.store.specs.Store.{storeSize, encode, planIn, stateIn, messageNumbers, messageDues, messageKinds, messageSenders, messageReceivers, messageSubjects};
-ghost use Rattle.store.specs.Inside.{Sized, Held, flying, withoutMessage, withFlight, withMessage, messageOf, timesCleared, routesCleared};
+ghost use Rattle.store.specs.Columns.{rowPut, rowOut, rowsCleared};
+ghost use Rattle.store.specs.Gap.{closed, movedDown};
+ghost use Rattle.store.specs.Store.{encode, planIn, stateIn, timeParts, routeParts};
+ghost use Rattle.store.specs.Inside.{Sized, Held, flying, withoutMessage, withFlight, withMessage, messageOf};
 
 // How many messages are in flight.
 pub fn message_count(s: &[u8]) -> usize
@@ -56,7 +56,7 @@ pub fn due_at(s: &[u8], i: usize) -> u32
 // What stands from a + by up to e moves down to a.
 fn move_down(s: &mut [u8], a: usize, by: usize, e: usize)
     requires { ⌜ (a + by ≤ e) × (e ≤ length (now s)) ⌝ }
-    ensures { λ _. ⌜ now (s .exit) ≡ moved (now (s .entry)) a by e ⌝ }
+    ensures { λ _. ⌜ now (s .exit) ≡ movedDown (now (s .entry)) a by e ⌝ }
 {
     let mut i = a;
     let mut j = a + by;
@@ -81,7 +81,7 @@ fn close_gap(s: &mut [u8], at: usize, w: usize, i: usize, n: usize)
 // The message at place i of n leaves the columns of numbers and dues.
 fn close_times(s: &mut [u8], i: usize, n: usize)
     requires { ⌜ (i < n) × (n ≤ mostInFlight) × (length (now s) ≡ storeSize) ⌝ }
-    ensures { λ _. ⌜ now (s .exit) ≡ cellOut (cellOut (now (s .entry)) messageNumbers i n) messageDues i n ⌝ }
+    ensures { λ _. ⌜ now (s .exit) ≡ rowOut timeParts (now (s .entry)) i n ⌝ }
 {
     close_gap(s, layout::MESSAGE_NUMBERS, 8, i, n);
     close_gap(s, layout::MESSAGE_DUES, 4, i, n);
@@ -90,7 +90,7 @@ fn close_times(s: &mut [u8], i: usize, n: usize)
 // The message at place i of n leaves the columns of kinds, senders, receivers and subjects.
 fn close_routes(s: &mut [u8], i: usize, n: usize)
     requires { ⌜ (i < n) × (n ≤ mostInFlight) × (length (now s) ≡ storeSize) ⌝ }
-    ensures { λ _. ⌜ now (s .exit) ≡ cellOut (cellOut (cellOut (cellOut (now (s .entry)) messageKinds i n) messageSenders i n) messageReceivers i n) messageSubjects i n ⌝ }
+    ensures { λ _. ⌜ now (s .exit) ≡ rowOut routeParts (now (s .entry)) i n ⌝ }
 {
     close_gap(s, layout::MESSAGE_KINDS, 1, i, n);
     close_gap(s, layout::MESSAGE_SENDERS, 1, i, n);
@@ -111,23 +111,23 @@ pub fn take_message(s: &mut [u8], i: usize)
 }
 
 // A message's number and due, put at place n.
-fn put_times(s: &mut [u8], n: usize, number: u64, due: u32)
+fn put_times(s: &mut [u8], n: usize, m: Flight)
     requires { ⌜ (n < mostInFlight) × (length (now s) ≡ storeSize) ⌝ }
-    ensures { λ _. ⌜ now (s .exit) ≡ cellPut (cellPut (now (s .entry)) messageNumbers n number) messageDues n due ⌝ }
+    ensures { λ _. ⌜ now (s .exit) ≡ rowPut timeParts (now (s .entry)) n (messageOf m) ⌝ }
 {
-    fields::put(s, layout::MESSAGE_NUMBERS + 8 * n, 8, number);
-    fields::put(s, layout::MESSAGE_DUES + 4 * n, 4, due as u64);
+    fields::put(s, layout::MESSAGE_NUMBERS + 8 * n, 8, m.number);
+    fields::put(s, layout::MESSAGE_DUES + 4 * n, 4, m.due as u64);
 }
 
 // A message's kind, sender, receiver and subject, put at place n.
-fn put_route(s: &mut [u8], n: usize, kind: u8, from: u8, to: u8, subject: u8)
+fn put_route(s: &mut [u8], n: usize, m: Flight)
     requires { ⌜ (n < mostInFlight) × (length (now s) ≡ storeSize) ⌝ }
-    ensures { λ _. ⌜ now (s .exit) ≡ cellPut (cellPut (cellPut (cellPut (now (s .entry)) messageKinds n kind) messageSenders n from) messageReceivers n to) messageSubjects n subject ⌝ }
+    ensures { λ _. ⌜ now (s .exit) ≡ rowPut routeParts (now (s .entry)) n (messageOf m) ⌝ }
 {
-    fields::put(s, layout::MESSAGE_KINDS + 1 * n, 1, kind as u64);
-    fields::put(s, layout::MESSAGE_SENDERS + 1 * n, 1, from as u64);
-    fields::put(s, layout::MESSAGE_RECEIVERS + 1 * n, 1, to as u64);
-    fields::put(s, layout::MESSAGE_SUBJECTS + 1 * n, 1, subject as u64);
+    fields::put(s, layout::MESSAGE_KINDS + 1 * n, 1, m.kind as u64);
+    fields::put(s, layout::MESSAGE_SENDERS + 1 * n, 1, m.from as u64);
+    fields::put(s, layout::MESSAGE_RECEIVERS + 1 * n, 1, m.to as u64);
+    fields::put(s, layout::MESSAGE_SUBJECTS + 1 * n, 1, m.subject as u64);
 }
 
 // A message is put after the last, with its own number.
@@ -137,8 +137,8 @@ pub fn put_message(s: &mut [u8], m: Flight)
     ensures { λ _. ⌜ now (s .exit) ≡ encode (planIn (now (s .entry))) (withMessage (stateIn (now (s .entry))) (messageOf m)) ⌝ }
 {
     let n = message_count(s);
-    put_times(s, n, m.number, m.due);
-    put_route(s, n, m.kind, m.from, m.to, m.subject);
+    put_times(s, n, m);
+    put_route(s, n, m);
     fields::put(s, layout::MESSAGE_COUNT, 2, (n + 1) as u64);
 }
 
@@ -153,7 +153,7 @@ fn clear_field(s: &mut [u8], at: usize, w: usize, n: usize)
 // The numbers and dues of n messages are cleared away.
 fn clear_times(s: &mut [u8], n: usize)
     requires { ⌜ (n ≤ mostInFlight) × (length (now s) ≡ storeSize) ⌝ }
-    ensures { λ _. ⌜ now (s .exit) ≡ timesCleared (now (s .entry)) n ⌝ }
+    ensures { λ _. ⌜ now (s .exit) ≡ rowsCleared timeParts (now (s .entry)) n ⌝ }
 {
     clear_field(s, layout::MESSAGE_NUMBERS, 8, n);
     clear_field(s, layout::MESSAGE_DUES, 4, n);
@@ -162,7 +162,7 @@ fn clear_times(s: &mut [u8], n: usize)
 // The kinds, senders, receivers and subjects of n messages are cleared away.
 fn clear_routes(s: &mut [u8], n: usize)
     requires { ⌜ (n ≤ mostInFlight) × (length (now s) ≡ storeSize) ⌝ }
-    ensures { λ _. ⌜ now (s .exit) ≡ routesCleared (now (s .entry)) n ⌝ }
+    ensures { λ _. ⌜ now (s .exit) ≡ rowsCleared routeParts (now (s .entry)) n ⌝ }
 {
     clear_field(s, layout::MESSAGE_KINDS, 1, n);
     clear_field(s, layout::MESSAGE_SENDERS, 1, n);

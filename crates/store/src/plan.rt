@@ -7,10 +7,11 @@ ghost use mathlib.Core.Path.{_≡_};
 ghost use Prim.Native.Nat.{_+_, _^_, _<_, _≤_};
 ghost use lib.ListN.{length};
 ghost use mathlib.Core.Bool.{true};
-ghost use Rattle.runfile.specs.Plan.{planTest, delayOrder};
+ghost use Rattle.plans.specs.Plan.{planTest, delayOrder};
 ghost use Rattle.model.specs.Platform.{crashedList, delayOf};
-ghost use Rattle.model.specs.Range.{rowAt};
-ghost use Rattle.store.specs.Store.{storeSize, encode, planIn, stateIn};
+ghost use Rattle.plans.specs.Plain.{rowAt};
+ghost use Rattle.limits.specs.Limits.{storeSize};
+ghost use Rattle.store.specs.Store.{encode, planIn, stateIn};
 ghost use Rattle.store.specs.Inside.{Sized, Held, FirstRow, crashRow, delayAt, delayRow, withTick, crashed, numberTaken};
 
 // N: how many nodes.

@@ -3,7 +3,7 @@ use Prim.Native.Nat.{ℕ, _+_, _≤_, _<_}
 use native.Mathlib.Omega.{arith}
 use native.Mathlib.Decide.{decLt}
 use mathlib.Core.Path.{_≡_, refl, sym, _∙_}
-use mathlib.Core.Bool.{Bool, true, false, cond, _&&_}
+use mathlib.Core.Bool.{Bool, true, false, cond, _&&_, and-eq-true-iff}
 use mathlib.Core.List.{List}
 use lib.ListN.{length, getD, drop-of-length-le}
 use lib.Dec.{eqb, leb}
@@ -13,20 +13,20 @@ use Rattle.text.specs.declared.Listed.the-variants.{NoList}
 use Rattle.text.specs.declared.Ranged.the-variants.{Within, Outside}
 use Rattle.text.specs.Number.{numberAt}
 use Rattle.text.specs.Hex.{listAt}
-use Rattle.text.specs.Field.{fieldAt, listFieldAt, ends, rangedOf}
+use Rattle.text.specs.Field.{numberFieldAt, listFieldAt, ends, rangedOf}
 use Rattle.text.proofs.PutLaws.{drop-next}
 
 module _ (s : List ℕ) (at : ℕ) where
-  pub field-none : length s ≤ at → fieldAt s at ≡ NoNumber
-  unfolding fieldAt
+  pub field-none : length s ≤ at → numberFieldAt s at ≡ NoNumber
+  unfolding numberFieldAt
   field-none h = rw (drop-of-length-le s h)
 
-  pub field-bad : at < length s → (getD s at 0 ≡ 44 → ⊥) → fieldAt s at ≡ NoNumber
-  unfolding fieldAt
+  pub field-bad : at < length s → (getD s at 0 ≡ 44 → ⊥) → numberFieldAt s at ≡ NoNumber
+  unfolding numberFieldAt
   field-bad h e = rw (drop-next s at h, ne-eqb _ _ e)
 
-  pub field-number : at < length s → getD s at 0 ≡ 44 → fieldAt s at ≡ numberAt s (at + 1)
-  unfolding fieldAt
+  pub field-number : at < length s → getD s at 0 ≡ 44 → numberFieldAt s at ≡ numberAt s (at + 1)
+  unfolding numberFieldAt
   field-number h e = rw (drop-next s at h, eq-eqb _ _ e)
 
   pub list-field-none : length s ≤ at → listFieldAt s at ≡ NoList
@@ -73,9 +73,13 @@ module _ (n low high : ℕ) where
   -- a number in its range is itself, and within the bounds
   pub range-bound : (m : ℕ) → rangedOf n low high ≡ Within m → (n ≡ m) × (low ≤ m) × (m ≤ high)
   unfolding rangedOf
-  range-bound m e = by (leb low n) refl (leb n high) refl e
+  range-bound m e = by (leb low n && leb n high) refl e
     where
-      by : (t : Bool) → leb low n ≡ t → (u : Bool) → leb n high ≡ u → cond (t && u) (Within n) Outside ≡ Within m → (n ≡ m) × (low ≤ m) × (m ≤ high)
-      by true p true q e = let k : n ≡ m = cc in (k, rw (← k) (leb-true low n p), rw (← k) (leb-true n high q))
-      by true p false q e = let z : _≡_ {A = ℕ} 0 1 = cc in absurd (omega arith)
-      by false p u q e = let z : _≡_ {A = ℕ} 0 1 = cc in absurd (omega arith)
+      by : (t : Bool) → (leb low n && leb n high) ≡ t → cond t (Within n) Outside ≡ Within m → (n ≡ m) × (low ≤ m) × (m ≤ high)
+      by true p e =
+          let k : n ≡ m = cc in
+          let both = and-eq-true-iff (leb low n) _ .0 p in
+          let l = leb-true low n (both .0) in
+          let h = leb-true n high (both .1) in
+          (k, omega arith, omega arith)
+      by false p e = let z : _≡_ {A = ℕ} 0 1 = cc in absurd (omega arith)

@@ -12,7 +12,7 @@ use Rattle.text.specs.declared.Number.the-variants.{Value, NoNumber}
 use Rattle.text.specs.declared.Listed.the-variants.{Bits, NoList}
 use Rattle.text.specs.Number.{digit, ceiling, numberFrom, decimal}
 use Rattle.text.specs.Hex.{hexFrom}
-use Rattle.text.specs.Field.{fieldFrom, fieldAt, listFieldFrom, listFieldAt, ends, field, listField}
+use Rattle.text.specs.Field.{fieldFrom, numberFieldAt, listFieldFrom, listFieldAt, ends, field, listField}
 use Rattle.text.proofs.PutLaws.{drop-next}
 use Rattle.text.proofs.NumberTrip.{read-trip, write-trip}
 use Rattle.text.proofs.HexTrip.{hex-trip, hex-back}
@@ -21,28 +21,36 @@ use Rattle.text.proofs.HexTrip.{hex-trip, hex-back}
 pub drop-past : (s : List ℕ) (at : ℕ) (t r : List ℕ) → drop at s ≡ t ++ r → drop (at + length t) s ≡ r
 drop-past s at t r e = sym (drop-drop (length t) at s) ∙ ap (λ (l : List ℕ). drop (length t) l) e ∙ drop-at t r (length t) refl
 
-field-from : (i : ℕ) (s : List ℕ) (v j : ℕ) → fieldFrom i s ≡ Value v j → v < ceiling → (k : ℕ) × (j ≡ i + k) × (s ≡ field v ++ drop k s)
+-- s, which stands at the place i, starts with the field of v and goes on at the place j
+abbrev Starts : ℕ → List ℕ → ℕ → ℕ → Type 0
+Starts i s v j = (k : ℕ) × (j ≡ i + k) × (s ≡ field v ++ drop k s)
+
+field-from : (i : ℕ) (s : List ℕ) (v j : ℕ) → fieldFrom i s ≡ Value v j → v < ceiling → Starts i s v j
 field-from i [] v j e h = let z : _≡_ {A = ℕ} 0 1 = cc in absurd (omega arith)
 field-from i (b ∷ s) v j e h = by (eqb b 44) refl e
   where
-    by : (t : Bool) → eqb b 44 ≡ t → cond t (numberFrom (i + 1) s) NoNumber ≡ Value v j → (k : ℕ) × (j ≡ i + k) × (b ∷ s ≡ field v ++ drop k (b ∷ s))
+    by : (t : Bool) → eqb b 44 ≡ t → cond t (numberFrom (i + 1) s) NoNumber ≡ Value v j → Starts i (b ∷ s) v j
     by true t d =
         let r = read-trip (i + 1) s v j d h in
         (suc (r .0), omega (arith, r .1), ap (λ (c : ℕ). c ∷ s) (eqb-true b 44 t) ∙ ap (λ (l : List ℕ). 44 ∷ l) (r .3))
     by false t d = let z : _≡_ {A = ℕ} 0 1 = cc in absurd (omega arith)
 
 -- a number field that was read
-pub field-trip : (s : List ℕ) (at v j : ℕ) → fieldAt s at ≡ Value v j → v < ceiling → drop at s ≡ field v ++ drop j s
-unfolding fieldAt
+pub field-trip : (s : List ℕ) (at v j : ℕ) → numberFieldAt s at ≡ Value v j → v < ceiling → drop at s ≡ field v ++ drop j s
+unfolding numberFieldAt
 field-trip s at v j e h =
     let r = field-from at (drop at s) v j e h in
     r .2 ∙ ap (λ (l : List ℕ). field v ++ l) (drop-drop (r .0) at s ∙ ap (λ (k : ℕ). drop k s) (sym (r .1)))
 
-list-field-from : (i : ℕ) (s : List ℕ) (v j : ℕ) → listFieldFrom i s ≡ Bits v j → (j ≡ i + 17) × (s ≡ listField v ++ drop 17 s)
+-- the same of the list v
+abbrev StartsList : ℕ → List ℕ → ℕ → ℕ → Type 0
+StartsList i s v j = (j ≡ i + 17) × (s ≡ listField v ++ drop 17 s)
+
+list-field-from : (i : ℕ) (s : List ℕ) (v j : ℕ) → listFieldFrom i s ≡ Bits v j → StartsList i s v j
 list-field-from i [] v j e = let z : _≡_ {A = ℕ} 0 1 = cc in absurd (omega arith)
 list-field-from i (b ∷ s) v j e = by (eqb b 44) refl e
   where
-    by : (t : Bool) → eqb b 44 ≡ t → cond t (hexFrom 16 0 (i + 1) s) NoList ≡ Bits v j → (j ≡ i + 17) × (b ∷ s ≡ listField v ++ drop 17 (b ∷ s))
+    by : (t : Bool) → eqb b 44 ≡ t → cond t (hexFrom 16 0 (i + 1) s) NoList ≡ Bits v j → StartsList i (b ∷ s) v j
     by true t d =
         let r = hex-trip 16 (i + 1) s v j d in
         (omega (arith, r .0), ap (λ (c : ℕ). c ∷ s) (eqb-true b 44 t) ∙ ap (λ (l : List ℕ). 44 ∷ l) (r .2))
@@ -68,8 +76,8 @@ ends-trip s at e =
 
 -- a number field that was written, where no digit follows
 pub field-back : (s : List ℕ) (at n b : ℕ) (r : List ℕ) → drop at s ≡ field n ++ (b ∷ r) → n < ceiling → digit b ≡ false
-    → fieldAt s at ≡ Value n (at + length (field n))
-unfolding fieldAt
+    → numberFieldAt s at ≡ Value n (at + length (field n))
+unfolding numberFieldAt
 field-back s at n b r e h d =
     let m : min n ceiling ≡ n = omega arith in
     let p : at + 1 + length (decimal n) ≡ at + suc (length (decimal n)) = omega arith in

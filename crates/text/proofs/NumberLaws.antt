@@ -12,7 +12,8 @@ use borrow.Author.Tests.{leb-true, eq-eqb, ne-eqb, lt-ltb, le-ltb}
 use Rattle.text.specs.declared.Number.{Number}
 use Rattle.text.specs.declared.Number.the-variants.{Value, NoNumber}
 use Rattle.text.specs.Number.{digit, ceiling, digitsFrom, numberAt, shown, decimal}
-use Rattle.text.proofs.PutLaws.{drop-next}
+use Rattle.text.specs.Put.{Put}
+use Rattle.text.proofs.PutLaws.{drop-next, put-kept, put-then}
 
 -- a digit's byte is from 48 to 57
 pub digit-range : (b : ℕ) → digit b ≡ true → (48 ≤ b) × (b ≤ 57)
@@ -36,8 +37,9 @@ capped a i (b ∷ s) =
 
 module _ (s : List ℕ) (n i : ℕ) where
   -- a digit at i
-  pub digit-more : i < length s → digit (getD s i 0) ≡ true → digitsFrom n i (drop i s) ≡ digitsFrom (min (n * 10 + (getD s i 0 - 48)) ceiling) (i + 1) (drop (i + 1) s)
-  digit-more h e = rw (drop-next s i h, e) (sym (capped (n * 10 + (getD s i 0 - 48)) (i + 1) (drop (i + 1) s)))
+  pub digit-more : (m : ℕ) → i < length s → digit (getD s i 0) ≡ true → m ≡ min (n * 10 + (getD s i 0 - 48)) ceiling
+      → digitsFrom n i (drop i s) ≡ digitsFrom m (i + 1) (drop (i + 1) s)
+  digit-more m h e f = rw (drop-next s i h, e, f) (sym (capped (n * 10 + (getD s i 0 - 48)) (i + 1) (drop (i + 1) s)))
 
   -- no digit at i
   pub digit-stop : i < length s → n ≤ ceiling → digit (getD s i 0) ≡ false → digitsFrom n i (drop i s) ≡ Value n i
@@ -85,14 +87,11 @@ decimal-length-more n h k = rw (decimal-more n h k, length-append)
 
 shown-length : (f k n : ℕ) → n < 10 ^ suc k → length (shown f n) ≤ suc k
 shown-length zero k n h = omega arith
-shown-length (suc f) k n h = elim (decLt n 10) [
+shown-length (suc f) zero n h = rw (lt-ltb n 10 (omega arith)) (omega arith)
+shown-length (suc f) (suc k) n h = elim (decLt n 10) [
   | yes p ↦ rw (lt-ltb n 10 p) (omega arith)
-  | no p ↦ rw (le-ltb n 10 (omega arith), length-append) (more k (tenth k n h) (λ j. shown-length f j (n / 10)) (omega arith))
+  | no p ↦ rw (le-ltb n 10 (omega arith), length-append) (omega (arith, shown-length f k (n / 10) (tenth (suc k) n h)))
 ]
-  where
-    more : (k : ℕ) → n / 10 < 10 ^ k → ((j : ℕ) → n / 10 < 10 ^ suc j → length (shown f (n / 10)) ≤ suc j) → 10 ≤ n → length (shown f (n / 10)) + 1 ≤ suc k
-    more zero q ih p = absurd (omega arith)
-    more (suc k) q ih p = omega (arith, ih k q)
 
 -- a number below 10 ^ (k + 1) has at most k + 1 digits
 pub decimal-length : (k n : ℕ) → n < 10 ^ suc k → length (decimal n) ≤ suc k
@@ -106,3 +105,25 @@ decimal-some n = elim (decLt n 10) [
   | yes p ↦ rw (lt-ltb n 10 p) (omega arith)
   | no p ↦ rw (le-ltb n 10 (omega arith), length-append) (omega arith)
 ]
+
+-- ---- digits put one by one, by the tests of the code
+
+pub first-room : (l : List ℕ) (at n : ℕ) → at + length (decimal n) ≤ length l → at < length l
+first-room l at n h = omega (arith, decimal-some n)
+
+module _ (l : List ℕ) (at n : ℕ) (room : at + length (decimal n) ≤ length l) (h : 10 ≤ n) (fits : n < 2 ^ 64) where
+  one-fewer : length (decimal n) ≡ length (decimal (n / 10)) + 1
+  one-fewer = decimal-length-more n h (omega arith)
+
+  pub tenth-room : at + length (decimal (n / 10)) ≤ length l
+  tenth-room = omega (arith, one-fewer)
+
+  pub last-room : {m : List ℕ} {r : ℕ} → Put l at (decimal (n / 10)) r m → r < length m
+  last-room p = omega (arith, one-fewer, p .next, put-kept tenth-room p)
+
+  pub put-last-digit : {m k : List ℕ} {r q b : ℕ} → b ≡ 48 + n % 10 → Put l at (decimal (n / 10)) r m → Put m r (b ∷ []) q k
+      → Put l at (decimal n) q k
+  put-last-digit e p s = rw (decimal-more n h (omega arith), ← e) (put-then tenth-room p s)
+
+pub put-only-digit : {l m : List ℕ} {at q : ℕ} (n b : ℕ) → n < 10 → b ≡ 48 + n % 10 → Put l at (b ∷ []) q m → Put l at (decimal n) q m
+put-only-digit n b h e p = let d : 48 + n ≡ b = omega arith in rw (decimal-small n h, d) p

@@ -8,11 +8,10 @@ use mathlib.Core.Path.{_≡_, refl, sym, ap, _∙_}
 use mathlib.Core.Bool.{Bool, true, false, cond}
 use mathlib.Core.List.{List, [], _∷_, _++_, append-assoc}
 use lib.ListN.{length, drop, length-append}
-use lib.Seq.{drop-drop}
 use lib.Dec.{eqb}
 use borrow.Author.Tests.{ne-eqb, le-leb, eqb-true, eqb-false}
 use Rattle.text.specs.declared.Number.the-variants.{Value, NoNumber}
-use Rattle.text.specs.Number.{digit, ceiling, digitsFrom, numberFrom, numberAt, decimal}
+use Rattle.text.specs.Number.{digit, ceiling, digitsFrom, numberFrom, decimal}
 use Rattle.text.proofs.NumberLaws.{digit-range, decimal-small, decimal-more}
 
 -- a value above 0 with one digit more
@@ -52,7 +51,8 @@ took a i (b ∷ s) v j e h p = by (grows a i (b ∷ s) v j e) (digit b) refl e (
         → (digitsFrom (a * 10 + (b - 48)) (i + 1) s ≡ Value v j → Took (a * 10 + (b - 48)) (i + 1) s v j) → Took a i (b ∷ s) v j
     by small true t d ih =
         let r = ih d in
-        (suc (r .0), omega (arith, r .1), suc-le-suc (r .2), sym (append-assoc (decimal a) (b ∷ []) s) ∙ ap (λ (l : List ℕ). l ++ s) (sym (decimal-digit a b p (omega arith) t)) ∙ r .3)
+        let joined : decimal a ++ (b ∷ s) ≡ decimal (a * 10 + (b - 48)) ++ s = rw (decimal-digit a b p (omega arith) t, append-assoc) in
+        (suc (r .0), omega (arith, r .1), suc-le-suc (r .2), joined ∙ r .3)
     by small false t d ih = took-none a i (b ∷ s) v j d h
 
 -- the bytes of a number that was read are the number's in decimal
@@ -83,15 +83,10 @@ read-trip i (b ∷ s) v j e h = zero? (eqb b 48) refl e
     run true t n d = let r = digit-range b t in digits-case t n (took (0 * 10 + (b - 48)) (i + 1) s v j d h (omega arith))
     run false t n d = let z : _≡_ {A = ℕ} 0 1 = cc in absurd (omega arith)
 
-    zero? : (t : Bool) → eqb b 48 ≡ t → cond t (Value 0 (i + 1)) (cond (digit b) (digitsFrom 0 i (b ∷ s)) NoNumber) ≡ Value v j → Trip i (b ∷ s) v j
+    zero? : (t : Bool) → eqb b 48 ≡ t → cond t (Value 0 (i + 1)) (cond (digit b) (digitsFrom 0 i (b ∷ s)) NoNumber) ≡ Value v j
+        → Trip i (b ∷ s) v j
     zero? true t d = zero-case (eqb-true b 48 t) d
     zero? false t d = run (digit b) refl (eqb-false b 48 t) d
-
--- the same at a place of a text
-pub number-trip : (s : List ℕ) (at v j : ℕ) → numberAt s at ≡ Value v j → v < ceiling → drop at s ≡ decimal v ++ drop j s
-number-trip s at v j e h =
-    let r = read-trip at (drop at s) v j e h in
-    r .3 ∙ ap (λ (l : List ℕ). decimal v ++ l) (drop-drop (r .0) at s ∙ ap (λ (k : ℕ). drop k s) (sym (r .1)))
 
 -- digits of n, then no digit
 digit-of : (n : ℕ) → n < 10 → digit (48 + n) ≡ true
@@ -104,7 +99,8 @@ spelled-by (suc f) n h big i r = elim (decLt n 10) [
   | yes p ↦ rw (decimal-small n p, digit-of n p) (ap (λ (k : ℕ). digitsFrom k (i + 1) r) (omega arith))
   | no p ↦
       let e : n / 10 * 10 + (48 + n % 10 - 48) ≡ n = omega arith in
-      rw (decimal-more n (omega arith) big, append-assoc, spelled-by f (n / 10) (omega arith) (omega arith) i ((48 + n % 10) ∷ r), digit-of (n % 10) (omega arith), e, length-append, add-assoc)
+      let before = spelled-by f (n / 10) (omega arith) (omega arith) i ((48 + n % 10) ∷ r) in
+      rw (decimal-more n (omega arith) big, append-assoc, before, digit-of (n % 10) (omega arith), e, length-append, add-assoc)
 ]
 
 pub spelled : (n i : ℕ) (r : List ℕ) → n < 10 ^ 20 → digitsFrom 0 i (decimal n ++ r) ≡ digitsFrom n (i + length (decimal n)) r
@@ -130,6 +126,7 @@ number-of n i r big p =
     rw (w .2, ne-eqb (w .0) 48 (w .3), w .4)
 
 -- a number that was written is read again
-pub write-trip : (n i b : ℕ) (r : List ℕ) → n < 10 ^ 20 → digit b ≡ false → numberFrom i (decimal n ++ b ∷ r) ≡ Value (min n ceiling) (i + length (decimal n))
+pub write-trip : (n i b : ℕ) (r : List ℕ) → n < 10 ^ 20 → digit b ≡ false
+    → numberFrom i (decimal n ++ b ∷ r) ≡ Value (min n ceiling) (i + length (decimal n))
 write-trip zero i b r big e = rw (decimal-small 0 (omega arith)) (ap (λ (k : ℕ). Value k (i + 1)) (omega arith))
 write-trip (suc n) i b r big e = number-of (suc n) i (b ∷ r) big (omega arith) ∙ spelled (suc n) i (b ∷ r) big ∙ rw e

@@ -40,6 +40,11 @@ put-then {l} {m} {k} {at} {r} {q} {t} {u} h p s = record {
   bytes = s .bytes ∙ (rw (p .next, p .bytes) (put-put l at t u h));
 }
 
+-- a comma, then a text
+pub put-comma : {l m k : List ℕ} {at r q : ℕ} {u : List ℕ} → at + length (44 ∷ u) ≤ length l → Put l at (44 ∷ []) r m → Put m r u q k
+    → Put l at (44 ∷ u) q k
+put-comma h p s = put-then (omega arith) p s
+
 -- a put keeps the length
 pub put-kept : {l m : List ℕ} {at r : ℕ} {t : List ℕ} → at + length t ≤ length l → Put l at t r m → length m ≡ length l
 put-kept {l} {m} {at} {r} {t} h p = ap length (p .bytes) ∙ put-length l at t h

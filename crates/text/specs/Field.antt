@@ -20,14 +20,19 @@ comma = 44
 abbrev pub lineFeed : ℕ
 lineFeed = 10
 
+-- a byte before the first of some parts or lines
+unfoldable pub onto : ℕ → List (List ℕ) → List (List ℕ)
+onto b [] = (b ∷ []) ∷ []
+onto b (l ∷ ls) = (b ∷ l) ∷ ls
+
 -- a comma and the number after it, at the start of s, which stands at the place i
 abbrev pub fieldFrom : ℕ → List ℕ → Number
 fieldFrom i [] = NoNumber
 fieldFrom i (b ∷ s) = cond (eqb b comma) (numberFrom (i + 1) s) NoNumber
 
 -- the same at the place `at` of s
-unfoldable pub fieldAt : List ℕ → ℕ → Number
-fieldAt s at = fieldFrom at (drop at s)
+unfoldable pub numberFieldAt : List ℕ → ℕ → Number
+numberFieldAt s at = fieldFrom at (drop at s)
 
 -- a comma and the list after it, at the start of s, which stands at the place i
 abbrev pub listFieldFrom : ℕ → List ℕ → Listed

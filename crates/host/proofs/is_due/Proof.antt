@@ -8,11 +8,8 @@ use Rattle.host.proofs.is_due.Tie as tie
 returns : tie.Need-returns
 returns c = sym (due-off _ _ (c .if1 .taken))
 
-add-result : tie.Need-add-result
-add-result c = search needs
-
 returns-2 : tie.Need-returns-2
 returns-2 c = sym (due-on _ _ (c .if1 .left))
 
 pub is-due-spec : {M : Type 1} → statement M
-is-due-spec = tie.close (tie.spec returns add-result returns-2)
+is-due-spec = tie.close (tie.spec returns (λ c. search needs) returns-2)

@@ -5,19 +5,13 @@ use borrow.Author.Needs.{needs}
 use Rattle.host.proofs.is_other.Statement.{statement}
 use Rattle.host.proofs.is_other.Tie as tie
 
-cast-if1 : tie.Need-cast-if1
-cast-if1 c = search needs
-
 returns : tie.Need-returns
 unfolding otherNode
 returns c = rw (le-ltb _ _ (c .if1 .taken))
-
-cast-result : tie.Need-cast-result
-cast-result c = search needs
 
 returns-2 : tie.Need-returns-2
 unfolding otherNode
 returns-2 c = rw (lt-ltb _ _ (c .before .if1 .left))
 
 pub is-other-spec : {M : Type 1} → statement M
-is-other-spec = tie.close (tie.spec cast-if1 returns cast-result returns-2)
+is-other-spec = tie.close (tie.spec (λ c. search needs) returns (λ c. search needs) returns-2)

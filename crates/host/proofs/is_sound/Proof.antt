@@ -11,24 +11,17 @@ returns : tie.Need-returns
 unfolding sound
 returns c = rw (ne-eqb _ _ (c .if1 .taken))
 
-is-zero-requires : tie.Need-is-zero-requires
-is-zero-requires c κs = search needs
-
 returns-2 : tie.Need-returns-2
 unfolding sound
 returns-2 c = rw (eq-eqb _ _ (c .before .before .if1 .left), fails (c .before .is-zero .ensures) (c .if2 .taken))
 
-read-record-requires : tie.Need-read-record-requires
-read-record-requires c κs = search needs
-
-in-range-requires : tie.Need-in-range-requires
-in-range-requires c κs = search needs
-
 returns-3 : tie.Need-returns-3
 unfolding sound
-returns-3 c = rw (eq-eqb _ _ (c .before .before .before .before .if1 .left), holds (c .before .before .before .is-zero .ensures) (c .before .before .if2 .left)) (c .in-range .ensures ∙ ap inRange (c .before .read-record .ensures))
+returns-3 c =
+    let at-is-zero = c .before .before .before in
+    let at-if1 = at-is-zero .before in
+    rw (eq-eqb _ _ (at-if1 .if1 .left), holds (at-is-zero .is-zero .ensures) (c .before .before .if2 .left))
+    (c .in-range .ensures ∙ ap inRange (c .before .read-record .ensures))
 
 pub is-sound-spec : {M : Type 1} → statement M
-is-sound-spec =
-    tie.close
-    (tie.spec returns is-zero-requires returns-2 read-record-requires in-range-requires returns-3)
+is-sound-spec = tie.close (tie.spec returns (λ c κs. search needs) returns-2 (λ c κs. search needs) (λ c κs. search needs) returns-3)

@@ -6,14 +6,8 @@ use borrow.Author.Needs.{needs}
 use Rattle.host.proofs.takes_message.Statement.{statement}
 use Rattle.host.proofs.takes_message.Tie as tie
 
-is-other-requires : tie.Need-is-other-requires
-is-other-requires c κs = search needs
-
 returns : tie.Need-returns
 returns c = sym (message-from _ _ _ _ (fails (c .before .is-other .ensures) (c .if1 .taken)))
-
-is-other-requires-2 : tie.Need-is-other-requires-2
-is-other-requires-2 c κs = search needs
 
 returns-2 : tie.Need-returns-2
 returns-2 c = sym (message-heartbeat _ _ _ _ (holds (c .before .before .is-other .ensures) (c .before .if1 .left)) (c .match .keys1))
@@ -22,19 +16,13 @@ returns-3 : tie.Need-returns-3
 returns-3 c = sym (message-observer _ _ _ _ (holds (c .before .before .is-other .ensures) (c .before .if1 .left)) (c .match .keys2))
 
 returns-4 : tie.Need-returns-4
-returns-4 c = c .is-other2 .ensures ∙ sym (message-report _ _ _ _ (holds (c .before .before .before .is-other .ensures) (c .before .before .if1 .left)) (c .before .match .keys3))
+returns-4 c =
+    let at-is-other = c .before .before .before in
+    c .is-other2 .ensures
+    ∙ sym (message-report _ _ _ _ (holds (at-is-other .is-other .ensures) (c .before .before .if1 .left)) (c .before .match .keys3))
 
 returns-5 : tie.Need-returns-5
 returns-5 c = sym (message-unknown _ _ _ _ (c .match .rest .0 .0 .1) (c .match .rest .0 .1) (c .match .rest .1))
 
 pub takes-message-spec : {M : Type 1} → statement M
-takes-message-spec =
-    tie.close
-    (tie.spec
-    is-other-requires
-    returns
-    is-other-requires-2
-    returns-2
-    returns-3
-    returns-4
-    returns-5)
+takes-message-spec = tie.close (tie.spec (λ c κs. search needs) returns (λ c κs. search needs) returns-2 returns-3 returns-4 returns-5)

@@ -5,19 +5,13 @@ use borrow.Author.Needs.{needs}
 use Rattle.host.proofs.takes_tick.Statement.{statement}
 use Rattle.host.proofs.takes_tick.Tie as tie
 
-cast-if1 : tie.Need-cast-if1
-cast-if1 c = search needs
-
 returns : tie.Need-returns
 unfolding tickTaken
 returns c = rw (lt-leb _ _ (c .if1 .taken))
-
-cast-result : tie.Need-cast-result
-cast-result c = search needs
 
 returns-2 : tie.Need-returns-2
 unfolding tickTaken
 returns-2 c = rw (le-leb _ _ (c .if1 .left))
 
 pub takes-tick-spec : {M : Type 1} → statement M
-takes-tick-spec = tie.close (tie.spec cast-if1 returns cast-result returns-2)
+takes-tick-spec = tie.close (tie.spec (λ c. search needs) returns (λ c. search needs) returns-2)

@@ -5,28 +5,13 @@ use borrow.Author.Needs.{needs}
 use Rattle.host.proofs.write_neighbours.Statement.{statement}
 use Rattle.host.proofs.write_neighbours.Tie as tie
 
-cast-put : tie.Need-cast-put
-cast-put c = search needs
-
-put-requires : tie.Need-put-requires
-put-requires c κs = search needs
-
-cast-put-2 : tie.Need-cast-put-2
-cast-put-2 c = search needs
-
-put-requires-2 : tie.Need-put-requires-2
-put-requires-2 c κs = search needs
-
-put-requires-3 : tie.Need-put-requires-3
-put-requires-3 c κs = search needs
-
-same-length : tie.Need-same-length
-same-length c = search needs
-
 returns : tie.Need-returns
-returns c = rw (c .before .before .put3 .ensures, c .before .before .before .before .before .before .put2 .ensures, c .before .before .before .before .before .before .before .before .before .before .before .put .ensures) (sym (put-neighbours _ _))
+returns c =
+    let at-put2 = c .before .before .before .before .before .before in
+    let at-put = at-put2 .before .before .before .before .before in
+    rw (c .before .before .put3 .ensures, at-put2 .put2 .ensures, at-put .put .ensures) (sym (put-neighbours _ _))
 
 pub write-neighbours-spec : {M : Type 1} → statement M
 write-neighbours-spec =
-    tie.close
-    (tie.spec cast-put put-requires cast-put-2 put-requires-2 put-requires-3 same-length returns)
+    tie.close (tie.spec (λ c. search needs) (λ c κs. search needs) (λ c. search needs) (λ c κs. search needs) (λ c κs. search needs)
+    (λ c. search needs) returns)

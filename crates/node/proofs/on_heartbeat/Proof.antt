@@ -6,24 +6,11 @@ use borrow.Author.Needs.{needs}
 use Rattle.node.proofs.on_heartbeat.Statement.{statement}
 use Rattle.node.proofs.on_heartbeat.Tie as tie
 
-quiet-requires : tie.Need-quiet-requires
-quiet-requires c κs = search needs
-
 returns : tie.Need-returns
 returns c = c .quiet .ensures ∙ ap turned (sym (heartbeat-ignored _ _ _ _ (c .before .if1 .taken)))
-
-add-m : tie.Need-add-m
-add-m c = search needs
-
-add-m-2 : tie.Need-add-m-2
-add-m-2 c = search needs
-
-quiet-requires-2 : tie.Need-quiet-requires-2
-quiet-requires-2 c κs = search needs
 
 returns-2 : tie.Need-returns-2
 returns-2 c = c .quiet2 .ensures ∙ ap turned (sym (heartbeat-renews _ _ _ _ (c .before .if1 .left)))
 
 pub on-heartbeat-spec : {M : Type 1} → statement M
-on-heartbeat-spec =
-    tie.close (tie.spec quiet-requires returns add-m add-m-2 quiet-requires-2 returns-2)
+on-heartbeat-spec = tie.close (tie.spec (λ c κs. search needs) returns (λ c. search needs) (λ c. search needs) (λ c κs. search needs) returns-2)

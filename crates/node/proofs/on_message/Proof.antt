@@ -6,15 +6,6 @@ use borrow.Author.Needs.{needs}
 use Rattle.node.proofs.on_message.Statement.{statement}
 use Rattle.node.proofs.on_message.Tie as tie
 
-on-heartbeat-requires : tie.Need-on-heartbeat-requires
-on-heartbeat-requires c κs = search needs
-
-on-observer-requires : tie.Need-on-observer-requires
-on-observer-requires c κs = search needs
-
-on-report-requires : tie.Need-on-report-requires
-on-report-requires c κs = search needs
-
 returns : tie.Need-returns
 returns c = c .on-heartbeat .ensures ∙ ap turned (sym (message-heartbeat _ _ _ _ _ _ _ _ (c .before .match .keys1)))
 
@@ -25,12 +16,4 @@ returns-3 : tie.Need-returns-3
 returns-3 c = c .on-report .ensures ∙ ap turned (sym (message-report _ _ _ _ _ _ _ _ (c .before .match .rest .0 .1) (c .before .match .rest .1)))
 
 pub on-message-spec : {M : Type 1} → statement M
-on-message-spec =
-    tie.close
-    (tie.spec
-    on-heartbeat-requires
-    on-observer-requires
-    on-report-requires
-    returns
-    returns-2
-    returns-3)
+on-message-spec = tie.close (tie.spec (λ c κs. search needs) (λ c κs. search needs) (λ c κs. search needs) returns returns-2 returns-3)

@@ -6,14 +6,8 @@ use borrow.Author.Needs.{needs}
 use Rattle.node.proofs.on_observer.Statement.{statement}
 use Rattle.node.proofs.on_observer.Tie as tie
 
-add-m : tie.Need-add-m
-add-m c = search needs
-
-quiet-requires : tie.Need-quiet-requires
-quiet-requires c κs = search needs
-
 returns : tie.Need-returns
 returns c = c .quiet .ensures ∙ ap turned (sym (observer-changes 0 _ _ _))
 
 pub on-observer-spec : {M : Type 1} → statement M
-on-observer-spec = tie.close (tie.spec add-m quiet-requires returns)
+on-observer-spec = tie.close (tie.spec (λ c. search needs) (λ c κs. search needs) returns)

@@ -4,12 +4,9 @@ use borrow.Author.Needs.{needs}
 use Rattle.node.proofs.quiet.Statement.{statement}
 use Rattle.node.proofs.quiet.Tie as tie
 
-no-message-requires : tie.Need-no-message-requires
-no-message-requires c κs = search needs
-
 returns : tie.Need-returns
 unfolding turned places
 returns c = rw (c .no-message .ensures)
 
 pub quiet-spec : {M : Type 1} → statement M
-quiet-spec = tie.close (tie.spec no-message-requires returns)
+quiet-spec = tie.close (tie.spec (λ c κs. search needs) returns)

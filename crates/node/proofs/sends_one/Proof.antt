@@ -4,15 +4,9 @@ use borrow.Author.Needs.{needs}
 use Rattle.node.proofs.sends_one.Statement.{statement}
 use Rattle.node.proofs.sends_one.Tie as tie
 
-no-message-requires : tie.Need-no-message-requires
-no-message-requires c κs = search needs
-
-array-set-from-sent : tie.Need-array-set-from-sent
-array-set-from-sent c = search needs
-
 returns : tie.Need-returns
 unfolding turned places
 returns c = rw (c .no-message .ensures)
 
 pub sends-one-spec : {M : Type 1} → statement M
-sends-one-spec = tie.close (tie.spec no-message-requires array-set-from-sent returns)
+sends-one-spec = tie.close (tie.spec (λ c κs. search needs) (λ c. search needs) returns)

@@ -6,33 +6,24 @@ use borrow.Author.Needs.{needs}
 use Rattle.platform.proofs.run.Statement.{statement}
 use Rattle.platform.proofs.run.Tie as tie
 
-in-range-requires : tie.Need-in-range-requires
-in-range-requires c κs = search needs
-
-same-length : tie.Need-same-length
-same-length c = search needs
-
 returns : tie.Need-returns
 returns c = run-bad _ _ (fails (c .before .in-range .ensures) (c .if1 .taken))
 
 run-ready-requires : tie.Need-run-ready-requires
 run-ready-requires c κs =
-    let a = c .before .before .before .before .before .args in
-    tested-ready (a .store .now) (λ i. c .before .before .before .before .slice-known .given i .fits) (holds (c .before .before .in-range .ensures) (c .before .if1 .left))
-
-same-length-2 : tie.Need-same-length-2
-same-length-2 c = search needs
+    let at-if1 = c .before in
+    let at-in-range = at-if1 .before in
+    let at-slice-known = at-in-range .before .before in
+    let start = at-slice-known .before in
+    let a = start .args in
+    tested-ready (a .store .now) (λ i. at-slice-known .slice-known .given i .fits) (holds (at-in-range .in-range .ensures) (at-if1 .if1 .left))
 
 returns-2 : tie.Need-returns-2
-returns-2 c = run-next _ _ (holds (c .before .before .before .before .before .in-range .ensures) (c .before .before .before .before .if1 .left)) (c .before .before .run-ready .ensures)
+returns-2 c =
+    let at-run-ready = c .before .before in
+    let at-if1 = at-run-ready .before .before in
+    let at-in-range = at-if1 .before in
+    run-next _ _ (holds (at-in-range .in-range .ensures) (at-if1 .if1 .left)) (at-run-ready .run-ready .ensures)
 
 pub run-spec : {M : Type 1} → statement M
-run-spec =
-    tie.close
-    (tie.spec
-    in-range-requires
-    same-length
-    returns
-    run-ready-requires
-    same-length-2
-    returns-2)
+run-spec = tie.close (tie.spec (λ c κs. search needs) (λ c. search needs) returns run-ready-requires (λ c. search needs) returns-2)

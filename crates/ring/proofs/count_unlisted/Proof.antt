@@ -6,11 +6,8 @@ use borrow.Author.Needs.{needs}
 use Rattle.ring.proofs.count_unlisted.Statement.{statement}
 use Rattle.ring.proofs.count_unlisted.Tie as tie
 
-unlisted-set-requires : tie.Need-unlisted-set-requires
-unlisted-set-requires c κs = search needs
-
 returns : tie.Need-returns
 returns c = ap ones (c .unlisted-set .ensures) ∙ ones-count _ _
 
 pub count-unlisted-spec : {M : Type 1} → statement M
-count-unlisted-spec = tie.close (tie.spec unlisted-set-requires returns)
+count-unlisted-spec = tie.close (tie.spec (λ c κs. search needs) returns)

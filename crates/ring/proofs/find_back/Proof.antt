@@ -19,31 +19,21 @@ abbrev μ-loop : tie.MeasureT-loop
 loop-holds : tie.Need-loop-holds Inv-loop μ-loop
 loop-holds c = (search needs, turn-back-start _ _ _)
 
-sub-s : tie.Need-sub-s Inv-loop μ-loop
-sub-s c = search needs
-
-step-requires : tie.Need-step-requires Inv-loop μ-loop
-step-requires c κs = search needs
-
-is-listed-requires : tie.Need-is-listed-requires Inv-loop μ-loop
-is-listed-requires c κs = search needs
-
 returns : tie.Need-returns Inv-loop μ-loop
 returns c =
-    let k = c .before .before in
-    turn-back-hit _ _ _ _ _ _ (search needs) (k .step .ensures) (c .before .is-listed .ensures) (k .before .before .loop .s) (omega arith) (c .if1 .taken)
-    ∙ sym (k .before .before .loop .inv .1)
-
-loop-less : tie.Need-loop-less Inv-loop μ-loop
-loop-less c = search needs
+    let read = c .before .before in
+    let turn = read .before .before .loop in
+    turn-back-hit _ _ _ _ _ _ (search needs) (read .step .ensures) (c .before .is-listed .ensures) (turn .s) (omega arith) (c .if1 .taken)
+    ∙ sym (turn .inv .1)
 
 loop-again : tie.Need-loop-again Inv-loop μ-loop
 loop-again c =
-    let k = c .before .before in (
+    let read = c .before .before in
+    let turn = read .before .before .loop in (
       search needs,
-      k .before .before .loop .inv .1
+      turn .inv .1
           ∙ ap (λ (l : List ℕ). getD l 0 none)
-          (turn-back-skip _ _ _ _ _ _ (search needs) (k .step .ensures) (c .before .is-listed .ensures) (k .before .before .loop .s) (omega arith) (c .if1 .left)),
+          (turn-back-skip _ _ _ _ _ _ (search needs) (read .step .ensures) (c .before .is-listed .ensures) (turn .s) (omega arith) (c .if1 .left)),
     )
 
 returns-2 : tie.Need-returns-2 Inv-loop μ-loop
@@ -51,15 +41,5 @@ returns-2 c = sym (c .before .loop .inv .1 ∙ turn-back-done _ _ _ _ (c .loop-t
 
 pub find-back-spec : {M : Type 1} → statement M
 find-back-spec =
-    tie.close
-    (tie.spec
-    Inv-loop
-    μ-loop
-    loop-holds
-    sub-s
-    step-requires
-    is-listed-requires
-    returns
-    loop-less
-    loop-again
-    returns-2)
+    tie.close (tie.spec Inv-loop μ-loop loop-holds (λ c. search needs) (λ c κs. search needs) (λ c κs. search needs) returns
+    (λ c. search needs) loop-again returns-2)

@@ -6,9 +6,6 @@ use borrow.Author.Needs.{needs}
 use Rattle.ring.proofs.is_listed.Statement.{statement}
 use Rattle.ring.proofs.is_listed.Tie as tie
 
-shr-result : tie.Need-shr-result
-shr-result c = search needs
-
 returns : tie.Need-returns
 unfolding listed
 returns c = refl
@@ -17,4 +14,4 @@ returns-2 : tie.Need-returns-2
 returns-2 c = sym (listed-beyond 64 (c .before .args .d) (c .before .args .i) (search needs) (search needs))
 
 pub is-listed-spec : {M : Type 1} → statement M
-is-listed-spec = tie.close (tie.spec shr-result returns returns-2)
+is-listed-spec = tie.close (tie.spec (λ c. search needs) returns returns-2)

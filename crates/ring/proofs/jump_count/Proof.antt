@@ -9,9 +9,6 @@ use Rattle.ring.proofs.jump_count.Tie as tie
 returns : tie.Need-returns
 returns c = rw (c .if1 .taken) (sym jumps-zero)
 
-sub-result : tie.Need-sub-result
-sub-result c = search needs
-
 sub-result-2 : tie.Need-sub-result-2
 sub-result-2 c = leading-le _ _
 
@@ -19,4 +16,4 @@ returns-2 : tie.Need-returns-2
 returns-2 c = jumps-leading 32 (c .before .args .m) (search needs) (search needs)
 
 pub jump-count-spec : {M : Type 1} → statement M
-jump-count-spec = tie.close (tie.spec returns sub-result sub-result-2 returns-2)
+jump-count-spec = tie.close (tie.spec returns (λ c. search needs) sub-result-2 returns-2)

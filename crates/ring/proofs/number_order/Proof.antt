@@ -1,7 +1,7 @@
 -- `ring::number_order` meets its contract. Assumes nothing.
 use mathlib.Core.Path.{_≡_, refl, ap, _∙_}
 use Prim.Native.Nat.{_-_, _≤_}
-use Rattle.ring.specs.Limits.{mostNodes}
+use Rattle.limits.specs.Limits.{mostNodes}
 use Rattle.ring.specs.Ring.{numbers}
 use Rattle.ring.proofs.Rows.{filled, filled-turn, full-numbers}
 use borrow.Author.Needs.{needs}
@@ -18,18 +18,6 @@ loop-holds : tie.Need-loop-holds Inv-loop μ-loop
 unfolding filled numbers
 loop-holds c = (search needs, refl)
 
-cast-order : tie.Need-cast-order Inv-loop μ-loop
-cast-order c = search needs
-
-array-write-order : tie.Need-array-write-order Inv-loop μ-loop
-array-write-order c = search needs
-
-add-i : tie.Need-add-i Inv-loop μ-loop
-add-i c = search needs
-
-loop-less : tie.Need-loop-less Inv-loop μ-loop
-loop-less c = search needs
-
 loop-again : tie.Need-loop-again Inv-loop μ-loop
 loop-again c = (search needs, filled-turn _ _ _ _ _ _ (c .before .loop .inv .1) refl (search needs))
 
@@ -40,14 +28,5 @@ returns c =
 
 pub number-order-spec : {M : Type 1} → statement M
 number-order-spec =
-    tie.close
-    (tie.spec
-    Inv-loop
-    μ-loop
-    loop-holds
-    cast-order
-    array-write-order
-    add-i
-    loop-less
-    loop-again
+    tie.close (tie.spec Inv-loop μ-loop loop-holds (λ c. search needs) (λ c. search needs) (λ c. search needs) (λ c. search needs) loop-again
     returns)

@@ -8,25 +8,15 @@ use Rattle.ring.proofs.table_row.Tie as tie
 returns : tie.Need-returns
 returns c = row-beyond _ _ _ (c .if1 .taken)
 
-is-listed-requires : tie.Need-is-listed-requires
-is-listed-requires c κs = search needs
-
 returns-2 : tie.Need-returns-2
-returns-2 c = row-listed _ _ _ (c .before .before .if1 .left) (sym (c .before .is-listed .ensures) ∙ c .if2 .taken)
-
-place-of-requires : tie.Need-place-of-requires
-place-of-requires c κs = search needs
-
-target-row-requires : tie.Need-target-row-requires
-target-row-requires c κs = search needs
+returns-2 c = row-listed _ _ _ (search needs) (sym (c .before .is-listed .ensures) ∙ c .if2 .taken)
 
 returns-3 : tie.Need-returns-3
 returns-3 c =
-    let k = c .before .before .before in
+    let placed = c .before in
+    let test = placed .before in
     c .target-row .ensures
-    ∙ row-unlisted _ _ _ _ (c .before .place-of .ensures) (k .before .if1 .left) (sym (k .is-listed .ensures) ∙ c .before .before .if2 .left)
+    ∙ row-unlisted _ _ _ _ (placed .place-of .ensures) (search needs) (sym (test .before .is-listed .ensures) ∙ test .if2 .left)
 
 pub table-row-spec : {M : Type 1} → statement M
-table-row-spec =
-    tie.close
-    (tie.spec returns is-listed-requires returns-2 place-of-requires target-row-requires returns-3)
+table-row-spec = tie.close (tie.spec returns (λ c κs. search needs) returns-2 (λ c κs. search needs) (λ c κs. search needs) returns-3)

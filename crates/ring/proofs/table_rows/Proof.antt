@@ -4,7 +4,7 @@ use mathlib.Core.Path.{_≡_, refl, sym, ap, _∙_}
 use Prim.Native.Nat.{ℕ, _-_, _≤_}
 use lib.ListN.{length, take, replicate}
 use borrow.Author.Needs.{needs}
-use Rattle.ring.specs.Limits.{mostNodes}
+use Rattle.limits.specs.Limits.{mostNodes}
 use Rattle.ring.specs.Ring.{rowSize, none, numbers, tableAnswer, tableRow}
 use Rattle.ring.proofs.Rows.{length-numbers, take-numbers, filled, filled-turn, full}
 use Rattle.ring.proofs.TableLaws.{refused-rows, accepted-rows, accepted}
@@ -19,59 +19,34 @@ Inv-loop n d rows₀ all end i₀ rows i =
 abbrev μ-loop : tie.MeasureT-loop
 μ-loop n d rows₀ all end i₀ rows i = mostNodes - i
 
-table-answer-requires : tie.Need-table-answer-requires Inv-loop μ-loop
-table-answer-requires c κs = search needs
-
 returns : tie.Need-returns Inv-loop μ-loop
 returns c = refused-rows _ _ (λ e. c .if1 .taken (c .before .table-answer .ensures ∙ e))
-
-number-order-requires : tie.Need-number-order-requires Inv-loop μ-loop
-number-order-requires c κs = search needs
 
 loop-holds : tie.Need-loop-holds Inv-loop μ-loop
 unfolding filled numbers
 loop-holds c =
-    let a = sym (c .before .before .table-answer .ensures) ∙ c .before .if1 .left in
-    let n = c .before .before .before .args .n in
+    let answered = c .before .before in
+    let a = sym (answered .table-answer .ensures) ∙ c .before .if1 .left in
+    let n = answered .before .args .n in
     let s : n ≤ mostNodes = accepted _ _ a .1 in
     let e : take n (c .number-order .result) ≡ numbers 0 n = ap (take n) (c .number-order .ensures) ∙ take-numbers n mostNodes 0 s in
     (a, s, e, ap length e ∙ length-numbers n 0, search needs, refl)
 
-array-share-prefix-all : tie.Need-array-share-prefix-all Inv-loop μ-loop
-array-share-prefix-all c = search needs
-
 slice-aggregate-table-row : tie.Need-slice-aggregate-table-row Inv-loop μ-loop
 slice-aggregate-table-row c = sym (c .before .before .loop .inv .3)
 
-cast-table-row : tie.Need-cast-table-row Inv-loop μ-loop
-cast-table-row c = search needs
-
-table-row-requires : tie.Need-table-row-requires Inv-loop μ-loop
-table-row-requires c κs = search needs
-
-mul-rows : tie.Need-mul-rows Inv-loop μ-loop
-mul-rows c = search needs
-
-array-set-from-rows : tie.Need-array-set-from-rows Inv-loop μ-loop
-array-set-from-rows c = search needs
-
-add-i : tie.Need-add-i Inv-loop μ-loop
-add-i c = search needs
-
-loop-less : tie.Need-loop-less Inv-loop μ-loop
-loop-less c = search needs
-
 loop-again : tie.Need-loop-again Inv-loop μ-loop
 loop-again c =
-    let k = c .before .before .before .loop in
-    let d = c .before .before .before .before .before .before .before .args .d in
-    let i = k .inv in (
+    let turn = c .before .before .before in
+    let answered = turn .before .before .before in
+    let d = answered .before .args .d in
+    let i = turn .loop .inv in (
       i .0,
       i .1,
       i .2,
       i .3,
       search needs,
-      filled-turn _ _ _ _ _ _ (i .5) (c .table-row .ensures ∙ ap (λ (l : List ℕ). tableRow l d (k .i)) (i .2)) (search needs),
+      filled-turn _ _ _ _ _ _ (i .5) (c .table-row .ensures ∙ ap (λ (l : List ℕ). tableRow l d (turn .loop .i)) (i .2)) (search needs),
     )
 
 returns-2 : tie.Need-returns-2 Inv-loop μ-loop
@@ -82,21 +57,6 @@ returns-2 c =
 
 pub table-rows-spec : {M : Type 1} → statement M
 table-rows-spec =
-    tie.close
-    (tie.spec
-    Inv-loop
-    μ-loop
-    table-answer-requires
-    returns
-    number-order-requires
-    loop-holds
-    array-share-prefix-all
-    slice-aggregate-table-row
-    cast-table-row
-    table-row-requires
-    mul-rows
-    array-set-from-rows
-    add-i
-    loop-less
-    loop-again
-    returns-2)
+    tie.close (tie.spec Inv-loop μ-loop (λ c κs. search needs) returns (λ c κs. search needs) loop-holds (λ c. search needs)
+    slice-aggregate-table-row (λ c. search needs) (λ c κs. search needs) (λ c. search needs) (λ c. search needs) (λ c. search needs)
+    (λ c. search needs) loop-again returns-2)

@@ -19,38 +19,11 @@ Inv-loop order d p n last out₀ j₀ out j =
 abbrev μ-loop : tie.MeasureT-loop
 μ-loop order d p n last out₀ j₀ out j = last - j
 
-cast-n : tie.Need-cast-n Inv-loop μ-loop
-cast-n c = search needs
-
-count-unlisted-requires : tie.Need-count-unlisted-requires Inv-loop μ-loop
-count-unlisted-requires c κs = search needs
-
-jump-count-requires : tie.Need-jump-count-requires Inv-loop μ-loop
-jump-count-requires c κs = search needs
-
-cast-last : tie.Need-cast-last Inv-loop μ-loop
-cast-last c = search needs
-
 loop-holds : tie.Need-loop-holds Inv-loop μ-loop
 unfolding filled numbers
 loop-holds c =
     let e = c .jump-count .ensures ∙ ap jumps (c .before .count-unlisted .ensures) in
     (e, rw e (jumps-count-le _ _ (search needs)), search needs, refl)
-
-shl-find-ahead : tie.Need-shl-find-ahead Inv-loop μ-loop
-shl-find-ahead c = search needs
-
-find-ahead-requires : tie.Need-find-ahead-requires Inv-loop μ-loop
-find-ahead-requires c κs = search needs
-
-array-write-out : tie.Need-array-write-out Inv-loop μ-loop
-array-write-out c = search needs
-
-add-j : tie.Need-add-j Inv-loop μ-loop
-add-j c = search needs
-
-loop-less : tie.Need-loop-less Inv-loop μ-loop
-loop-less c = search needs
 
 loop-again : tie.Need-loop-again Inv-loop μ-loop
 loop-again c =
@@ -69,19 +42,5 @@ returns c =
 
 pub target-row-spec : {M : Type 1} → statement M
 target-row-spec =
-    tie.close
-    (tie.spec
-    Inv-loop
-    μ-loop
-    cast-n
-    count-unlisted-requires
-    jump-count-requires
-    cast-last
-    loop-holds
-    shl-find-ahead
-    find-ahead-requires
-    array-write-out
-    add-j
-    loop-less
-    loop-again
-    returns)
+    tie.close (tie.spec Inv-loop μ-loop (λ c. search needs) (λ c κs. search needs) (λ c κs. search needs) (λ c. search needs) loop-holds
+    (λ c. search needs) (λ c κs. search needs) (λ c. search needs) (λ c. search needs) (λ c. search needs) loop-again returns)

@@ -7,12 +7,9 @@ use borrow.Author.Needs.{needs}
 use Rattle.ring.proofs.with_listed.Statement.{statement}
 use Rattle.ring.proofs.with_listed.Tie as tie
 
-shl-result : tie.Need-shl-result
-shl-result c = search needs
-
 returns : tie.Need-returns
 unfolding listing
 returns c = ap (bitOr (c .args .d)) (one-shl 64 (c .args .i) (search needs))
 
 pub with-listed-spec : {M : Type 1} → statement M
-with-listed-spec = tie.close (tie.spec shl-result returns)
+with-listed-spec = tie.close (tie.spec (λ c. search needs) returns)

@@ -7,12 +7,6 @@ use Rattle.runfile.proofs.Forms.{pair-none-1, pair-none-2, pair-none, p
 use Rattle.runfile.proofs.delay_line.Statement.{statement}
 use Rattle.runfile.proofs.delay_line.Tie as tie
 
-read-field-requires : tie.Need-read-field-requires
-read-field-requires c κs = search needs
-
-enum-known-number : tie.Need-enum-known-number
-enum-known-number c = search needs
-
 enum-told : tie.Need-enum-told
 enum-told c = search needs
 
@@ -20,33 +14,20 @@ returns : tie.Need-returns
 unfolding delayOf
 returns c p kept = later-none _ p (pair-none-1 _ _ (sym (c .before .before .read-field .ensures) ∙ c .enum-told .given .1))
 
-read-field-requires-2 : tie.Need-read-field-requires-2
-read-field-requires-2 c κs = search needs
-
-enum-known-delay : tie.Need-enum-known-delay
-enum-known-delay c = search needs
-
-enum-told-2 : tie.Need-enum-told-2
-enum-told-2 c = search needs
-
 returns-2 : tie.Need-returns-2
 unfolding delayOf
 returns-2 c p kept =
     let number = c .before .before .before .before in
-    later-none _ p (pair-none-2 _ _ _ _ (sym (number .before .before .read-field .ensures) ∙ number .number .given .1) (sym (c .before .before .read-field2 .ensures) ∙ c .enum-told2 .given .1))
-
-ends-requires : tie.Need-ends-requires
-ends-requires c κs = search needs
+    later-none _ p (pair-none-2 _ _ _ _ (sym (number .before .before .read-field .ensures) ∙ number .number .given .1)
+    (sym (c .before .before .read-field2 .ensures) ∙ c .enum-told2 .given .1))
 
 returns-3 : tie.Need-returns-3
 unfolding delayOf
 returns-3 c p kept =
     let delay = c .before .before .before in
     let number = delay .before .before .before .before in
-    later-none _ p (pair-none _ _ _ _ (sym (number .before .before .read-field .ensures) ∙ number .number .given .1) _ _ (sym (delay .before .before .read-field2 .ensures) ∙ delay .delay .given .1) (sym (c .before .ends .ensures) ∙ not-true _ (c .if1 .taken)))
-
-take-delay-requires : tie.Need-take-delay-requires
-take-delay-requires c κs = search needs
+    later-none _ p (pair-none _ _ _ _ (sym (number .before .before .read-field .ensures) ∙ number .number .given .1) _ _
+    (sym (delay .before .before .read-field2 .ensures) ∙ delay .delay .given .1) (sym (c .before .ends .ensures) ∙ not-true _ (c .if1 .taken)))
 
 returns-4 : tie.Need-returns-4
 unfolding delayOf laterLine
@@ -54,21 +35,11 @@ returns-4 c p kept =
     let delay = c .before .before .before .before in
     let number = delay .before .before .before .before in
     c .take-delay .ensures p kept
-    ∙ sym (rw (pair-some _ _ _ _ (sym (number .before .before .read-field .ensures) ∙ number .number .given .1) _ _ (sym (delay .before .before .read-field2 .ensures) ∙ delay .delay .given .1) (sym (c .before .before .ends .ensures) ∙ not-false _ (c .before .if1 .left))))
+    ∙ sym (rw (pair-some _ _ _ _ (sym (number .before .before .read-field .ensures) ∙ number .number .given .1) _ _
+    (sym (delay .before .before .read-field2 .ensures) ∙ delay .delay .given .1)
+    (sym (c .before .before .ends .ensures) ∙ not-false _ (c .before .if1 .left))))
 
 pub delay-line-spec : {M : Type 1} → statement M
 delay-line-spec =
-    tie.close
-    (tie.spec
-    read-field-requires
-    enum-known-number
-    enum-told
-    returns
-    read-field-requires-2
-    enum-known-delay
-    enum-told-2
-    returns-2
-    ends-requires
-    returns-3
-    take-delay-requires
-    returns-4)
+    tie.close (tie.spec (λ c κs. search needs) (λ c. search needs) enum-told returns (λ c κs. search needs) (λ c. search needs)
+    (λ c. search needs) returns-2 (λ c κs. search needs) returns-3 (λ c κs. search needs) returns-4)

@@ -3,70 +3,40 @@ use borrow.Author.Needs.{needs}
 use mathlib.Core.Path.{sym, _∙_}
 use borrow.Author.Tests.{not-true, not-false}
 use Rattle.runfile.specs.File.{firstLine}
-use Rattle.runfile.proofs.Forms.{row-empty, row-start, start-none-1, start-none-2, start-none-3, start-none-4, start-none-5, start-none, start-some, first-none, first-other}
+use Rattle.runfile.proofs.Forms.{row-empty, row-start, start-none-1, start-none-2, start-none-3, start-none-4, start-none-5, start-none, start-some}
+use Rattle.runfile.proofs.Forms.{first-none, first-other}
 use Rattle.runfile.proofs.first_line.Statement.{statement}
 use Rattle.runfile.proofs.first_line.Tie as tie
 
 returns : tie.Need-returns
 returns c = first-none _ (row-empty _ (c .if1 .taken))
 
-shared-slice-read-if2 : tie.Need-shared-slice-read-if2
-shared-slice-read-if2 c = search needs
-
 returns-2 : tie.Need-returns-2
 returns-2 c = first-other _ (c .before .before .if1 .left) (c .if2 .taken)
-
-read-field-requires : tie.Need-read-field-requires
-read-field-requires c κs = search needs
-
-enum-known-n : tie.Need-enum-known-n
-enum-known-n c = search needs
 
 enum-told : tie.Need-enum-told
 enum-told c = search needs
 
 returns-3 : tie.Need-returns-3
-returns-3 c = first-none _ (row-start _ (c .before .before .before .before .before .if1 .left) (c .before .before .before .if2 .left) ∙ start-none-1 _ (sym (c .before .before .read-field .ensures) ∙ c .enum-told .given .1))
-
-read-field-requires-2 : tie.Need-read-field-requires-2
-read-field-requires-2 c κs = search needs
-
-enum-known-h : tie.Need-enum-known-h
-enum-known-h c = search needs
-
-enum-told-2 : tie.Need-enum-told-2
-enum-told-2 c = search needs
+returns-3 c =
+    first-none _ (row-start _ (c .before .before .before .before .before .if1 .left) (c .before .before .before .if2 .left) ∙ start-none-1 _
+    (sym (c .before .before .read-field .ensures) ∙ c .enum-told .given .1))
 
 returns-4 : tie.Need-returns-4
 returns-4 c =
     let n = c .before .before .before .before in
     let s = n .before .before .before in
-    first-none _ (row-start _ (s .before .before .if1 .left) (s .if2 .left) ∙ start-none-2 _ _ _ (sym (n .before .before .read-field .ensures) ∙ n .n .given .1) (sym (c .before .before .read-field2 .ensures) ∙ c .enum-told2 .given .1))
-
-read-field-requires-3 : tie.Need-read-field-requires-3
-read-field-requires-3 c κs = search needs
-
-enum-known-w : tie.Need-enum-known-w
-enum-known-w c = search needs
-
-enum-told-3 : tie.Need-enum-told-3
-enum-told-3 c = search needs
+    first-none _ (row-start _ (s .before .before .if1 .left) (s .if2 .left) ∙ start-none-2 _ _ _
+    (sym (n .before .before .read-field .ensures) ∙ n .n .given .1) (sym (c .before .before .read-field2 .ensures) ∙ c .enum-told2 .given .1))
 
 returns-5 : tie.Need-returns-5
 returns-5 c =
     let h = c .before .before .before .before in
     let n = h .before .before .before .before in
     let s = n .before .before .before in
-    first-none _ (row-start _ (s .before .before .if1 .left) (s .if2 .left) ∙ start-none-3 _ _ _ (sym (n .before .before .read-field .ensures) ∙ n .n .given .1) _ _ (sym (h .before .before .read-field2 .ensures) ∙ h .h .given .1) (sym (c .before .before .read-field3 .ensures) ∙ c .enum-told3 .given .1))
-
-read-field-requires-4 : tie.Need-read-field-requires-4
-read-field-requires-4 c κs = search needs
-
-enum-known-d : tie.Need-enum-known-d
-enum-known-d c = search needs
-
-enum-told-4 : tie.Need-enum-told-4
-enum-told-4 c = search needs
+    first-none _ (row-start _ (s .before .before .if1 .left) (s .if2 .left) ∙ start-none-3 _ _ _
+    (sym (n .before .before .read-field .ensures) ∙ n .n .given .1) _ _ (sym (h .before .before .read-field2 .ensures) ∙ h .h .given .1)
+    (sym (c .before .before .read-field3 .ensures) ∙ c .enum-told3 .given .1))
 
 returns-6 : tie.Need-returns-6
 returns-6 c =
@@ -74,16 +44,9 @@ returns-6 c =
     let h = w .before .before .before .before in
     let n = h .before .before .before .before in
     let s = n .before .before .before in
-    first-none _ (row-start _ (s .before .before .if1 .left) (s .if2 .left) ∙ start-none-4 _ _ _ (sym (n .before .before .read-field .ensures) ∙ n .n .given .1) _ _ (sym (h .before .before .read-field2 .ensures) ∙ h .h .given .1) _ _ (sym (w .before .before .read-field3 .ensures) ∙ w .w .given .1) (sym (c .before .before .read-field4 .ensures) ∙ c .enum-told4 .given .1))
-
-read-field-requires-5 : tie.Need-read-field-requires-5
-read-field-requires-5 c κs = search needs
-
-enum-known-end : tie.Need-enum-known-end
-enum-known-end c = search needs
-
-enum-told-5 : tie.Need-enum-told-5
-enum-told-5 c = search needs
+    first-none _ (row-start _ (s .before .before .if1 .left) (s .if2 .left) ∙ start-none-4 _ _ _
+    (sym (n .before .before .read-field .ensures) ∙ n .n .given .1) _ _ (sym (h .before .before .read-field2 .ensures) ∙ h .h .given .1) _ _
+    (sym (w .before .before .read-field3 .ensures) ∙ w .w .given .1) (sym (c .before .before .read-field4 .ensures) ∙ c .enum-told4 .given .1))
 
 returns-7 : tie.Need-returns-7
 returns-7 c =
@@ -92,10 +55,10 @@ returns-7 c =
     let h = w .before .before .before .before in
     let n = h .before .before .before .before in
     let s = n .before .before .before in
-    first-none _ (row-start _ (s .before .before .if1 .left) (s .if2 .left) ∙ start-none-5 _ _ _ (sym (n .before .before .read-field .ensures) ∙ n .n .given .1) _ _ (sym (h .before .before .read-field2 .ensures) ∙ h .h .given .1) _ _ (sym (w .before .before .read-field3 .ensures) ∙ w .w .given .1) _ _ (sym (d .before .before .read-field4 .ensures) ∙ d .d .given .1) (sym (c .before .before .read-field5 .ensures) ∙ c .enum-told5 .given .1))
-
-ends-requires : tie.Need-ends-requires
-ends-requires c κs = search needs
+    first-none _ (row-start _ (s .before .before .if1 .left) (s .if2 .left) ∙ start-none-5 _ _ _
+    (sym (n .before .before .read-field .ensures) ∙ n .n .given .1) _ _ (sym (h .before .before .read-field2 .ensures) ∙ h .h .given .1) _ _
+    (sym (w .before .before .read-field3 .ensures) ∙ w .w .given .1) _ _ (sym (d .before .before .read-field4 .ensures) ∙ d .d .given .1)
+    (sym (c .before .before .read-field5 .ensures) ∙ c .enum-told5 .given .1))
 
 returns-8 : tie.Need-returns-8
 returns-8 c =
@@ -105,10 +68,10 @@ returns-8 c =
     let h = w .before .before .before .before in
     let n = h .before .before .before .before in
     let s = n .before .before .before in
-    first-none _ (row-start _ (s .before .before .if1 .left) (s .if2 .left) ∙ start-none _ _ _ (sym (n .before .before .read-field .ensures) ∙ n .n .given .1) _ _ (sym (h .before .before .read-field2 .ensures) ∙ h .h .given .1) _ _ (sym (w .before .before .read-field3 .ensures) ∙ w .w .given .1) _ _ (sym (d .before .before .read-field4 .ensures) ∙ d .d .given .1) _ _ (sym (end .before .before .read-field5 .ensures) ∙ end .end .given .1) (sym (c .before .ends .ensures) ∙ not-true _ (c .if3 .taken)))
-
-take-start-requires : tie.Need-take-start-requires
-take-start-requires c κs = search needs
+    first-none _ (row-start _ (s .before .before .if1 .left) (s .if2 .left) ∙ start-none _ _ _
+    (sym (n .before .before .read-field .ensures) ∙ n .n .given .1) _ _ (sym (h .before .before .read-field2 .ensures) ∙ h .h .given .1) _ _
+    (sym (w .before .before .read-field3 .ensures) ∙ w .w .given .1) _ _ (sym (d .before .before .read-field4 .ensures) ∙ d .d .given .1) _ _
+    (sym (end .before .before .read-field5 .ensures) ∙ end .end .given .1) (sym (c .before .ends .ensures) ∙ not-true _ (c .if3 .taken)))
 
 returns-9 : tie.Need-returns-9
 unfolding firstLine
@@ -120,36 +83,15 @@ returns-9 c =
     let n = h .before .before .before .before in
     let s = n .before .before .before in
     c .take-start .ensures
-    ∙ sym (rw (row-start _ (s .before .before .if1 .left) (s .if2 .left) ∙ start-some _ _ _ (sym (n .before .before .read-field .ensures) ∙ n .n .given .1) _ _ (sym (h .before .before .read-field2 .ensures) ∙ h .h .given .1) _ _ (sym (w .before .before .read-field3 .ensures) ∙ w .w .given .1) _ _ (sym (d .before .before .read-field4 .ensures) ∙ d .d .given .1) _ _ (sym (end .before .before .read-field5 .ensures) ∙ end .end .given .1) (sym (c .before .before .ends .ensures) ∙ not-false _ (c .before .if3 .left))))
+    ∙ sym
+    (rw (row-start _ (s .before .before .if1 .left) (s .if2 .left) ∙ start-some _ _ _ (sym (n .before .before .read-field .ensures) ∙ n .n .given .1) _
+    _ (sym (h .before .before .read-field2 .ensures) ∙ h .h .given .1) _ _ (sym (w .before .before .read-field3 .ensures) ∙ w .w .given .1) _ _
+    (sym (d .before .before .read-field4 .ensures) ∙ d .d .given .1) _ _ (sym (end .before .before .read-field5 .ensures) ∙ end .end .given .1)
+    (sym (c .before .before .ends .ensures) ∙ not-false _ (c .before .if3 .left))))
 
 pub first-line-spec : {M : Type 1} → statement M
 first-line-spec =
-    tie.close
-    (tie.spec
-    returns
-    shared-slice-read-if2
-    returns-2
-    read-field-requires
-    enum-known-n
-    enum-told
-    returns-3
-    read-field-requires-2
-    enum-known-h
-    enum-told-2
-    returns-4
-    read-field-requires-3
-    enum-known-w
-    enum-told-3
-    returns-5
-    read-field-requires-4
-    enum-known-d
-    enum-told-4
-    returns-6
-    read-field-requires-5
-    enum-known-end
-    enum-told-5
-    returns-7
-    ends-requires
-    returns-8
-    take-start-requires
-    returns-9)
+    tie.close (tie.spec returns (λ c. search needs) returns-2 (λ c κs. search needs) (λ c. search needs) enum-told returns-3
+    (λ c κs. search needs) (λ c. search needs) (λ c. search needs) returns-4 (λ c κs. search needs) (λ c. search needs) (λ c. search needs)
+    returns-5 (λ c κs. search needs) (λ c. search needs) (λ c. search needs) returns-6 (λ c κs. search needs) (λ c. search needs)
+    (λ c. search needs) returns-7 (λ c κs. search needs) returns-8 (λ c κs. search needs) returns-9)

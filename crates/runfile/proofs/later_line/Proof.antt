@@ -8,15 +8,6 @@ use Rattle.runfile.proofs.later_line.Tie as tie
 returns : tie.Need-returns
 returns c p kept = later-none _ p (row-empty _ (c .if1 .taken))
 
-shared-slice-read-letter : tie.Need-shared-slice-read-letter
-shared-slice-read-letter c = search needs
-
-crash-line-requires : tie.Need-crash-line-requires
-crash-line-requires c κs = search needs
-
-delay-line-requires : tie.Need-delay-line-requires
-delay-line-requires c κs = search needs
-
 returns-2 : tie.Need-returns-2
 returns-2 c p kept = c .crash-line .ensures p kept ∙ sym (rw (row-crash _ (c .before .before .before .if1 .left) (c .before .match .keys1)))
 
@@ -27,13 +18,4 @@ returns-4 : tie.Need-returns-4
 returns-4 c p kept = later-other _ p (c .before .before .if1 .left) (c .match .rest .0 .1) (c .match .rest .1)
 
 pub later-line-spec : {M : Type 1} → statement M
-later-line-spec =
-    tie.close
-    (tie.spec
-    returns
-    shared-slice-read-letter
-    crash-line-requires
-    delay-line-requires
-    returns-2
-    returns-3
-    returns-4)
+later-line-spec = tie.close (tie.spec returns (λ c. search needs) (λ c κs. search needs) (λ c κs. search needs) returns-2 returns-3 returns-4)

@@ -25,9 +25,6 @@ line-end-requires c κs = c .before .loop .inv .here
 sub-later-line : tie.Need-sub-later-line Inv-loop μ-loop
 sub-later-line c = omega (arith, line-grows _ _ _ (c .before .loop-test .taken) (c .line-end .ensures .0))
 
-part-later-line-start : tie.Need-part-later-line-start Inv-loop μ-loop
-part-later-line-start c = search needs
-
 part-later-line-end : tie.Need-part-later-line-end Inv-loop μ-loop
 part-later-line-end c = omega (arith, c .line-end .ensures .1, line-grows _ _ _ (c .before .loop-test .taken) (c .line-end .ensures .0))
 
@@ -37,18 +34,13 @@ later-line-requires c κs =
     let n = kept-n _ _ (l .loop .inv .kept) in
     (n .0, n .1, omega (arith, l .loop .inv .few, l .loop .inv .each, c .before .before .loop-test .taken, l .before .before .pre .0))
 
-enum-known-step : tie.Need-enum-known-step Inv-loop μ-loop
-enum-known-step c = search needs
-
-enum-known-step-2 : tie.Need-enum-known-step-2 Inv-loop μ-loop
-enum-known-step-2 c = search needs
-
 returns : tie.Need-returns Inv-loop μ-loop
 returns c =
     let k = c .before .before .before in
     let e = k .before .before in
     let l = e .before .before in
-    passed-stop _ _ _ _ _ (l .loop .inv) _ (e .before .loop-test .taken) (e .line-end .ensures .0) (e .line-end .ensures .1) _ (sym (c .before .step2 .given .1) ∙ k .later-line .ensures (l .loop .inv .plan) (l .loop .inv .kept))
+    passed-stop _ _ _ _ _ (l .loop .inv) _ (e .before .loop-test .taken) (e .line-end .ensures .0) (e .line-end .ensures .1) _
+    (sym (c .before .step2 .given .1) ∙ k .later-line .ensures (l .loop .inv .plan) (l .loop .inv .kept))
 
 add-line : tie.Need-add-line Inv-loop μ-loop
 add-line c =
@@ -69,27 +61,13 @@ loop-again c =
     let k = c .before .before .before in
     let e = k .before .before in
     let l = e .before .before in
-    passed-next _ _ _ _ _ (l .loop .inv) _ (e .before .loop-test .taken) (e .line-end .ensures .0) (e .line-end .ensures .1) _ (sym (c .before .step .given .1) ∙ k .later-line .ensures (l .loop .inv .plan) (l .loop .inv .kept))
+    passed-next _ _ _ _ _ (l .loop .inv) _ (e .before .loop-test .taken) (e .line-end .ensures .0) (e .line-end .ensures .1) _
+    (sym (c .before .step .given .1) ∙ k .later-line .ensures (l .loop .inv .plan) (l .loop .inv .kept))
 
 returns-2 : tie.Need-returns-2 Inv-loop μ-loop
 returns-2 c = passed-end _ _ _ _ _ (c .before .loop .inv) (c .loop-test .left)
 
 pub later-lines-spec : {M : Type 1} → statement M
 later-lines-spec =
-    tie.close
-    (tie.spec
-    Inv-loop
-    μ-loop
-    loop-holds
-    line-end-requires
-    sub-later-line
-    part-later-line-start
-    part-later-line-end
-    later-line-requires
-    enum-known-step
-    enum-known-step-2
-    returns
-    add-line
-    loop-less
-    loop-again
-    returns-2)
+    tie.close (tie.spec Inv-loop μ-loop loop-holds line-end-requires sub-later-line (λ c. search needs) part-later-line-end later-line-requires
+    (λ c. search needs) (λ c. search needs) returns add-line loop-less loop-again returns-2)

@@ -15,41 +15,24 @@ Inv-loop s at i₀ i = (at ≤ i) × (i ≤ length s) × (at + lineLength (drop 
 abbrev μ-loop : tie.MeasureT-loop
 μ-loop s at i₀ i = length s - i
 
-loop-holds : tie.Need-loop-holds Inv-loop μ-loop
-loop-holds c = search needs
-
-shared-slice-read-if1 : tie.Need-shared-slice-read-if1 Inv-loop μ-loop
-shared-slice-read-if1 c = search needs
-
-add-result : tie.Need-add-result Inv-loop μ-loop
-add-result c = search needs
-
 returns : tie.Need-returns Inv-loop μ-loop
-returns c = let l = c .before .before .before in let t = c .before .before in (sym (l .loop .inv .2 ∙ ap (λ (n : ℕ). l .loop .i + n) (line-here _ _ (t .loop-test .taken) (c .if1 .taken))), omega (arith, t .loop-test .taken))
-
-add-i : tie.Need-add-i Inv-loop μ-loop
-add-i c = search needs
-
-loop-less : tie.Need-loop-less Inv-loop μ-loop
-loop-less c = search needs
+returns c =
+    let l = c .before .before .before in
+    let t = c .before .before in
+    (sym (l .loop .inv .2 ∙ ap (λ (n : ℕ). l .loop .i + n) (line-here _ _ (t .loop-test .taken) (c .if1 .taken))), omega (arith, t .loop-test .taken))
 
 loop-again : tie.Need-loop-again Inv-loop μ-loop
-loop-again c = let l = c .before .before .before in let t = c .before .before in (omega arith, omega (arith, t .loop-test .taken), omega (arith, l .loop .inv .2, line-more (l .before .args .s .now) (l .loop .i) (t .loop-test .taken) (c .if1 .left)))
+loop-again c =
+    let l = c .before .before .before in
+    let t = c .before .before in
+    let more = line-more (l .before .args .s .now) (l .loop .i) (t .loop-test .taken) (c .if1 .left) in
+    (omega arith, omega (arith, t .loop-test .taken), omega (arith, l .loop .inv .2, more))
 
 returns-2 : tie.Need-returns-2 Inv-loop μ-loop
-returns-2 c = (omega (arith, c .before .loop .inv .2, line-none (c .before .before .args .s .now) (c .before .loop .i) (c .loop-test .left)), c .before .loop .inv .1)
+returns-2 c =
+    (omega (arith, c .before .loop .inv .2, line-none (c .before .before .args .s .now) (c .before .loop .i) (c .loop-test .left)), c .before .loop .inv .1)
 
 pub line-end-spec : {M : Type 1} → statement M
 line-end-spec =
-    tie.close
-    (tie.spec
-    Inv-loop
-    μ-loop
-    loop-holds
-    shared-slice-read-if1
-    add-result
-    returns
-    add-i
-    loop-less
-    loop-again
-    returns-2)
+    tie.close (tie.spec Inv-loop μ-loop (λ c. search needs) (λ c. search needs) (λ c. search needs) returns (λ c. search needs)
+    (λ c. search needs) loop-again returns-2)

@@ -12,11 +12,10 @@ put-field-requires c κs = let s = c .before .before in room-first _ _ _ (field 
 put-field-requires-2 : tie.Need-put-field-requires-2
 put-field-requires-2 c κs = let f = c .before .before .before in room-rest _ _ refl (f .before .before .before .pre) (f .put-field .ensures)
 
-same-length : tie.Need-same-length
-same-length c = search needs
-
 returns : tie.Need-returns
-returns c = let f = c .before .before .before .before .before .before in put-both _ refl (f .before .before .before .pre) (f .put-field .ensures) (c .before .before .put-field2 .ensures)
+returns c =
+    let f = c .before .before .before .before .before .before in
+    put-both _ refl (f .before .before .before .pre) (f .put-field .ensures) (c .before .before .put-field2 .ensures)
 
 pub put-two-spec : {M : Type 1} → statement M
-put-two-spec = tie.close (tie.spec put-field-requires put-field-requires-2 same-length returns)
+put-two-spec = tie.close (tie.spec put-field-requires put-field-requires-2 (λ c. search needs) returns)

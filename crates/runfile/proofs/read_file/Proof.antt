@@ -14,27 +14,18 @@ returns c = file-empty _ (c .if1 .taken)
 returns-2 : tie.Need-returns-2
 returns-2 c = file-long _ (c .if2 .taken)
 
-line-end-requires : tie.Need-line-end-requires
-line-end-requires c κs = search needs
-
 slice-aggregate-first-line : tie.Need-slice-aggregate-first-line
 slice-aggregate-first-line c = sym (length-take-le _ _ (c .before .line-end .ensures .1))
-
-first-line-requires : tie.Need-first-line-requires
-first-line-requires c κs = search needs
-
-enum-known-step : tie.Need-enum-known-step
-enum-known-step c = search needs
 
 later-lines-requires : tie.Need-later-lines-requires
 later-lines-requires c κs =
     let f = c .before .before .before in
     let e = f .before .before in
-    let l = e .before .before in
-    (e .before .if2 .left, passed-first _ _ (omega (arith, l .if1 .left)) (e .line-end .ensures .0) (e .line-end .ensures .1) _ (sym (c .before .step .given .1) ∙ f .first-line .ensures))
-
-enum-known-step-2 : tie.Need-enum-known-step-2
-enum-known-step-2 c = search needs
+    let l = e .before .before in (
+      e .before .if2 .left,
+      passed-first _ _ (omega (arith, l .if1 .left)) (e .line-end .ensures .0) (e .line-end .ensures .1) _
+          (sym (c .before .step .given .1) ∙ f .first-line .ensures),
+    )
 
 returns-3 : tie.Need-returns-3
 returns-3 c =
@@ -48,19 +39,10 @@ returns-4 c =
     let f = c .before .before .before in
     let e = f .before .before in
     let l = e .before .before in
-    first-stop _ _ (omega (arith, l .if1 .left)) (e .line-end .ensures .0) (e .line-end .ensures .1) _ (sym (c .before .step2 .given .1) ∙ f .first-line .ensures) ∙ sym (ap readOf (file-lines _ (l .if1 .left) (e .before .if2 .left)))
+    first-stop _ _ (omega (arith, l .if1 .left)) (e .line-end .ensures .0) (e .line-end .ensures .1) _
+    (sym (c .before .step2 .given .1) ∙ f .first-line .ensures) ∙ sym (ap readOf (file-lines _ (l .if1 .left) (e .before .if2 .left)))
 
 pub read-file-spec : {M : Type 1} → statement M
 read-file-spec =
-    tie.close
-    (tie.spec
-    returns
-    returns-2
-    line-end-requires
-    slice-aggregate-first-line
-    first-line-requires
-    enum-known-step
-    later-lines-requires
-    enum-known-step-2
-    returns-3
-    returns-4)
+    tie.close (tie.spec returns returns-2 (λ c κs. search needs) slice-aggregate-first-line (λ c κs. search needs) (λ c. search needs)
+    later-lines-requires (λ c. search needs) returns-3 returns-4)

@@ -9,52 +9,29 @@ use Rattle.runfile.proofs.row_at.Tie as tie
 returns : tie.Need-returns
 returns c = sym (no-row _ _ (c .if1 .taken))
 
-add-read-field : tie.Need-add-read-field
-add-read-field c = search needs
-
-read-field-requires : tie.Need-read-field-requires
-read-field-requires c κs = search needs
-
-enum-known-first : tie.Need-enum-known-first
-enum-known-first c = search needs
-
 enum-told : tie.Need-enum-told
 enum-told c = search needs
 
 returns-2 : tie.Need-returns-2
 returns-2 c = sym (no-first _ _ (sym (c .before .before .read-field .ensures) ∙ c .enum-told .given .1))
 
-read-field-requires-2 : tie.Need-read-field-requires-2
-read-field-requires-2 c κs = search needs
-
-enum-known-second : tie.Need-enum-known-second
-enum-known-second c = search needs
-
-enum-told-2 : tie.Need-enum-told-2
-enum-told-2 c = search needs
-
 returns-3 : tie.Need-returns-3
-returns-3 c = let x = c .before .before .before .before in sym (no-second _ _ _ _ (sym (x .before .before .read-field .ensures) ∙ x .first .given .1) (sym (c .before .before .read-field2 .ensures) ∙ c .enum-told2 .given .1))
+returns-3 c =
+    let x = c .before .before .before .before in
+    sym (no-second _ _ _ _ (sym (x .before .before .read-field .ensures) ∙ x .first .given .1)
+    (sym (c .before .before .read-field2 .ensures) ∙ c .enum-told2 .given .1))
 
 add-t7 : tie.Need-add-t7
 add-t7 c = let y = c .before in omega (arith, field-within _ _ _ _ (sym (y .before .before .read-field2 .ensures) ∙ y .second .given .1))
 
 returns-4 : tie.Need-returns-4
-returns-4 c = let y = c .before in let x = y .before .before .before .before in sym (row-there _ _ _ _ (sym (x .before .before .read-field .ensures) ∙ x .first .given .1) _ _ (sym (y .before .before .read-field2 .ensures) ∙ y .second .given .1))
+returns-4 c =
+    let y = c .before in
+    let x = y .before .before .before .before in
+    sym (row-there _ _ _ _ (sym (x .before .before .read-field .ensures) ∙ x .first .given .1) _ _
+    (sym (y .before .before .read-field2 .ensures) ∙ y .second .given .1))
 
 pub row-at-spec : {M : Type 1} → statement M
 row-at-spec =
-    tie.close
-    (tie.spec
-    returns
-    add-read-field
-    read-field-requires
-    enum-known-first
-    enum-told
-    returns-2
-    read-field-requires-2
-    enum-known-second
-    enum-told-2
-    returns-3
-    add-t7
-    returns-4)
+    tie.close (tie.spec returns (λ c. search needs) (λ c κs. search needs) (λ c. search needs) enum-told returns-2 (λ c κs. search needs)
+    (λ c. search needs) (λ c. search needs) returns-3 add-t7 returns-4)

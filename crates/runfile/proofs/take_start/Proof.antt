@@ -7,62 +7,20 @@ use Rattle.runfile.proofs.Steps.{start-n, start-h, start-w, start-d, st
 use Rattle.runfile.proofs.take_start.Statement.{statement}
 use Rattle.runfile.proofs.take_start.Tie as tie
 
-in-range-requires : tie.Need-in-range-requires
-in-range-requires c κs = search needs
-
-enum-known-n : tie.Need-enum-known-n
-enum-known-n c = search needs
-
 enum-told : tie.Need-enum-told
 enum-told c = search needs
 
 returns : tie.Need-returns
 returns c = start-n _ _ _ _ _ (sym (c .before .before .in-range .ensures) ∙ c .enum-told .given .1)
 
-in-range-requires-2 : tie.Need-in-range-requires-2
-in-range-requires-2 c κs = search needs
-
-enum-known-h : tie.Need-enum-known-h
-enum-known-h c = search needs
-
-enum-told-2 : tie.Need-enum-told-2
-enum-told-2 c = search needs
-
 returns-2 : tie.Need-returns-2
 returns-2 c = start-h _ _ _ _ _ (sym (c .before .before .in-range2 .ensures) ∙ c .enum-told2 .given .1)
-
-in-range-requires-3 : tie.Need-in-range-requires-3
-in-range-requires-3 c κs = search needs
-
-enum-known-w : tie.Need-enum-known-w
-enum-known-w c = search needs
-
-enum-told-3 : tie.Need-enum-told-3
-enum-told-3 c = search needs
 
 returns-3 : tie.Need-returns-3
 returns-3 c = start-w _ _ _ _ _ (sym (c .before .before .in-range3 .ensures) ∙ c .enum-told3 .given .1)
 
-in-range-requires-4 : tie.Need-in-range-requires-4
-in-range-requires-4 c κs = search needs
-
-enum-known-d : tie.Need-enum-known-d
-enum-known-d c = search needs
-
-enum-told-4 : tie.Need-enum-told-4
-enum-told-4 c = search needs
-
 returns-4 : tie.Need-returns-4
 returns-4 c = start-d _ _ _ _ _ (sym (c .before .before .in-range4 .ensures) ∙ c .enum-told4 .given .1)
-
-in-range-requires-5 : tie.Need-in-range-requires-5
-in-range-requires-5 c κs = search needs
-
-enum-known-end : tie.Need-enum-known-end
-enum-known-end c = search needs
-
-enum-told-5 : tie.Need-enum-told-5
-enum-told-5 c = search needs
 
 returns-5 : tie.Need-returns-5
 returns-5 c = start-end _ _ _ _ _ (sym (c .before .before .in-range5 .ensures) ∙ c .enum-told5 .given .1)
@@ -71,7 +29,11 @@ add-if1 : tie.Need-add-if1
 add-if1 c =
     let d = c .before .before .before .before .before in
     let h = d .before .before .before .before .before .before .before .before in
-    omega (arith, range-bound _ 1 1000 _ (sym (h .before .before .in-range2 .ensures) ∙ h .h .given .1), range-bound _ 1 255 _ (sym (d .before .before .in-range4 .ensures) ∙ d .d .given .1))
+    omega (
+      arith,
+      range-bound _ 1 1000 _ (sym (h .before .before .in-range2 .ensures) ∙ h .h .given .1),
+      range-bound _ 1 255 _ (sym (d .before .before .in-range4 .ensures) ∙ d .d .given .1),
+    )
 
 returns-6 : tie.Need-returns-6
 returns-6 c =
@@ -105,28 +67,7 @@ returns-7 c =
 
 pub take-start-spec : {M : Type 1} → statement M
 take-start-spec =
-    tie.close
-    (tie.spec
-    in-range-requires
-    enum-known-n
-    enum-told
-    returns
-    in-range-requires-2
-    enum-known-h
-    enum-told-2
-    returns-2
-    in-range-requires-3
-    enum-known-w
-    enum-told-3
-    returns-3
-    in-range-requires-4
-    enum-known-d
-    enum-told-4
-    returns-4
-    in-range-requires-5
-    enum-known-end
-    enum-told-5
-    returns-5
-    add-if1
-    returns-6
+    tie.close (tie.spec (λ c κs. search needs) (λ c. search needs) enum-told returns (λ c κs. search needs) (λ c. search needs)
+    (λ c. search needs) returns-2 (λ c κs. search needs) (λ c. search needs) (λ c. search needs) returns-3 (λ c κs. search needs)
+    (λ c. search needs) (λ c. search needs) returns-4 (λ c κs. search needs) (λ c. search needs) (λ c. search needs) returns-5 add-if1 returns-6
     returns-7)

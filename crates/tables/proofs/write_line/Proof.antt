@@ -7,11 +7,5 @@ use Rattle.tables.proofs.write_line.Tie as tie
 slice-aggregate-write-all : tie.Need-slice-aggregate-write-all
 slice-aggregate-write-all c = simp length-take (search needs)
 
-write-all-requires : tie.Need-write-all-requires
-write-all-requires c κs = search needs
-
-returns : tie.Need-returns
-returns c = search needs
-
 pub write-line-spec : {M : Type 1} → statement M
-write-line-spec = tie.close (tie.spec slice-aggregate-write-all write-all-requires returns)
+write-line-spec = tie.close (tie.spec slice-aggregate-write-all (λ c κs. search needs) (λ c. search needs))

@@ -12,70 +12,58 @@ row-at-requires c κs =
     let p = c .before .before .before .pre in
     (p .underway .apart .holds .size, omega (arith, p .delivers .less, p .underway .apart .holds .room))
 
-unpack-requires : tie.Need-unpack-requires
-unpack-requires c κs = search needs
-
 message-turn-requires : tie.Need-message-turn-requires
 message-turn-requires c κs =
-    let z = c .before .before .before .before .before .before in
-    let p = z .pre in
+    let at-unpack = c .before in
+    let at-row-at = at-unpack .before in
+    let start = at-row-at .before .before .before .before in
+    let p = start .pre in
     let k = p .underway in
-    let row = c .before .before .row-at in
-    let f = c .before .unpack in
-    let t = delivery-tick _ _ (z .args .c) (z .args .t) (p .whole) k (p .delivers) _ (row .ensures) _ (f .ensures) in
-    let to = delivery-place _ _ (z .args .c) (z .args .t) (p .whole) k (p .delivers) _ (row .ensures) _ (f .ensures) in
-    let of = delivery-subject _ _ (z .args .c) (z .args .t) (p .whole) k (p .delivers) _ (row .ensures) _ (f .ensures) in
+    let row = at-row-at .row-at in
+    let f = at-unpack .unpack in
+    let t = delivery-tick _ _ (start .args .c) (start .args .t) (p .whole) k (p .delivers) _ (row .ensures) _ (f .ensures) in
+    let to = delivery-place _ _ (start .args .c) (start .args .t) (p .whole) k (p .delivers) _ (row .ensures) _ (f .ensures) in
+    let of = delivery-subject _ _ (start .args .c) (start .args .t) (p .whole) k (p .delivers) _ (row .ensures) _ (f .ensures) in
     (apart-acting (k .apart) (k .ready), (apart-dead (k .apart) _ (k .dead), (t, to, of)))
-
-is-listed-requires : tie.Need-is-listed-requires
-is-listed-requires c κs = search needs
-
-message-line-requires : tie.Need-message-line-requires
-message-line-requires c κs = search needs
 
 add-t16 : tie.Need-add-t16
 add-t16 c =
-    let p = c .before .before .before .before .before .before .before .before .before .pre in
+    let start = c .before .before .before .before .before .before .before .before .before in
+    let p = start .pre in
     omega (arith, p .delivers .less, p .underway .apart .holds .room)
 
 settle-requires : tie.Need-settle-requires
 settle-requires c κs =
-    let z = c .before .before .before .before .before .before .before .before .before .before .before in
-    let p = z .pre in
-    let row = c .before .before .before .before .before .before .before .row-at in
-    let f = c .before .before .before .before .before .before .unpack in
-    let u = c .before .before .before .before .message-turn in
-    delivery-settling _ _ (z .args .c) (z .args .t) (p .whole) (p .underway) (p .delivers) _ (row .ensures) _ (f .ensures) (u .result) (u .ensures) (p .room)
-
-same-length : tie.Need-same-length
-same-length c = search needs
-
-same-length-2 : tie.Need-same-length-2
-same-length-2 c = search needs
+    let at-message-turn = c .before .before .before .before in
+    let at-unpack = at-message-turn .before .before in
+    let at-row-at = at-unpack .before in
+    let start = at-row-at .before .before .before .before in
+    let p = start .pre in
+    let row = at-row-at .row-at in
+    let f = at-unpack .unpack in
+    let u = at-message-turn .message-turn in
+    delivery-settling _ _ (start .args .c) (start .args .t) (p .whole) (p .underway) (p .delivers) _ (row .ensures) _ (f .ensures) (u .result) (u .ensures)
+    (p .room)
 
 returns : tie.Need-returns
 returns c =
     λ whole k dv.
-    let z = c .before .before .before .before .before .before .before .before .before .before .before .before .before .before .before .before in
-    let row = c .before .before .before .before .before .before .before .before .before .before .before .before .row-at in
-    let f = c .before .before .before .before .before .before .before .before .before .before .before .unpack in
-    let u = c .before .before .before .before .before .before .before .before .before .message-turn in
-    let ls = c .before .before .before .before .before .before .before .before .is-listed in
-    let l = c .before .before .before .before .before .before .before .message-line in
-    delivery-stepped _ _ (z .args .c) (z .args .t) whole k dv _ (row .ensures) _ (f .ensures) (u .result) (u .ensures)
-    _ (ls .ensures) _ (l .ensures) _ _ _ (c .before .before .before .before .settle .ensures)
+    let at-settle = c .before .before .before .before in
+    let at-message-deed = at-settle .before .before .before in
+    let at-is-listed = at-message-deed .before in
+    let at-message-turn = at-is-listed .before in
+    let at-unpack = at-message-turn .before .before in
+    let at-row-at = at-unpack .before in
+    let start = at-row-at .before .before .before .before in
+    let row = at-row-at .row-at in
+    let f = at-unpack .unpack in
+    let u = at-message-turn .message-turn in
+    let ls = at-is-listed .is-listed in
+    let l = at-message-deed .message-deed in
+    delivery-stepped _ _ (start .args .c) (start .args .t) whole k dv _ (row .ensures) _ (f .ensures) (u .result) (u .ensures)
+    _ (ls .ensures) _ (l .ensures) _ _ _ (at-settle .settle .ensures)
 
 pub do-message-spec : {M : Type 1} → statement M
 do-message-spec =
-    tie.close
-    (tie.spec
-    row-at-requires
-    unpack-requires
-    message-turn-requires
-    is-listed-requires
-    message-line-requires
-    add-t16
-    settle-requires
-    same-length
-    same-length-2
-    returns)
+    tie.close (tie.spec row-at-requires (λ c κs. search needs) message-turn-requires (λ c κs. search needs) (λ c κs. search needs) add-t16
+    settle-requires (λ c. search needs) (λ c. search needs) returns)

@@ -20,38 +20,48 @@ loop-holds : tie.Need-loop-holds Inv-loop μ-loop
 loop-holds c = (omega arith, refl, λ whole g. prefix-none whole (g .ready .held) _ (g .is))
 
 row-at-requires : tie.Need-row-at-requires Inv-loop μ-loop
-row-at-requires c κs = let g = c .before .before .before .before .pre .1 in (g .listed .size, omega (arith, c .loop-test .taken, g .listed .room))
+row-at-requires c κs =
+    let g = c .before .before .before .before .pre .1 in
+    (g .listed .size, omega (arith, c .loop-test .taken, g .listed .room))
 
 cast-unpack : tie.Need-cast-unpack Inv-loop μ-loop
 cast-unpack c =
-    let p = c .before .before .before .before .before .before .pre in
-    omega (arith, append-due _ _ _ (p .0) (p .1) _ (c .before .before .loop-test .taken) _ (c .before .row-at .ensures))
-
-unpack-requires : tie.Need-unpack-requires Inv-loop μ-loop
-unpack-requires c κs = search needs
+    let at-row-at = c .before in
+    let test = at-row-at .before in
+    let start = test .before .before .before .before in
+    let p = start .pre in
+    omega (arith, append-due _ _ _ (p .0) (p .1) _ (test .loop-test .taken) _ (at-row-at .row-at .ensures))
 
 put-message-requires : tie.Need-put-message-requires Inv-loop μ-loop
 put-message-requires c κs =
-    let p = c .before .before .before .before .before .before .before .before .pre in
-    let l = c .before .before .before .before .before .loop .inv .2 in
-    let less = c .before .before .before .before .loop-test .taken in
-    append-room _ _ _ (p .0) (p .1) _ less _ (c .before .before .before .row-at .ensures) _ (l (p .0) (p .1))
+    let at-row-at = c .before .before .before in
+    let test = at-row-at .before in
+    let turn = test .before in
+    let start = turn .before .before .before in
+    let p = start .pre in
+    let l = turn .loop .inv .2 in
+    let less = test .loop-test .taken in
+    append-room _ _ _ (p .0) (p .1) _ less _ (at-row-at .row-at .ensures) _ (l (p .0) (p .1))
 
 add-i : tie.Need-add-i Inv-loop μ-loop
-add-i c = omega (arith, c .before .before .before .before .before .before .before .loop-test .taken)
-
-loop-less : tie.Need-loop-less Inv-loop μ-loop
-loop-less c = search needs
+add-i c =
+    let test = c .before .before .before .before .before .before .before in
+    omega (arith, test .loop-test .taken)
 
 loop-again : tie.Need-loop-again Inv-loop μ-loop
 loop-again c =
-    let l = c .before .before .before .before .before .before .before .before .loop .inv .2 in
-    let less = c .before .before .before .before .before .before .before .loop-test .taken in
-    let row = c .before .before .before .before .before .before .row-at .ensures in
-    let m = c .before .before .before .before .unpack .ensures in (
+    let at-put-message = c .before .before in
+    let at-unpack = at-put-message .before .before in
+    let at-row-at = at-unpack .before .before in
+    let test = at-row-at .before in
+    let turn = test .before in
+    let l = turn .loop .inv .2 in
+    let less = test .loop-test .taken in
+    let row = at-row-at .row-at .ensures in
+    let m = at-unpack .unpack .ensures in (
       omega (arith, less),
       search needs,
-      λ whole g. append-turn _ _ _ whole g _ less _ row _ (l whole g) _ m _ (c .before .before .put-message .ensures),
+      λ whole g. append-turn _ _ _ whole g _ less _ row _ (l whole g) _ m _ (at-put-message .put-message .ensures),
     )
 
 same-length : tie.Need-same-length Inv-loop μ-loop
@@ -64,17 +74,5 @@ returns c =
 
 pub append-spec : {M : Type 1} → statement M
 append-spec =
-    tie.close
-    (tie.spec
-    Inv-loop
-    μ-loop
-    loop-holds
-    row-at-requires
-    cast-unpack
-    unpack-requires
-    put-message-requires
-    add-i
-    loop-less
-    loop-again
-    same-length
-    returns)
+    tie.close (tie.spec Inv-loop μ-loop loop-holds row-at-requires cast-unpack (λ c κs. search needs) put-message-requires add-i
+    (λ c. search needs) loop-again same-length returns)

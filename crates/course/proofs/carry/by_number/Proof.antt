@@ -10,20 +10,23 @@ sub-n : tie.Need-sub-n
 sub-n c = c .before .pre .1 .order
 
 move-down-requires : tie.Need-move-down-requires
-move-down-requires c κs = let h = c .before .before .pre .1 in (h .size, h .order, h .room)
+move-down-requires c κs =
+    let h = c .before .before .pre .1 in
+    (h .size, h .order, h .room)
 
 sort-requires : tie.Need-sort-requires
 sort-requires c κs =
-    let h = c .before .before .before .before .before .before .pre .1 in
-    (c .before .before .before .move-down .ensures .size, omega (arith, h .room))
-
-same-length : tie.Need-same-length
-same-length c = search needs
+    let at-move-down = c .before .before .before in
+    let start = at-move-down .before .before .before in
+    let h = start .pre .1 in
+    (at-move-down .move-down .ensures .size, omega (arith, h .room))
 
 returns : tie.Need-returns
-returns c = λ flight h k.
-    holds-listed _ _ _ _ _ _ flight h k refl (c .before .before .before .before .before .before .move-down .ensures) (c .before .before .sort .ensures)
+returns c =
+    λ flight h k.
+    let at-sort = c .before .before in
+    let at-move-down = at-sort .before .before .before .before in
+    holds-listed _ _ _ _ _ _ flight h k refl (at-move-down .move-down .ensures) (at-sort .sort .ensures)
 
 pub by-number-spec : {M : Type 1} → statement M
-by-number-spec =
-    tie.close (tie.spec sub-n move-down-requires sort-requires same-length returns)
+by-number-spec = tie.close (tie.spec sub-n move-down-requires sort-requires (λ c. search needs) returns)

@@ -4,15 +4,9 @@ use borrow.Author.Needs.{needs}
 use Rattle.course.proofs.carry.pack.Statement.{statement}
 use Rattle.course.proofs.carry.pack.Tie as tie
 
-word-of-requires : tie.Need-word-of-requires
-word-of-requires c κs = search needs
-
-cast-t3 : tie.Need-cast-t3
-cast-t3 c = search needs
-
 returns : tie.Need-returns
 unfolding packed
 returns c = rw (c .before .word-of .ensures)
 
 pub pack-spec : {M : Type 1} → statement M
-pack-spec = tie.close (tie.spec word-of-requires cast-t3 returns)
+pack-spec = tie.close (tie.spec (λ c κs. search needs) (λ c. search needs) returns)

@@ -9,20 +9,18 @@ by-number-requires c κs = (_, c .before .before .before .pre .2 .holds)
 
 append-requires : tie.Need-append-requires
 append-requires c κs =
-    let p = c .before .before .before .before .before .before .before .before .pre in
-    (p .0, apart-emptied _ _ _ _ (p .0) (p .1) (p .2) _ _ (c .before .before .before .before .by-number .ensures))
-
-same-length : tie.Need-same-length
-same-length c = search needs
-
-same-length-2 : tie.Need-same-length-2
-same-length-2 c = search needs
+    let at-by-number = c .before .before .before .before in
+    let start = at-by-number .before .before .before .before in
+    let p = start .pre in
+    (p .0, apart-emptied _ _ _ _ (p .0) (p .1) (p .2) _ _ (at-by-number .by-number .ensures))
 
 returns : tie.Need-returns
-returns c = λ whole r s.
-    let listed = c .before .before .before .before .before .before .before .by-number .ensures in
-    c .before .before .append .ensures whole (apart-emptied _ _ _ _ whole r s _ _ listed)
+returns c =
+    λ whole r s.
+    let at-append = c .before .before in
+    let at-by-number = at-append .before .before .before .before .before in
+    let listed = at-by-number .by-number .ensures in
+    at-append .append .ensures whole (apart-emptied _ _ _ _ whole r s _ _ listed)
 
 pub put-back-spec : {M : Type 1} → statement M
-put-back-spec =
-    tie.close (tie.spec by-number-requires append-requires same-length same-length-2 returns)
+put-back-spec = tie.close (tie.spec by-number-requires append-requires (λ c. search needs) (λ c. search needs) returns)

@@ -19,29 +19,29 @@ add-result c = omega (arith, c .end-tick .ensures, acting-accepted _ (c .before 
 
 returns : tie.Need-returns
 returns c =
-    let count = c .before .before .crash-count .ensures in
-    let done = c .before .before .before .crashes-done .ensures in
-    crash-none _ _ _ _ count done _ (c .end-tick .ensures) (c .before .if1 .taken)
+    let at-if1 = c .before in
+    let at-crash-count = at-if1 .before in
+    let at-crashes-done = at-crash-count .before in
+    let count = at-crash-count .crash-count .ensures in
+    let done = at-crashes-done .crashes-done .ensures in
+    crash-none _ _ _ _ count done _ (c .end-tick .ensures) (at-if1 .if1 .taken)
 
 crash-at-requires : tie.Need-crash-at-requires
 crash-at-requires c κs =
-    (held-sized _ (c .before .before .before .before .pre .held), omega (arith, c .if1 .left, c .before .crash-count .ensures))
+    let at-crash-count = c .before in
+    let start = at-crash-count .before .before .before in
+    (held-sized _ (start .pre .held), omega (arith, c .if1 .left, at-crash-count .crash-count .ensures))
 
 returns-2 : tie.Need-returns-2
 returns-2 c =
-    let count = c .before .before .crash-count .ensures in
-    let done = c .before .before .before .crashes-done .ensures in
-    let plain = acting-accepted _ (c .before .before .before .before .before .pre) .plain in
-    crash-some _ _ _ _ count done plain (c .before .if1 .left) _ (c .crash-at .ensures)
+    let at-if1 = c .before in
+    let at-crash-count = at-if1 .before in
+    let at-crashes-done = at-crash-count .before in
+    let start = at-crashes-done .before .before in
+    let count = at-crash-count .crash-count .ensures in
+    let done = at-crashes-done .crashes-done .ensures in
+    let plain = acting-accepted _ (start .pre) .plain in
+    crash-some _ _ _ _ count done plain (at-if1 .if1 .left) _ (c .crash-at .ensures)
 
 pub crash-tick-spec : {M : Type 1} → statement M
-crash-tick-spec =
-    tie.close
-    (tie.spec
-    crashes-done-requires
-    crash-count-requires
-    end-tick-requires
-    add-result
-    returns
-    crash-at-requires
-    returns-2)
+crash-tick-spec = tie.close (tie.spec crashes-done-requires crash-count-requires end-tick-requires add-result returns crash-at-requires returns-2)

@@ -13,49 +13,57 @@ is-listed-requires c κs = let p = c .before .pre in omega (arith, p .1 .1 .1, a
 
 returns : tie.Need-returns
 returns c =
-    let p = c .before .before .before .pre in
-    due-dead _ (acting-accepted _ (p .0)) _ _ (p .1 .0) _ _ (c .before .is-listed .ensures) _ (c .if1 .taken)
+    let at-is-listed = c .before in
+    let start = at-is-listed .before .before in
+    let p = start .pre in
+    due-dead _ (acting-accepted _ (p .0)) _ _ (p .1 .0) _ _ (at-is-listed .is-listed .ensures) _ (c .if1 .taken)
 
 node-at-requires : tie.Need-node-at-requires
-node-at-requires c κs = let p = c .before .before .before .pre in (held-sized _ (p .0 .held), p .1 .1 .1)
+node-at-requires c κs =
+    let p = c .before .before .before .pre in
+    (held-sized _ (p .0 .held), p .1 .1 .1)
 
 add-if2 : tie.Need-add-if2
-add-if2 c = let p = c .before .before .before .before .pre in omega (arith, p .1 .1 .0, acting-accepted _ (p .0) .plain .end≤)
+add-if2 c =
+    let p = c .before .before .before .before .pre in
+    omega (arith, p .1 .1 .0, acting-accepted _ (p .0) .plain .end≤)
 
 returns-2 : tie.Need-returns-2
 returns-2 c =
-    let p = c .before .before .before .before .before .before .pre in
-    let listed = c .before .before .before .before .is-listed .ensures in
-    due-watch _ (acting-accepted _ (p .0)) _ _ (p .1 .0) _ _ listed _ (c .before .before .before .if1 .left) _ (c .before .before .node-at .ensures)
+    let at-node-at = c .before .before in
+    let at-if1 = at-node-at .before in
+    let at-is-listed = at-if1 .before in
+    let start = at-is-listed .before .before in
+    let p = start .pre in
+    let listed = at-is-listed .is-listed .ensures in
+    due-watch _ (acting-accepted _ (p .0)) _ _ (p .1 .0) _ _ listed _ (at-if1 .if1 .left) _ (at-node-at .node-at .ensures)
     (c .if2 .taken)
 
 add-if3 : tie.Need-add-if3
-add-if3 c = let p = c .before .before .before .before .before .before .pre in omega (arith, p .1 .1 .0, acting-accepted _ (p .0) .plain .end≤)
+add-if3 c =
+    let p = c .before .before .before .before .before .before .pre in
+    omega (arith, p .1 .1 .0, acting-accepted _ (p .0) .plain .end≤)
 
 returns-3 : tie.Need-returns-3
 returns-3 c =
-    let z = c .before .before .before .before in
-    let p = z .before .before .before .before .pre in
-    due-beat _ (acting-accepted _ (p .0)) _ _ (p .1 .0) _ _ (z .before .before .is-listed .ensures) _ (z .before .if1 .left) _ (z .node-at .ensures)
+    let at-node-at = c .before .before .before .before in
+    let at-if1 = at-node-at .before in
+    let at-is-listed = at-if1 .before in
+    let start = at-is-listed .before .before in
+    let p = start .pre in
+    due-beat _ (acting-accepted _ (p .0)) _ _ (p .1 .0) _ _ (at-is-listed .is-listed .ensures) _ (at-if1 .if1 .left) _ (at-node-at .node-at .ensures)
     (c .if3 .taken)
 
 returns-4 : tie.Need-returns-4
 returns-4 c =
-    let z = c .before .before .before .before in
-    let p = z .before .before .before .before .pre in
-    due-not _ (acting-accepted _ (p .0)) _ _ (p .1 .0) _ _ (z .before .before .is-listed .ensures) _ (z .before .if1 .left) _ (z .node-at .ensures)
-    (c .before .before .if2 .left) (c .if3 .left)
+    let at-if2 = c .before .before in
+    let at-node-at = at-if2 .before .before in
+    let at-if1 = at-node-at .before in
+    let at-is-listed = at-if1 .before in
+    let start = at-is-listed .before .before in
+    let p = start .pre in
+    due-not _ (acting-accepted _ (p .0)) _ _ (p .1 .0) _ _ (at-is-listed .is-listed .ensures) _ (at-if1 .if1 .left) _ (at-node-at .node-at .ensures)
+    (at-if2 .if2 .left) (c .if3 .left)
 
 pub is-due-spec : {M : Type 1} → statement M
-is-due-spec =
-    tie.close
-    (tie.spec
-    cast-is-listed
-    is-listed-requires
-    returns
-    node-at-requires
-    add-if2
-    returns-2
-    add-if3
-    returns-3
-    returns-4)
+is-due-spec = tie.close (tie.spec cast-is-listed is-listed-requires returns node-at-requires add-if2 returns-2 add-if3 returns-3 returns-4)

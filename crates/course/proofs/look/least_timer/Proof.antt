@@ -27,44 +27,39 @@ add-least c = omega (arith, c .end-tick .ensures, acting-accepted _ (c .before .
 
 loop-holds : tie.Need-loop-holds Inv-loop μ-loop
 loop-holds c =
-    (omega arith, c .before .node-count .ensures, under-starts _ _ _ _ (omega (arith, c .before .before .before .pre .1 .1 .0, c .end-tick .ensures)))
+    let at-node-count = c .before in
+    let start = at-node-count .before .before in
+    (omega arith, at-node-count .node-count .ensures, under-starts _ _ _ _ (omega (arith, start .pre .1 .1 .0, c .end-tick .ensures)))
 
 sooner-of-requires : tie.Need-sooner-of-requires Inv-loop μ-loop
 sooner-of-requires c κs =
-    let p = c .before .before .before .before .before .pre in
-    (p .0, (p .1 .0, omega (arith, c .loop-test .taken, c .before .loop .inv .1)))
+    let turn = c .before in
+    let start = turn .before .before .before .before in
+    let p = start .pre in
+    (p .0, (p .1 .0, omega (arith, c .loop-test .taken, turn .loop .inv .1)))
 
 add-i : tie.Need-add-i Inv-loop μ-loop
 add-i c = omega (arith, c .before .loop-test .taken)
 
-loop-less : tie.Need-loop-less Inv-loop μ-loop
-loop-less c = search needs
-
 loop-again : tie.Need-loop-again Inv-loop μ-loop
 loop-again c =
-    let p = c .before .before .before .before .before .before .pre in
-    let l = c .before .before .loop .inv in
-    let less = c .before .loop-test .taken in
+    let test = c .before in
+    let turn = test .before in
+    let start = turn .before .before .before .before in
+    let p = start .pre in
+    let l = turn .loop .inv in
+    let less = test .loop-test .taken in
     (omega (arith, less), l .1, under-turn _ _ _ _ _ _ _ (omega (arith, less, l .1)) (p .1 .1 .1) (l .2) (c .sooner-of .ensures))
 
 returns : tie.Need-returns Inv-loop μ-loop
 returns c =
-    let nodes = c .before .before .before .before .before .pre .0 .held .fits .nodes in
-    let l = c .before .loop .inv in
+    let turn = c .before in
+    let start = turn .before .before .before .before in
+    let nodes = start .pre .0 .held .fits .nodes in
+    let l = turn .loop .inv in
     under-all _ _ _ _ _ (omega (arith, nodes, c .loop-test .left, l .1)) (l .2)
 
 pub least-timer-spec : {M : Type 1} → statement M
 least-timer-spec =
-    tie.close
-    (tie.spec
-    Inv-loop
-    μ-loop
-    node-count-requires
-    end-tick-requires
-    add-least
-    loop-holds
-    sooner-of-requires
-    add-i
-    loop-less
-    loop-again
-    returns)
+    tie.close (tie.spec Inv-loop μ-loop node-count-requires end-tick-requires add-least loop-holds sooner-of-requires add-i (λ c. search needs)
+    loop-again returns)

@@ -9,20 +9,24 @@ returns : tie.Need-returns
 returns c = λ flight h. due-none _ _ _ flight h _ (c .if1 .taken)
 
 row-at-requires : tie.Need-row-at-requires
-row-at-requires c κs = let h = c .before .before .pre .1 in (h .size, omega (arith, c .if1 .left, h .room))
-
-cast-result : tie.Need-cast-result
-cast-result c = search needs
+row-at-requires c κs =
+    let h = c .before .before .pre .1 in
+    (h .size, omega (arith, c .if1 .left, h .room))
 
 returns-2 : tie.Need-returns-2
-returns-2 c = λ flight h.
-    let row = c .before .before .before in
-    due-here _ _ _ flight h _ (row .before .if1 .left) _ (row .row-at .ensures) (c .before .if2 .taken)
+returns-2 c =
+    λ flight h.
+    let at-if2 = c .before in
+    let at-row-at = at-if2 .before .before in
+    let at-if1 = at-row-at .before in
+    due-here _ _ _ flight h _ (at-if1 .if1 .left) _ (at-row-at .row-at .ensures) (at-if2 .if2 .taken)
 
 returns-3 : tie.Need-returns-3
-returns-3 c = λ flight h.
-    let row = c .before .before in
-    due-late _ _ _ flight h _ (row .before .if1 .left) _ (row .row-at .ensures) (c .if2 .left)
+returns-3 c =
+    λ flight h.
+    let at-row-at = c .before .before in
+    let at-if1 = at-row-at .before in
+    due-late _ _ _ flight h _ (at-if1 .if1 .left) _ (at-row-at .row-at .ensures) (c .if2 .left)
 
 pub message-tick-spec : {M : Type 1} → statement M
-message-tick-spec = tie.close (tie.spec returns row-at-requires cast-result returns-2 returns-3)
+message-tick-spec = tie.close (tie.spec returns row-at-requires (λ c. search needs) returns-2 returns-3)

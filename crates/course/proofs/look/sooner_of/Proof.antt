@@ -14,33 +14,27 @@ is-listed-requires c κs = let p = c .before .pre in omega (arith, p .1 .1, acti
 
 returns : tie.Need-returns
 returns c =
-    let p = c .before .before .before .pre in
-    sooner-dead _ (acting-accepted _ (p .0)) _ _ (p .1 .0) _ _ (c .before .is-listed .ensures) _ (c .if1 .taken)
+    let at-is-listed = c .before in
+    let start = at-is-listed .before .before in
+    let p = start .pre in
+    sooner-dead _ (acting-accepted _ (p .0)) _ _ (p .1 .0) _ _ (at-is-listed .is-listed .ensures) _ (c .if1 .taken)
 
 node-at-requires : tie.Need-node-at-requires
-node-at-requires c κs = let p = c .before .before .before .pre in (held-sized _ (p .0 .held), p .1 .1)
-
-earlier-timer-requires : tie.Need-earlier-timer-requires
-earlier-timer-requires c κs = search needs
-
-earlier-timer-requires-2 : tie.Need-earlier-timer-requires-2
-earlier-timer-requires-2 c κs = search needs
+node-at-requires c κs =
+    let p = c .before .before .before .pre in
+    (held-sized _ (p .0 .held), p .1 .1)
 
 returns-2 : tie.Need-returns-2
 returns-2 c =
-    let z = c .before .before in
-    let p = z .before .before .before .before .pre in
-    sooner-live _ (acting-accepted _ (p .0)) _ _ (p .1 .0) _ _ (z .before .before .is-listed .ensures) _ (z .before .if1 .left) _ (z .node-at .ensures) _ _
-    (c .before .earlier-timer .ensures) (c .earlier-timer2 .ensures)
+    let at-earlier-timer = c .before in
+    let at-node-at = at-earlier-timer .before in
+    let at-if1 = at-node-at .before in
+    let at-is-listed = at-if1 .before in
+    let start = at-is-listed .before .before in
+    let p = start .pre in
+    sooner-live _ (acting-accepted _ (p .0)) _ _ (p .1 .0) _ _ (at-is-listed .is-listed .ensures) _ (at-if1 .if1 .left) _ (at-node-at .node-at .ensures) _ _
+    (at-earlier-timer .earlier-timer .ensures) (c .earlier-timer2 .ensures)
 
 pub sooner-of-spec : {M : Type 1} → statement M
 sooner-of-spec =
-    tie.close
-    (tie.spec
-    cast-is-listed
-    is-listed-requires
-    returns
-    node-at-requires
-    earlier-timer-requires
-    earlier-timer-requires-2
-    returns-2)
+    tie.close (tie.spec cast-is-listed is-listed-requires returns node-at-requires (λ c κs. search needs) (λ c κs. search needs) returns-2)

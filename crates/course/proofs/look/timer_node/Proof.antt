@@ -23,39 +23,32 @@ loop-holds c = (c .node-count .ensures, c .before .before .pre .1 .1 .1)
 
 is-due-requires : tie.Need-is-due-requires Inv-loop μ-loop
 is-due-requires c κs =
-    let p = c .before .before .before .before .pre in
-    (p .0, (p .1 .0, (p .1 .1 .0, omega (arith, c .loop-test .taken, c .before .loop .inv .0))))
+    let turn = c .before in
+    let start = turn .before .before .before in
+    let p = start .pre in
+    (p .0, (p .1 .0, (p .1 .1 .0, omega (arith, c .loop-test .taken, turn .loop .inv .0))))
 
 returns : tie.Need-returns Inv-loop μ-loop
 returns c =
-    let l = c .before .before .before .loop .inv in
-    timer-here _ _ _ _ (l .1) (omega (arith, c .before .before .loop-test .taken, l .0)) (subst (DueNow _ _ _ _) (c .if1 .taken) (c .before .is-due .ensures))
+    let at-is-due = c .before in
+    let test = at-is-due .before in
+    let turn = test .before in
+    let l = turn .loop .inv in
+    timer-here _ _ _ _ (l .1) (omega (arith, test .loop-test .taken, l .0)) (subst (DueNow _ _ _ _) (c .if1 .taken) (at-is-due .is-due .ensures))
 
 add-i : tie.Need-add-i Inv-loop μ-loop
 add-i c = omega (arith, c .before .before .loop-test .taken)
 
-loop-less : tie.Need-loop-less Inv-loop μ-loop
-loop-less c = search needs
-
 loop-again : tie.Need-loop-again Inv-loop μ-loop
 loop-again c =
-    let l = c .before .before .before .loop .inv in
-    (l .0, passed-more _ _ _ _ (l .1) (subst (DueNow _ _ _ _) (c .if1 .left) (c .before .is-due .ensures)))
+    let at-is-due = c .before in
+    let turn = at-is-due .before .before in
+    let l = turn .loop .inv in
+    (l .0, passed-more _ _ _ _ (l .1) (subst (DueNow _ _ _ _) (c .if1 .left) (at-is-due .is-due .ensures)))
 
 returns-2 : tie.Need-returns-2 Inv-loop μ-loop
 returns-2 c = let l = c .before .loop .inv in timer-nowhere _ _ _ _ _ (l .1) (l .0) (c .loop-test .left)
 
 pub timer-node-spec : {M : Type 1} → statement M
 timer-node-spec =
-    tie.close
-    (tie.spec
-    Inv-loop
-    μ-loop
-    node-count-requires
-    loop-holds
-    is-due-requires
-    returns
-    add-i
-    loop-less
-    loop-again
-    returns-2)
+    tie.close (tie.spec Inv-loop μ-loop node-count-requires loop-holds is-due-requires returns add-i (λ c. search needs) loop-again returns-2)

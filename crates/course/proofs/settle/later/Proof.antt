@@ -4,29 +4,23 @@ use borrow.Author.Needs.{needs}
 use Rattle.course.proofs.settle.later.Statement.{statement}
 use Rattle.course.proofs.settle.later.Tie as tie
 
-earlier-timer-requires : tie.Need-earlier-timer-requires
-earlier-timer-requires c κs = search needs
-
-earlier-timer-requires-2 : tie.Need-earlier-timer-requires-2
-earlier-timer-requires-2 c κs = search needs
-
-add-t7 : tie.Need-add-t7
-add-t7 c = search needs
-
 returns : tie.Need-returns
 returns c =
-    let y = c .before .before .before in
-    let z = y .before .before .args in
-    later-sooner (z .c) (z .count) (z .a) _ _ (y .before .earlier-timer .ensures) (y .earlier-timer2 .ensures) (c .before .if1 .taken)
-
-add-t8 : tie.Need-add-t8
-add-t8 c = search needs
+    let at-if1 = c .before in
+    let at-earlier-timer2 = at-if1 .before .before in
+    let at-earlier-timer = at-earlier-timer2 .before in
+    let start = at-earlier-timer .before in
+    let z = start .args in
+    later-sooner (z .c) (z .count) (z .a) _ _ (at-earlier-timer .earlier-timer .ensures) (at-earlier-timer2 .earlier-timer2 .ensures) (at-if1 .if1 .taken)
 
 returns-2 : tie.Need-returns-2
 returns-2 c =
-    let y = c .before .before .before in
-    let z = y .before .before .args in
-    later-same (z .c) (z .count) (z .a) _ _ (y .before .earlier-timer .ensures) (y .earlier-timer2 .ensures) (c .before .if1 .left)
+    let at-if1 = c .before in
+    let at-earlier-timer2 = at-if1 .before .before in
+    let at-earlier-timer = at-earlier-timer2 .before in
+    let start = at-earlier-timer .before in
+    let z = start .args in
+    later-same (z .c) (z .count) (z .a) _ _ (at-earlier-timer .earlier-timer .ensures) (at-earlier-timer2 .earlier-timer2 .ensures) (at-if1 .if1 .left)
 
 pub later-spec : {M : Type 1} → statement M
-later-spec = tie.close (tie.spec earlier-timer-requires earlier-timer-requires-2 add-t7 returns add-t8 returns-2)
+later-spec = tie.close (tie.spec (λ c κs. search needs) (λ c κs. search needs) (λ c. search needs) returns (λ c. search needs) returns-2)

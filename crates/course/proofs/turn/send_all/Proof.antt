@@ -32,53 +32,55 @@ abbrev μ-loop : tie.MeasureT-loop
 loop-holds : tie.Need-loop-holds Inv-loop μ-loop
 loop-holds c = (omega arith, refl, refl, λ a whole s r. sent-starts whole _ _ _ _ _ _ _ s)
 
-mul-stamp : tie.Need-mul-stamp Inv-loop μ-loop
-mul-stamp c = search needs
-
 array-copy-out-stamp : tie.Need-array-copy-out-stamp Inv-loop μ-loop
 array-copy-out-stamp c =
-    let z = c .before .before .before .before .before .before in omega (arith, c .before .loop-test .taken, z .pre .turns .few, z .pre .turns .full)
+    let test = c .before in
+    let start = test .before .before .before .before .before in
+    omega (arith, test .loop-test .taken, start .pre .turns .few, start .pre .turns .full)
 
 stamp-requires : tie.Need-stamp-requires Inv-loop μ-loop
 stamp-requires c κs =
-    let z = c .before .before .before .before .before .before .before in
-    let p = z .pre in
-    let l = c .before .before .before .loop in
-    let s = l .inv .3 (z .args .u .node) (p .whole) (p .apart) (p .turns) in
-    let n = sent-number (p .whole) _ _ (z .args .u) (p .turns) _ _ _ _ _ s (c .before .before .loop-test .taken) in
-    ((apart-held (s .apart), sent-plan (p .whole) _ _ (z .args .u) (p .turns) _ _ _ _ _ s), (p .turns .tick, n))
-
-pack-requires : tie.Need-pack-requires Inv-loop μ-loop
-pack-requires c κs = search needs
+    let test = c .before .before in
+    let turn = test .before in
+    let start = turn .before .before .before .before in
+    let p = start .pre in
+    let l = turn .loop in
+    let s = l .inv .3 (start .args .u .node) (p .whole) (p .apart) (p .turns) in
+    let n = sent-number (p .whole) _ _ (start .args .u) (p .turns) _ _ _ _ _ s (test .loop-test .taken) in
+    ((apart-held (s .apart), sent-plan (p .whole) _ _ (start .args .u) (p .turns) _ _ _ _ _ s), (p .turns .tick, n))
 
 add-push : tie.Need-add-push Inv-loop μ-loop
 add-push c =
-    let p = c .before .before .before .before .before .before .before .before .before .before .before .before .pre in
-    let less = c .before .before .before .before .before .before .before .loop-test .taken in
+    let test = c .before .before .before .before .before .before .before in
+    let start = test .before .before .before .before .before in
+    let p = start .pre in
+    let less = test .loop-test .taken in
     omega (arith, less, p .turns .few, p .room)
 
 push-requires : tie.Need-push-requires Inv-loop μ-loop
 push-requires c κs =
-    let z = c .before .before .before .before .before .before .before .before .before .before .before .before in
-    let p = z .pre in
-    let l = c .before .before .before .before .before .before .before .before .loop in
-    let s = l .inv .3 (z .args .u .node) (p .whole) (p .apart) (p .turns) in
-    sent-open (p .whole) _ _ (z .args .u) (p .turns) _ _ _ _ _ s (c .before .before .before .before .before .before .before .loop-test .taken) (p .room)
-
-add-i : tie.Need-add-i Inv-loop μ-loop
-add-i c = search needs
-
-loop-less : tie.Need-loop-less Inv-loop μ-loop
-loop-less c = search needs
+    let test = c .before .before .before .before .before .before .before in
+    let turn = test .before in
+    let start = turn .before .before .before .before in
+    let p = start .pre in
+    let l = turn .loop in
+    let s = l .inv .3 (start .args .u .node) (p .whole) (p .apart) (p .turns) in
+    sent-open (p .whole) _ _ (start .args .u) (p .turns) _ _ _ _ _ s (test .loop-test .taken) (p .room)
 
 loop-again : tie.Need-loop-again Inv-loop μ-loop
 loop-again c =
-    let room = c .before .before .before .before .before .before .before .before .before .before .before .before .before .before .before .pre .room in
-    let l = c .before .before .before .before .before .before .before .before .before .before .before .loop in
-    let less = c .before .before .before .before .before .before .before .before .before .before .loop-test .taken in
-    let f = c .before .before .before .before .before .before .before .stamp .ensures in
-    let r = c .before .before .before .before .pack .ensures in
-    let q = c .before .before .push .ensures in (
+    let at-push = c .before .before in
+    let at-pack = at-push .before .before in
+    let at-stamp = at-pack .before .before .before in
+    let test = at-stamp .before .before .before in
+    let turn = test .before in
+    let start = turn .before .before .before .before in
+    let room = start .pre .room in
+    let l = turn .loop in
+    let less = test .loop-test .taken in
+    let f = at-stamp .stamp .ensures in
+    let r = at-pack .pack .ensures in
+    let q = at-push .push .ensures in (
       omega (arith, less),
       search needs,
       search needs,
@@ -93,25 +95,12 @@ same-length-2 c = c .before .loop .inv .2
 
 returns : tie.Need-returns Inv-loop μ-loop
 returns c =
-    let u = c .before .before .before .before .before .args .u in
-    λ whole s r. sent-all whole _ _ u _ _ _ _ _ (c .before .loop .inv .3 (u .node) whole s r) (omega arith)
+    let turn = c .before in
+    let start = turn .before .before .before .before in
+    let u = start .args .u in
+    λ whole s r. sent-all whole _ _ u _ _ _ _ _ (turn .loop .inv .3 (u .node) whole s r) (omega arith)
 
 pub send-all-spec : {M : Type 1} → statement M
 send-all-spec =
-    tie.close
-    (tie.spec
-    Inv-loop
-    μ-loop
-    loop-holds
-    mul-stamp
-    array-copy-out-stamp
-    stamp-requires
-    pack-requires
-    add-push
-    push-requires
-    add-i
-    loop-less
-    loop-again
-    same-length
-    same-length-2
-    returns)
+    tie.close (tie.spec Inv-loop μ-loop loop-holds (λ c. search needs) array-copy-out-stamp stamp-requires (λ c κs. search needs) add-push
+    push-requires (λ c. search needs) (λ c. search needs) loop-again same-length same-length-2 returns)

@@ -1,7 +1,7 @@
 -- `event::act::do_message` meets its contract. Assumes nothing.
 use Prim.Native.Nat.{_+_, _-_, _≤_}
 use lib.ListN.{length}
-use Rattle.ring.specs.Limits.{mostInFlight}
+use Rattle.limits.specs.Limits.{mostInFlight}
 use Rattle.store.specs.Store.{stateIn}
 use mathlib.Core.Path.{_∙_}
 use Rattle.event.proofs.Readiness.{held-sized, ready-crashes, ready-acting}
@@ -14,105 +14,101 @@ use Rattle.event.proofs.act.do_message.Tie as tie
 
 message-at-requires : tie.Need-message-at-requires
 message-at-requires c κs =
-    let z = c .before .before in (held-sized _ (z .pre .0 .held), message-here _ (z .pre .0) _ _ (z .pre .1))
+    let start = c .before .before in
+    (held-sized _ (start .pre .0 .held), message-here _ (start .pre .0) _ _ (start .pre .1))
 
 crashed-list-requires : tie.Need-crashed-list-requires
 crashed-list-requires c κs = ready-crashes _ (c .before .before .before .before .pre .0)
 
 message-turn-requires : tie.Need-message-turn-requires
 message-turn-requires c κs =
-    let z = c .before .before .before .before .before .before in
-    let m = c .before .before .before .message-at in
-    let t = event-tick _ (z .pre .0) _ _ (z .pre .1) in
-    let to = message-place _ (z .pre .0) _ _ (z .pre .1) _ (m .ensures) in
-    let of = message-subject _ (z .pre .0) _ _ (z .pre .1) _ (m .ensures) in
-    (ready-acting _ (z .pre .0), (c .before .crashed-list .ensures, (t, to, of)))
+    let at-crashed-list = c .before in
+    let at-message-at = at-crashed-list .before .before in
+    let start = at-message-at .before .before .before in
+    let m = at-message-at .message-at in
+    let t = event-tick _ (start .pre .0) _ _ (start .pre .1) in
+    let to = message-place _ (start .pre .0) _ _ (start .pre .1) _ (m .ensures) in
+    let of = message-subject _ (start .pre .0) _ _ (start .pre .1) _ (m .ensures) in
+    (ready-acting _ (start .pre .0), (at-crashed-list .crashed-list .ensures, (t, to, of)))
 
 message-count-requires : tie.Need-message-count-requires
-message-count-requires c κs = c .before .before .before .before .before .before .before .before .pre .0 .held .size
+message-count-requires c κs =
+    let start = c .before .before .before .before .before .before .before .before in
+    start .pre .0 .held .size
 
 sub-if1 : tie.Need-sub-if1
 sub-if1 c =
-    let z = c .before .before .before .before .before .before .before .before .before in
-    omega (arith, c .message-count .ensures, message-here _ (z .pre .0) _ _ (z .pre .1))
+    let start = c .before .before .before .before .before .before .before .before .before in
+    omega (arith, c .message-count .ensures, message-here _ (start .pre .0) _ _ (start .pre .1))
 
 add-if1 : tie.Need-add-if1
 add-if1 c =
-    let z = c .before .before .before .before .before .before .before .before .before .before in
-    let m = c .before .before .before .before .before .before .before .message-at in
-    let u = c .before .before .before .message-turn in
-    let is = u .ensures ∙ turn-of _ (z .pre .0) _ _ (z .pre .1) _ (m .ensures) in
-    let k = message-count _ (z .pre .0) _ _ (z .pre .1) _ (m .ensures) _ is in
-    omega (arith, c .before .message-count .ensures, z .pre .0 .held .fits .counts .messages, k)
-
-same-length : tie.Need-same-length
-same-length c = search needs
+    let at-message-count = c .before in
+    let at-message-turn = at-message-count .before .before in
+    let at-message-at = at-message-turn .before .before .before .before in
+    let start = at-message-at .before .before .before in
+    let m = at-message-at .message-at in
+    let u = at-message-turn .message-turn in
+    let is = u .ensures ∙ turn-of _ (start .pre .0) _ _ (start .pre .1) _ (m .ensures) in
+    let k = message-count _ (start .pre .0) _ _ (start .pre .1) _ (m .ensures) _ is in
+    omega (arith, at-message-count .message-count .ensures, start .pre .0 .held .fits .counts .messages, k)
 
 returns : tie.Need-returns
 returns c =
-    let z = c .before .before .before .before .before .before .before .before .before .before .before in
-    let m = c .before .before .before .before .before .before .before .before .message-at in
-    let u = c .before .before .before .before .message-turn in
-    let is = u .ensures ∙ turn-of _ (z .pre .0) _ _ (z .pre .1) _ (m .ensures) in
-    message-refused _ (z .pre .0) _ _ (z .pre .1) _ (m .ensures) _ is (omega (arith, c .if1 .taken, c .before .before .message-count .ensures))
-
-is-listed-requires : tie.Need-is-listed-requires
-is-listed-requires c κs = search needs
-
-message-line-requires : tie.Need-message-line-requires
-message-line-requires c κs = search needs
+    let at-message-count = c .before .before in
+    let at-message-turn = at-message-count .before .before in
+    let at-message-at = at-message-turn .before .before .before .before in
+    let start = at-message-at .before .before .before in
+    let m = at-message-at .message-at in
+    let u = at-message-turn .message-turn in
+    let is = u .ensures ∙ turn-of _ (start .pre .0) _ _ (start .pre .1) _ (m .ensures) in
+    message-refused _ (start .pre .0) _ _ (start .pre .1) _ (m .ensures) _ is (omega (arith, c .if1 .taken, at-message-count .message-count .ensures))
 
 take-message-requires : tie.Need-take-message-requires
 take-message-requires c κs =
-    let z = c .before .before .before .before .before .before .before .before .before .before .before .before .before .before in
-    (z .pre .0 .held, message-here _ (z .pre .0) _ _ (z .pre .1))
+    let up = c .before .before .before .before .before .before .before .before .before .before .before .before in
+    let start = up .before .before in
+    (start .pre .0 .held, message-here _ (start .pre .0) _ _ (start .pre .1))
 
 take-turn-requires : tie.Need-take-turn-requires
 take-turn-requires c κs =
-    let w = c .before .before .before .before .before .before .before in
-    let u = w .before .before .before .before .message-turn in
-    let m = w .before .before .before .before .before .before .before .before .message-at in
-    let z = w .before .before .before .before .before .before .before .before .before .before .before in
-    let is = u .ensures ∙ turn-of _ (z .pre .0) _ _ (z .pre .1) _ (m .ensures) in
-    message-turns _ (z .pre .0) _ _ (z .pre .1) _ (m .ensures) _ is (omega (arith, w .if1 .left, w .before .before .message-count .ensures))
-    _ (c .before .before .before .take-message .ensures)
-
-same-length-2 : tie.Need-same-length-2
-same-length-2 c = search needs
+    let at-take-message = c .before .before .before in
+    let at-if1 = at-take-message .before .before .before .before in
+    let at-message-count = at-if1 .before .before in
+    let at-message-turn = at-message-count .before .before in
+    let at-message-at = at-message-turn .before .before .before .before in
+    let start = at-message-at .before .before .before in
+    let u = at-message-turn .message-turn in
+    let m = at-message-at .message-at in
+    let is = u .ensures ∙ turn-of _ (start .pre .0) _ _ (start .pre .1) _ (m .ensures) in
+    message-turns _ (start .pre .0) _ _ (start .pre .1) _ (m .ensures) _ is (omega (arith, at-if1 .if1 .left, at-message-count .message-count .ensures))
+    _ (at-take-message .take-message .ensures)
 
 returns-2 : tie.Need-returns-2
 returns-2 c =
-    let v = c .before .before .before .before .before .before in
-    let w = v .before .before .before .before in
-    let u = w .before .before .before .before .message-turn in
-    let y = w .before .before .before .before .before .before in
-    let m = y .before .before .message-at in
-    let z = y .before .before .before .before .before in
-    let is = u .ensures ∙ turn-of _ (z .pre .0) _ _ (z .pre .1) _ (m .ensures) in
-    let room : length (stateIn (z .args .s .now) .flight) - 1 + u .result .count ≤ mostInFlight =
-    omega (arith, w .if1 .left, w .before .before .message-count .ensures) in
-    let k = rest-room _ (z .pre .0) _ _ (z .pre .1) _ (m .ensures) _ is room _ (v .take-message .ensures) in
-    let listed = v .before .before .before .is-listed .ensures in
-    let line = v .before .before .message-line .ensures in
-    let d = message-done _ (z .pre .0) _ _ (z .pre .1) _ (m .ensures) _ is _ _ (y .crashed-list .ensures) listed _ line k in
-    let left = taken-left _ (z .pre .0) _ _ (z .pre .1) _ (m .ensures) _ is room _ (v .take-message .ensures) in
-    (d .0, left _ (c .before .before .take-turn .ensures) ∙ d .1)
+    let at-take-turn = c .before .before in
+    let at-take-message = at-take-turn .before .before .before .before in
+    let at-message-deed = at-take-message .before .before in
+    let at-is-listed = at-message-deed .before in
+    let at-if1 = at-is-listed .before in
+    let at-message-count = at-if1 .before .before in
+    let at-message-turn = at-message-count .before .before in
+    let at-crashed-list = at-message-turn .before .before in
+    let at-message-at = at-crashed-list .before .before in
+    let start = at-message-at .before .before .before in
+    let u = at-message-turn .message-turn in
+    let m = at-message-at .message-at in
+    let is = u .ensures ∙ turn-of _ (start .pre .0) _ _ (start .pre .1) _ (m .ensures) in
+    let room : length (stateIn (start .args .s .now) .flight) - 1 + u .result .count ≤ mostInFlight =
+    omega (arith, at-if1 .if1 .left, at-message-count .message-count .ensures) in
+    let k = rest-room _ (start .pre .0) _ _ (start .pre .1) _ (m .ensures) _ is room _ (at-take-message .take-message .ensures) in
+    let listed = at-is-listed .is-listed .ensures in
+    let line = at-message-deed .message-deed .ensures in
+    let d = message-done _ (start .pre .0) _ _ (start .pre .1) _ (m .ensures) _ is _ _ (at-crashed-list .crashed-list .ensures) listed _ line k in
+    let left = taken-left _ (start .pre .0) _ _ (start .pre .1) _ (m .ensures) _ is room _ (at-take-message .take-message .ensures) in
+    (d .0, left _ (at-take-turn .take-turn .ensures) ∙ d .1)
 
 pub do-message-spec : {M : Type 1} → statement M
 do-message-spec =
-    tie.close
-    (tie.spec
-    message-at-requires
-    crashed-list-requires
-    message-turn-requires
-    message-count-requires
-    sub-if1
-    add-if1
-    same-length
-    returns
-    is-listed-requires
-    message-line-requires
-    take-message-requires
-    take-turn-requires
-    same-length-2
-    returns-2)
+    tie.close (tie.spec message-at-requires crashed-list-requires message-turn-requires message-count-requires sub-if1 add-if1 (λ c. search needs)
+    returns (λ c κs. search needs) (λ c κs. search needs) take-message-requires take-turn-requires (λ c. search needs) returns-2)

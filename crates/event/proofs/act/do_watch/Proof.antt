@@ -9,67 +9,65 @@ use Rattle.event.proofs.act.do_watch.Tie as tie
 
 watch-turn-requires : tie.Need-watch-turn-requires
 watch-turn-requires c κs =
-    let z = c .before .before in
-    (ready-acting _ (z .pre .0), (event-tick _ (z .pre .0) _ _ (z .pre .1), watch-place _ (z .pre .0) _ _ (z .pre .1)))
+    let start = c .before .before in
+    (ready-acting _ (start .pre .0), (event-tick _ (start .pre .0) _ _ (start .pre .1), watch-place _ (start .pre .0) _ _ (start .pre .1)))
 
 message-count-requires : tie.Need-message-count-requires
 message-count-requires c κs = c .before .before .before .before .pre .0 .held .size
 
 add-if1 : tie.Need-add-if1
 add-if1 c =
-    let z = c .before .before .before .before .before .before in
-    let u = c .before .before .before .watch-turn in
-    let k = watch-count _ (z .pre .0) _ _ (z .pre .1) _ (u .ensures) in
-    omega (arith, c .before .message-count .ensures, z .pre .0 .held .fits .counts .messages, k)
-
-same-length : tie.Need-same-length
-same-length c = search needs
+    let at-message-count = c .before in
+    let at-watch-turn = at-message-count .before .before in
+    let start = at-watch-turn .before .before .before in
+    let u = at-watch-turn .watch-turn in
+    let k = watch-count _ (start .pre .0) _ _ (start .pre .1) _ (u .ensures) in
+    omega (arith, at-message-count .message-count .ensures, start .pre .0 .held .fits .counts .messages, k)
 
 returns : tie.Need-returns
 returns c =
-    let z = c .before .before .before .before .before .before .before in
-    let u = c .before .before .before .before .watch-turn in
-    watch-refused _ (z .pre .0) _ _ (z .pre .1) _ (u .ensures) (omega (arith, c .if1 .taken, c .before .before .message-count .ensures))
+    let at-message-count = c .before .before in
+    let at-watch-turn = at-message-count .before .before in
+    let start = at-watch-turn .before .before .before in
+    let u = at-watch-turn .watch-turn in
+    watch-refused _ (start .pre .0) _ _ (start .pre .1) _ (u .ensures) (omega (arith, c .if1 .taken, at-message-count .message-count .ensures))
 
-watch-line-requires : tie.Need-watch-line-requires
-watch-line-requires c κs =
-    let z = c .before .before .before .before .before .before .before .before in (ready-acting _ (z .pre .0), watch-place _ (z .pre .0) _ _ (z .pre .1))
+watch-deed-requires : tie.Need-watch-deed-requires
+watch-deed-requires c κs =
+    let start = c .before .before .before .before .before .before .before .before in
+    (ready-acting _ (start .pre .0), watch-place _ (start .pre .0) _ _ (start .pre .1))
 
 cast-take-turn : tie.Need-cast-take-turn
 cast-take-turn c =
-    let z = c .before .before .before .before .before .before .before .before .before .before in
-    omega (arith, watch-place _ (z .pre .0) _ _ (z .pre .1), ready-accepted _ (z .pre .0) .plain .n≤)
+    let start = c .before .before .before .before .before .before .before .before .before .before in
+    omega (arith, watch-place _ (start .pre .0) _ _ (start .pre .1), ready-accepted _ (start .pre .0) .plain .n≤)
 
 take-turn-requires : tie.Need-take-turn-requires
 take-turn-requires c κs =
-    let z = c .before .before .before .before .before .before .before .before .before .before in
-    let u = c .before .before .before .before .before .before .before .watch-turn in
-    watch-turns _ (z .pre .0) _ _ (z .pre .1) _ (u .ensures)
-    (omega (arith, c .before .before .before .if1 .left, c .before .before .before .before .before .message-count .ensures))
-
-same-length-2 : tie.Need-same-length-2
-same-length-2 c = search needs
+    let at-if1 = c .before .before .before in
+    let at-message-count = at-if1 .before .before in
+    let at-watch-turn = at-message-count .before .before in
+    let start = at-watch-turn .before .before .before in
+    let u = at-watch-turn .watch-turn in
+    watch-turns _ (start .pre .0) _ _ (start .pre .1) _ (u .ensures)
+    (omega (arith, at-if1 .if1 .left, at-message-count .message-count .ensures))
 
 returns-2 : tie.Need-returns-2
 returns-2 c =
-    let w = c .before .before .before .before .before .before in
-    let z = w .before .before .before .before .before .before .before in
-    let u = w .before .before .before .before .watch-turn in
-    let l = c .before .before .before .before .watch-line in
-    let d = watch-done _ (z .pre .0) _ _ (z .pre .1) _ (u .ensures) _ (l .ensures) (omega (arith, w .if1 .left, w .before .before .message-count .ensures)) in
-    (d .0, c .before .before .take-turn .ensures ∙ d .1)
+    let at-take-turn = c .before .before in
+    let at-watch-deed = at-take-turn .before .before in
+    let at-if1 = at-watch-deed .before .before in
+    let at-message-count = at-if1 .before .before in
+    let at-watch-turn = at-message-count .before .before in
+    let start = at-watch-turn .before .before .before in
+    let u = at-watch-turn .watch-turn in
+    let l = at-watch-deed .watch-deed in
+    let d =
+    watch-done _ (start .pre .0) _ _ (start .pre .1) _ (u .ensures) _ (l .ensures)
+    (omega (arith, at-if1 .if1 .left, at-message-count .message-count .ensures)) in
+    (d .0, at-take-turn .take-turn .ensures ∙ d .1)
 
 pub do-watch-spec : {M : Type 1} → statement M
 do-watch-spec =
-    tie.close
-    (tie.spec
-    watch-turn-requires
-    message-count-requires
-    add-if1
-    same-length
-    returns
-    watch-line-requires
-    cast-take-turn
-    take-turn-requires
-    same-length-2
-    returns-2)
+    tie.close (tie.spec watch-turn-requires message-count-requires add-if1 (λ c. search needs) returns watch-deed-requires cast-take-turn
+    take-turn-requires (λ c. search needs) returns-2)

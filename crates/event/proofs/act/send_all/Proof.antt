@@ -17,67 +17,56 @@ abbrev μ-loop : tie.MeasureT-loop
 
 loop-holds : tie.Need-loop-holds Inv-loop μ-loop
 loop-holds c =
-    let z = c .before .before in (search needs, sending-starts (z .args .s .now) (z .args .t) (z .args .x) (z .args .u) (z .pre .held), refl)
-
-mul-stamp : tie.Need-mul-stamp Inv-loop μ-loop
-mul-stamp c = search needs
+    let start = c .before .before in
+    (search needs, sending-starts (start .args .s .now) (start .args .t) (start .args .x) (start .args .u) (start .pre .held), refl)
 
 array-copy-out-stamp : tie.Need-array-copy-out-stamp Inv-loop μ-loop
 array-copy-out-stamp c =
-    let z = c .before .before .before .before .before in omega (arith, c .before .loop-test .taken, z .pre .few, z .pre .full)
+    let test = c .before in
+    let start = test .before .before .before .before in
+    omega (arith, test .loop-test .taken, start .pre .few, start .pre .full)
 
 stamp-requires : tie.Need-stamp-requires Inv-loop μ-loop
 stamp-requires c κs =
-    let z = c .before .before .before .before .before .before in
-    let l = c .before .before .before .loop in
-    let h = sending-held (z .args .s .now) (z .args .t) (z .args .x) (z .args .u) (z .pre) (l .i) (l .s) (l .inv .1) in
-    let n = sending-number (z .args .s .now) (z .args .t) (z .args .x) (z .args .u) (z .pre) (l .i) (l .s) (l .inv .1) (c .before .before .loop-test .taken) in
-    ((h, sending-test (z .args .s .now) (z .args .t) (z .args .x) (z .args .u) (z .pre) (l .i) (l .s) (l .inv .1)), (z .pre .tick, n))
+    let test = c .before .before in
+    let turn = test .before in
+    let start = turn .before .before .before in
+    let l = turn .loop in
+    let h = sending-held (start .args .s .now) (start .args .t) (start .args .x) (start .args .u) (start .pre) (l .i) (l .s) (l .inv .1) in
+    let n =
+    sending-number (start .args .s .now) (start .args .t) (start .args .x) (start .args .u) (start .pre) (l .i) (l .s) (l .inv .1) (test .loop-test .taken) in
+    ((h, sending-test (start .args .s .now) (start .args .t) (start .args .x) (start .args .u) (start .pre) (l .i) (l .s) (l .inv .1)), (start .pre .tick, n))
 
 put-message-requires : tie.Need-put-message-requires Inv-loop μ-loop
 put-message-requires c κs =
-    let z = c .before .before .before .before .before .before .before .before .before .before in
-    let l = c .before .before .before .before .before .before .before .loop in
-    let t = c .before .before .before .before .before .before .loop-test .taken in
-    let e = c .before .before .before .stamp .ensures .1 in
-    let h = stamp-held (z .args .s .now) (z .args .t) (z .args .x) (z .args .u) (z .pre) (l .i) (l .s) (l .inv .1) t _ e in
-    (h, stamp-room (z .args .s .now) (z .args .t) (z .args .x) (z .args .u) (z .pre) (l .i) (l .s) (l .inv .1) t _ e)
-
-add-i : tie.Need-add-i Inv-loop μ-loop
-add-i c = search needs
-
-loop-less : tie.Need-loop-less Inv-loop μ-loop
-loop-less c = search needs
+    let at-stamp = c .before .before .before in
+    let test = at-stamp .before .before .before in
+    let turn = test .before in
+    let start = turn .before .before .before in
+    let l = turn .loop in
+    let t = test .loop-test .taken in
+    let e = at-stamp .stamp .ensures .1 in
+    let h = stamp-held (start .args .s .now) (start .args .t) (start .args .x) (start .args .u) (start .pre) (l .i) (l .s) (l .inv .1) t _ e in
+    (h, stamp-room (start .args .s .now) (start .args .t) (start .args .x) (start .args .u) (start .pre) (l .i) (l .s) (l .inv .1) t _ e)
 
 loop-again : tie.Need-loop-again Inv-loop μ-loop
 loop-again c =
-    let z = c .before .before .before .before .before .before .before .before .before .before .before .before .before in
-    let l = c .before .before .before .before .before .before .before .before .before .before .loop in
-    let e = c .before .before .before .before .before .before .stamp .ensures in
-    let t = c .before .before .before .before .before .before .before .before .before .loop-test .taken in
-    let f = sending-next (z .args .s .now) (z .args .t) (z .args .x) (z .args .u) (z .pre) (l .i) (l .s) (l .inv .1) t _ (e .1) _ _ refl in
-    let n = f _ (e .0) _ (c .before .before .put-message .ensures) in
+    let at-put-message = c .before .before in
+    let at-stamp = at-put-message .before .before .before .before in
+    let test = at-stamp .before .before .before in
+    let turn = test .before in
+    let start = turn .before .before .before in
+    let l = turn .loop in
+    let e = at-stamp .stamp .ensures in
+    let t = test .loop-test .taken in
+    let f = sending-next (start .args .s .now) (start .args .t) (start .args .x) (start .args .u) (start .pre) (l .i) (l .s) (l .inv .1) t _ (e .1) _ _ refl in
+    let n = f _ (e .0) _ (at-put-message .put-message .ensures) in
     (search needs, n, search needs)
-
-same-length : tie.Need-same-length Inv-loop μ-loop
-same-length c = search needs
 
 returns : tie.Need-returns Inv-loop μ-loop
 returns c = let l = c .before .loop in sending-all _ _ _ _ (l .i) _ _ (l .inv .0) (c .loop-test .left) (l .inv .1)
 
 pub send-all-spec : {M : Type 1} → statement M
 send-all-spec =
-    tie.close
-    (tie.spec
-    Inv-loop
-    μ-loop
-    loop-holds
-    mul-stamp
-    array-copy-out-stamp
-    stamp-requires
-    put-message-requires
-    add-i
-    loop-less
-    loop-again
-    same-length
-    returns)
+    tie.close (tie.spec Inv-loop μ-loop loop-holds (λ c. search needs) array-copy-out-stamp stamp-requires put-message-requires (λ c. search needs)
+    (λ c. search needs) loop-again (λ c. search needs) returns)

@@ -21,22 +21,29 @@ add-result : tie.Need-add-result
 add-result c = omega (arith, c .end-tick .ensures, ready-accepted _ (c .before .before .before .before .before .pre) .plain .end≤)
 
 returns : tie.Need-returns
-returns c = rw (c .end-tick .ensures, add-one) (sym (crashes-over (planIn (c .before .before .before .before .before .args .s .now)) (stateIn (c .before .before .before .before .before .args .s .now)) _ (omega (arith, c .before .if1 .taken, c .before .before .crash-count .ensures, c .before .before .before .crashes-done .ensures))))
+returns c =
+    let at-if1 = c .before in
+    let at-crash-count = at-if1 .before in
+    let at-crashes-done = at-crash-count .before in
+    let start = at-crashes-done .before .before in
+    rw (c .end-tick .ensures, add-one) (sym (crashes-over (planIn (start .args .s .now)) (stateIn (start .args .s .now)) _
+    (omega (arith, at-if1 .if1 .taken, at-crash-count .crash-count .ensures, at-crashes-done .crashes-done .ensures))))
 
 crash-at-requires : tie.Need-crash-at-requires
-crash-at-requires c κs = (held-sized _ (c .before .before .before .before .pre .held), omega (arith, c .if1 .left, c .before .crash-count .ensures))
+crash-at-requires c κs =
+    let at-crash-count = c .before in
+    let start = at-crash-count .before .before .before in
+    (held-sized _ (start .pre .held), omega (arith, c .if1 .left, at-crash-count .crash-count .ensures))
 
 returns-2 : tie.Need-returns-2
-returns-2 c = let e = c .before .before .before .crashes-done .ensures in rw (c .crash-at .ensures, e) (sym (crash-first (planIn (c .before .before .before .before .before .args .s .now)) (ready-accepted _ (c .before .before .before .before .before .pre) .plain) (stateIn (c .before .before .before .before .before .args .s .now)) (omega (arith, c .before .if1 .left, c .before .before .crash-count .ensures, e))))
+returns-2 c =
+    let at-if1 = c .before in
+    let at-crash-count = at-if1 .before in
+    let at-crashes-done = at-crash-count .before in
+    let start = at-crashes-done .before .before in
+    let e = at-crashes-done .crashes-done .ensures in
+    rw (c .crash-at .ensures, e) (sym (crash-first (planIn (start .args .s .now)) (ready-accepted _ (start .pre) .plain) (stateIn (start .args .s .now))
+    (omega (arith, at-if1 .if1 .left, at-crash-count .crash-count .ensures, e))))
 
 pub earliest-crash-spec : {M : Type 1} → statement M
-earliest-crash-spec =
-    tie.close
-    (tie.spec
-    crashes-done-requires
-    crash-count-requires
-    end-tick-requires
-    add-result
-    returns
-    crash-at-requires
-    returns-2)
+earliest-crash-spec = tie.close (tie.spec crashes-done-requires crash-count-requires end-tick-requires add-result returns crash-at-requires returns-2)

@@ -14,263 +14,277 @@ use Rattle.platform.proofs.advance.run_queued.Tie as tie
 
 abbrev Inv-loop : tie.InvT-loop
 Inv-loop store₀ q₀ budget c₀ left₀ store q c left =
-    (length store ≡ length store₀) × (length q ≡ length q₀) × ((first : List ℕ) → Underway store₀ q₀ c₀ first → RunsOn first budget left store q c)
+    (length store ≡ length store₀) × (length q ≡ length q₀) × ((first : List ℕ) → Underway store₀ q₀ c₀ first
+    → RunsOn first budget left store q c)
 
 abbrev μ-loop : tie.MeasureT-loop
 μ-loop store₀ q₀ budget c₀ left₀ store q c left = left
 
 begin-requires : tie.Need-begin-requires Inv-loop μ-loop
-begin-requires c κs = let p = c .before .before .before .before .pre in (p .0, p .1)
+begin-requires c κs =
+    let p = c .before .before .before .before .pre in
+    (p .0, p .1)
 
 loop-holds : tie.Need-loop-holds Inv-loop μ-loop
 loop-holds c = (refl, refl, λ first k. queued-starts first _ _ _ _ (k .ready) k)
 
 next-requires : tie.Need-next-requires Inv-loop μ-loop
 next-requires c κs =
-    let l = c .before .before .before .loop in
-    let w = l .inv .2 _ (c .before .before .before .before .before .before .before .before .begin .ensures) in
+    let turn = c .before .before .before in
+    let at-begin = turn .before .before .before .before .before in
+    let l = turn .loop in
+    let w = l .inv .2 _ (at-begin .begin .ensures) in
     (w .whole, w .underway)
-
-enum-known-d : tie.Need-enum-known-d Inv-loop μ-loop
-enum-known-d c = search needs
-
-sub-left : tie.Need-sub-left Inv-loop μ-loop
-sub-left c = search needs
-
-loop-less : tie.Need-loop-less Inv-loop μ-loop
-loop-less c = search needs
 
 loop-again : tie.Need-loop-again Inv-loop μ-loop
 loop-again c =
-    let l = c .before .before .before .before .before .before .before .before .before .before .before .loop in
-    let n = c .before .before .before .before .before .before .before .next in
-    let more = c .before .before .before .before .before .before .before .before .before .before .loop-test .taken in (
+    let at-d = c .before in
+    let at-next = at-d .before .before .before .before .before .before in
+    let test = at-next .before .before .before in
+    let turn = test .before in
+    let l = turn .loop in
+    let n = at-next .next in
+    let more = test .loop-test .taken in (
       omega (arith, n .kept .0, l .inv .0),
       omega (arith, n .kept .1 .0, l .inv .1),
       λ first k. queued-did first _ _ (l .inv .2 first k .whole) (l .inv .2 first k .runs) more _ _ _
-          (n .ensures (l .inv .2 first k .whole) (l .inv .2 first k .underway)) _ _ (c .before .d .given .1),
+          (n .ensures (l .inv .2 first k .whole) (l .inv .2 first k .underway)) _ _ (at-d .d .given .1),
     )
-
-enum-known-d-2 : tie.Need-enum-known-d-2 Inv-loop μ-loop
-enum-known-d-2 c = search needs
 
 finish-requires : tie.Need-finish-requires Inv-loop μ-loop
 finish-requires c κs =
-    let l = c .before .before .before .before .before .before .before .before .before .before .before .before .before .loop in
-    let up = c .before .before .before .before .before .before .before .before .before .before .before .before .before .before .before in
-    let o = up .before .before .before .begin in
+    let at-d2 = c .before .before .before in
+    let at-next = at-d2 .before .before .before .before .before .before in
+    let test = at-next .before .before .before in
+    let turn = test .before in
+    let at-begin = turn .before .before .before .before .before in
+    let l = turn .loop in
+    let o = at-begin .begin in
     let w = l .inv .2 _ (o .ensures) in
-    let n = c .before .before .before .before .before .before .before .before .before .next in
-    let more = c .before .before .before .before .before .before .before .before .before .before .before .before .loop-test .taken in
-    (_, queued-ended _ _ _ (w .whole) (w .runs) more _ _ _ (n .ensures (w .whole) (w .underway)) _ _ (c .before .before .before .d2 .given .1) .0)
+    let n = at-next .next in
+    let more = test .loop-test .taken in
+    (_, queued-ended _ _ _ (w .whole) (w .runs) more _ _ _ (n .ensures (w .whole) (w .underway)) _ (at-d2 .d2 .given .1) .0)
 
 sub-t24 : tie.Need-sub-t24 Inv-loop μ-loop
 sub-t24 c =
-    let up = c .before .before .before .before .before .before .before .before .before .before .before .before .before .before .before in
-    let l = up .before .before .before .loop in
-    let up = c .before .before .before .before .before .before .before .before .before .before .before .before .before .before .before in
-    let o = up .before .before .before .before .before .before .before .before .begin in
+    let above = c .before .before .before .before .before .before .before .before .before .before .before .before in
+    let turn = above .before .before .before .before .before .before in
+    let at-begin = turn .before .before .before .before .before in
+    let l = turn .loop in
+    let o = at-begin .begin in
     let w = l .inv .2 _ (o .ensures) in
     omega (arith, w .runs .ongoing .within)
 
 same-length : tie.Need-same-length Inv-loop μ-loop
 same-length c =
-    let up = c .before .before .before .before .before .before .before .before .before .before .before .before .before .before .before in
-    let l = up .before .before .before .loop in
-    let up = c .before .before .before .before .before .before .before .before .before .before .before .before .before .before .before in
-    let o = up .before .before .before .before .before .before .before .before .begin in
+    let at-finish = c .before .before .before .before in
+    let at-next = at-finish .before .before .before .before .before .before .before .before .before .before in
+    let turn = at-next .before .before .before .before in
+    let at-begin = turn .before .before .before .before .before in
+    let l = turn .loop in
+    let o = at-begin .begin in
     let w = l .inv .2 _ (o .ensures) in
-    let n = c .before .before .before .before .before .before .before .before .before .before .before .before .before .before .next in
-    let f = c .before .before .before .before .finish in
+    let n = at-next .next in
+    let f = at-finish .finish in
     omega (arith, f .kept .0, n .kept .0, l .inv .0, o .kept .0)
 
 same-length-2 : tie.Need-same-length-2 Inv-loop μ-loop
 same-length-2 c =
-    let up = c .before .before .before .before .before .before .before .before .before .before .before .before .before .before .before in
-    let l = up .before .before .before .loop in
-    let up = c .before .before .before .before .before .before .before .before .before .before .before .before .before .before .before in
-    let o = up .before .before .before .before .before .before .before .before .begin in
+    let at-finish = c .before .before .before .before in
+    let at-next = at-finish .before .before .before .before .before .before .before .before .before .before in
+    let turn = at-next .before .before .before .before in
+    let at-begin = turn .before .before .before .before .before in
+    let l = turn .loop in
+    let o = at-begin .begin in
     let w = l .inv .2 _ (o .ensures) in
-    let n = c .before .before .before .before .before .before .before .before .before .before .before .before .before .before .next in
-    let f = c .before .before .before .before .finish in
+    let n = at-next .next in
+    let f = at-finish .finish in
     omega (arith, f .kept .1 .0, n .kept .1 .0, l .inv .1, o .kept .1 .0)
 
 returns : tie.Need-returns Inv-loop μ-loop
 returns c =
-    let up = c .before .before .before .before .before .before .before .before .before .before .before .before .before .before .before in
-    let l = up .before .before .before .loop in
-    let up = c .before .before .before .before .before .before .before .before .before .before .before .before .before .before .before in
-    let o = up .before .before .before .before .before .before .before .before .begin in
+    let at-finish = c .before .before .before .before in
+    let at-d2 = at-finish .before .before .before .before in
+    let at-next = at-d2 .before .before .before .before .before .before in
+    let test = at-next .before .before .before in
+    let turn = test .before in
+    let at-begin = turn .before .before .before .before .before in
+    let l = turn .loop in
+    let o = at-begin .begin in
     let w = l .inv .2 _ (o .ensures) in
-    let n = c .before .before .before .before .before .before .before .before .before .before .before .before .before .before .next in
-    let up = c .before .before .before .before .before .before .before .before .before .before .before .before .before .before .before in
-    let more = up .before .before .loop-test .taken in
-    let told = c .before .before .before .before .before .before .before .before .d2 .given .1 in
-    let e = queued-ended _ _ _ (w .whole) (w .runs) more _ _ _ (n .ensures (w .whole) (w .underway)) _ _ told in
-    e .1 _ (c .before .before .before .before .finish .ensures _ (e .0))
-
-enum-known-d-3 : tie.Need-enum-known-d-3 Inv-loop μ-loop
-enum-known-d-3 c = search needs
+    let n = at-next .next in
+    let more = test .loop-test .taken in
+    let told = at-d2 .d2 .given .1 in
+    let e = queued-ended _ _ _ (w .whole) (w .runs) more _ _ _ (n .ensures (w .whole) (w .underway)) _ told in
+    e .1 _ (at-finish .finish .ensures _ (e .0))
 
 finish-requires-2 : tie.Need-finish-requires-2 Inv-loop μ-loop
 finish-requires-2 c κs =
-    let l = c .before .before .before .before .before .before .before .before .before .before .before .before .before .loop in
-    let up = c .before .before .before .before .before .before .before .before .before .before .before .before .before .before .before in
-    let o = up .before .before .before .begin in
+    let at-d3 = c .before .before .before in
+    let at-next = at-d3 .before .before .before .before .before .before in
+    let test = at-next .before .before .before in
+    let turn = test .before in
+    let at-begin = turn .before .before .before .before .before in
+    let l = turn .loop in
+    let o = at-begin .begin in
     let w = l .inv .2 _ (o .ensures) in
-    let n = c .before .before .before .before .before .before .before .before .before .next in
-    let more = c .before .before .before .before .before .before .before .before .before .before .before .before .loop-test .taken in
-    (_, queued-refused _ _ _ (w .whole) (w .runs) more _ _ _ (n .ensures (w .whole) (w .underway)) _ (c .before .before .before .d3 .given .1) .0)
+    let n = at-next .next in
+    let more = test .loop-test .taken in
+    (_, queued-refused _ _ _ (w .whole) (w .runs) more _ _ _ (n .ensures (w .whole) (w .underway)) _ (at-d3 .d3 .given .1) .0)
 
 sub-t30 : tie.Need-sub-t30 Inv-loop μ-loop
 sub-t30 c =
-    let up = c .before .before .before .before .before .before .before .before .before .before .before .before .before .before .before in
-    let l = up .before .before .before .loop in
-    let up = c .before .before .before .before .before .before .before .before .before .before .before .before .before .before .before in
-    let o = up .before .before .before .before .before .before .before .before .begin in
+    let above = c .before .before .before .before .before .before .before .before .before .before .before .before in
+    let turn = above .before .before .before .before .before .before in
+    let at-begin = turn .before .before .before .before .before in
+    let l = turn .loop in
+    let o = at-begin .begin in
     let w = l .inv .2 _ (o .ensures) in
     omega (arith, w .runs .ongoing .within)
 
 same-length-3 : tie.Need-same-length-3 Inv-loop μ-loop
 same-length-3 c =
-    let up = c .before .before .before .before .before .before .before .before .before .before .before .before .before .before .before in
-    let l = up .before .before .before .loop in
-    let up = c .before .before .before .before .before .before .before .before .before .before .before .before .before .before .before in
-    let o = up .before .before .before .before .before .before .before .before .begin in
+    let at-finish2 = c .before .before .before .before in
+    let at-next = at-finish2 .before .before .before .before .before .before .before .before .before .before in
+    let turn = at-next .before .before .before .before in
+    let at-begin = turn .before .before .before .before .before in
+    let l = turn .loop in
+    let o = at-begin .begin in
     let w = l .inv .2 _ (o .ensures) in
-    let n = c .before .before .before .before .before .before .before .before .before .before .before .before .before .before .next in
-    let f = c .before .before .before .before .finish2 in
+    let n = at-next .next in
+    let f = at-finish2 .finish2 in
     omega (arith, f .kept .0, n .kept .0, l .inv .0, o .kept .0)
 
 same-length-4 : tie.Need-same-length-4 Inv-loop μ-loop
 same-length-4 c =
-    let up = c .before .before .before .before .before .before .before .before .before .before .before .before .before .before .before in
-    let l = up .before .before .before .loop in
-    let up = c .before .before .before .before .before .before .before .before .before .before .before .before .before .before .before in
-    let o = up .before .before .before .before .before .before .before .before .begin in
+    let at-finish2 = c .before .before .before .before in
+    let at-next = at-finish2 .before .before .before .before .before .before .before .before .before .before in
+    let turn = at-next .before .before .before .before in
+    let at-begin = turn .before .before .before .before .before in
+    let l = turn .loop in
+    let o = at-begin .begin in
     let w = l .inv .2 _ (o .ensures) in
-    let n = c .before .before .before .before .before .before .before .before .before .before .before .before .before .before .next in
-    let f = c .before .before .before .before .finish2 in
+    let n = at-next .next in
+    let f = at-finish2 .finish2 in
     omega (arith, f .kept .1 .0, n .kept .1 .0, l .inv .1, o .kept .1 .0)
 
 returns-2 : tie.Need-returns-2 Inv-loop μ-loop
 returns-2 c =
-    let up = c .before .before .before .before .before .before .before .before .before .before .before .before .before .before .before in
-    let l = up .before .before .before .loop in
-    let up = c .before .before .before .before .before .before .before .before .before .before .before .before .before .before .before in
-    let o = up .before .before .before .before .before .before .before .before .begin in
+    let at-finish2 = c .before .before .before .before in
+    let at-d3 = at-finish2 .before .before .before .before in
+    let at-next = at-d3 .before .before .before .before .before .before in
+    let test = at-next .before .before .before in
+    let turn = test .before in
+    let at-begin = turn .before .before .before .before .before in
+    let l = turn .loop in
+    let o = at-begin .begin in
     let w = l .inv .2 _ (o .ensures) in
-    let n = c .before .before .before .before .before .before .before .before .before .before .before .before .before .before .next in
-    let up = c .before .before .before .before .before .before .before .before .before .before .before .before .before .before .before in
-    let more = up .before .before .loop-test .taken in
-    let told = c .before .before .before .before .before .before .before .before .d3 .given .1 in
+    let n = at-next .next in
+    let more = test .loop-test .taken in
+    let told = at-d3 .d3 .given .1 in
     let e = queued-refused _ _ _ (w .whole) (w .runs) more _ _ _ (n .ensures (w .whole) (w .underway)) _ told in
-    e .1 _ (c .before .before .before .before .finish2 .ensures _ (e .0))
+    e .1 _ (at-finish2 .finish2 .ensures _ (e .0))
 
 finish-requires-3 : tie.Need-finish-requires-3 Inv-loop μ-loop
 finish-requires-3 c κs =
-    let l = c .before .before .before .loop in
-    let o = c .before .before .before .before .before .before .before .before .begin in
+    let turn = c .before .before .before in
+    let at-begin = turn .before .before .before .before .before in
+    let l = turn .loop in
+    let o = at-begin .begin in
     let w = l .inv .2 _ (o .ensures) in
     (w .whole, w .underway)
 
 next-event-requires : tie.Need-next-event-requires Inv-loop μ-loop
 next-event-requires c κs =
-    let l = c .before .before .before .before .before .before .before .before .before .loop in
-    let o = c .before .before .before .before .before .before .before .before .before .before .before .before .before .before .begin in
+    let at-finish3 = c .before .before .before .before .before in
+    let turn = at-finish3 .before .before .before .before in
+    let at-begin = turn .before .before .before .before .before in
+    let l = turn .loop in
+    let o = at-begin .begin in
     let w = l .inv .2 _ (o .ensures) in
-    queued-back _ _ _ (w .whole) _ (w .runs) (c .before .before .before .before .before .finish3 .ensures (w .whole) (w .underway)) .ready
+    queued-back _ _ _ (w .whole) _ (w .runs) (at-finish3 .finish3 .ensures (w .whole) (w .underway)) .ready
 
 enum-told : tie.Need-enum-told Inv-loop μ-loop
 enum-told c = search needs
 
 same-length-5 : tie.Need-same-length-5 Inv-loop μ-loop
 same-length-5 c =
-    let l = c .before .before .before .before .before .before .before .before .before .before .before .before .loop in
-    let up = c .before .before .before .before .before .before .before .before .before .before .before .before .before .before .before in
-    let o = up .before .before .begin in
+    let at-finish3 = c .before .before .before .before .before .before .before .before in
+    let turn = at-finish3 .before .before .before .before in
+    let at-begin = turn .before .before .before .before .before in
+    let l = turn .loop in
+    let o = at-begin .begin in
     let w = l .inv .2 _ (o .ensures) in
-    let f = c .before .before .before .before .before .before .before .before .finish3 in
+    let f = at-finish3 .finish3 in
     omega (arith, f .kept .0, l .inv .0, o .kept .0)
 
 same-length-6 : tie.Need-same-length-6 Inv-loop μ-loop
 same-length-6 c =
-    let l = c .before .before .before .before .before .before .before .before .before .before .before .before .loop in
-    let up = c .before .before .before .before .before .before .before .before .before .before .before .before .before .before .before in
-    let o = up .before .before .begin in
+    let at-finish3 = c .before .before .before .before .before .before .before .before in
+    let turn = at-finish3 .before .before .before .before in
+    let at-begin = turn .before .before .before .before .before in
+    let l = turn .loop in
+    let o = at-begin .begin in
     let w = l .inv .2 _ (o .ensures) in
-    let f = c .before .before .before .before .before .before .before .before .finish3 in
+    let f = at-finish3 .finish3 in
     omega (arith, f .kept .1 .0, l .inv .1, o .kept .1 .0)
 
 returns-3 : tie.Need-returns-3 Inv-loop μ-loop
 returns-3 c =
-    let l = c .before .before .before .before .before .before .before .before .before .before .before .before .loop in
-    let up = c .before .before .before .before .before .before .before .before .before .before .before .before .before .before .before in
-    let o = up .before .before .begin in
+    let at-next-event = c .before .before in
+    let at-finish3 = at-next-event .before .before .before .before .before .before in
+    let test = at-finish3 .before .before .before in
+    let turn = test .before in
+    let at-begin = turn .before .before .before .before .before in
+    let l = turn .loop in
+    let o = at-begin .begin in
     let w = l .inv .2 _ (o .ensures) in
-    let f = c .before .before .before .before .before .before .before .before .finish3 in
+    let f = at-finish3 .finish3 in
     let h = queued-back _ _ _ (w .whole) _ (w .runs) (f .ensures (w .whole) (w .underway)) in
-    let none = sym (c .enum-told .given .1) ∙ c .before .before .next-event .ensures in
-    let used = c .before .before .before .before .before .before .before .before .before .before .before .loop-test .left in
+    let none = sym (c .enum-told .given .1) ∙ at-next-event .next-event .ensures in
+    let used = test .loop-test .left in
     run-used-done _ _ (l .left) _ h (omega (arith, used)) none
 
 same-length-7 : tie.Need-same-length-7 Inv-loop μ-loop
 same-length-7 c =
-    let l = c .before .before .before .before .before .before .before .before .before .before .before .loop in
-    let o = c .before .before .before .before .before .before .before .before .before .before .before .before .before .before .before .before .begin in
+    let at-finish3 = c .before .before .before .before .before .before .before in
+    let turn = at-finish3 .before .before .before .before in
+    let at-begin = turn .before .before .before .before .before in
+    let l = turn .loop in
+    let o = at-begin .begin in
     let w = l .inv .2 _ (o .ensures) in
-    let f = c .before .before .before .before .before .before .before .finish3 in
+    let f = at-finish3 .finish3 in
     omega (arith, f .kept .0, l .inv .0, o .kept .0)
 
 same-length-8 : tie.Need-same-length-8 Inv-loop μ-loop
 same-length-8 c =
-    let l = c .before .before .before .before .before .before .before .before .before .before .before .loop in
-    let o = c .before .before .before .before .before .before .before .before .before .before .before .before .before .before .before .before .begin in
+    let at-finish3 = c .before .before .before .before .before .before .before in
+    let turn = at-finish3 .before .before .before .before in
+    let at-begin = turn .before .before .before .before .before in
+    let l = turn .loop in
+    let o = at-begin .begin in
     let w = l .inv .2 _ (o .ensures) in
-    let f = c .before .before .before .before .before .before .before .finish3 in
+    let f = at-finish3 .finish3 in
     omega (arith, f .kept .1 .0, l .inv .1, o .kept .1 .0)
 
 returns-4 : tie.Need-returns-4 Inv-loop μ-loop
 returns-4 c =
-    let l = c .before .before .before .before .before .before .before .before .before .before .before .loop in
-    let o = c .before .before .before .before .before .before .before .before .before .before .before .before .before .before .before .before .begin in
+    let at-next-event = c .before in
+    let at-finish3 = at-next-event .before .before .before .before .before .before in
+    let test = at-finish3 .before .before .before in
+    let turn = test .before in
+    let at-begin = turn .before .before .before .before .before in
+    let l = turn .loop in
+    let o = at-begin .begin in
     let w = l .inv .2 _ (o .ensures) in
-    let h = queued-back _ _ _ (w .whole) _ (w .runs) (c .before .before .before .before .before .before .before .finish3 .ensures (w .whole) (w .underway)) in
-    let used = c .before .before .before .before .before .before .before .before .before .before .loop-test .left in
-    run-used-spent _ _ (l .left) _ h (omega (arith, used)) (c .before .next-event .ensures)
+    let h = queued-back _ _ _ (w .whole) _ (w .runs) (at-finish3 .finish3 .ensures (w .whole) (w .underway)) in
+    let used = test .loop-test .left in
+    run-used-spent _ _ (l .left) _ h (omega (arith, used)) (at-next-event .next-event .ensures)
     (λ e. miss (0 ∷ 1 ∷ 2 ∷ 3 ∷ []) 4 tt (rw e at (c .match2 .keys2)))
 
 pub run-queued-spec : {M : Type 1} → statement M
 run-queued-spec =
-    tie.close
-    (tie.spec
-    Inv-loop
-    μ-loop
-    begin-requires
-    loop-holds
-    next-requires
-    enum-known-d
-    sub-left
-    loop-less
-    loop-again
-    enum-known-d-2
-    finish-requires
-    sub-t24
-    same-length
-    same-length-2
-    returns
-    enum-known-d-3
-    finish-requires-2
-    sub-t30
-    same-length-3
-    same-length-4
-    returns-2
-    finish-requires-3
-    next-event-requires
-    enum-told
-    same-length-5
-    same-length-6
-    returns-3
-    same-length-7
-    same-length-8
-    returns-4)
+    tie.close (tie.spec Inv-loop μ-loop begin-requires loop-holds next-requires (λ c. search needs) (λ c. search needs) (λ c. search needs)
+    loop-again (λ c. search needs) finish-requires sub-t24 same-length same-length-2 returns (λ c. search needs) finish-requires-2 sub-t30
+    same-length-3 same-length-4 returns-2 finish-requires-3 next-event-requires enum-told same-length-5 same-length-6 returns-3 same-length-7
+    same-length-8 returns-4)

@@ -3,7 +3,7 @@ use mathlib.Core.Path.{_≡_, refl, _∙_}
 use Prim.Native.Nat.{_-_, _≤_}
 use lib.ListN.{length, take}
 use Rattle.text.specs.Put.{Put}
-use Rattle.runfile.specs.Plan.{delayText, rowsText}
+use Rattle.runfile.specs.Text.{delayText, rowsText}
 use Rattle.store.specs.Store.{planIn}
 use Rattle.event.proofs.Readiness.{held-sized}
 use Rattle.platform.proofs.Writing.{rows-none, delay-room, delay-written, rows-end}
@@ -13,65 +13,58 @@ use Rattle.platform.proofs.write.put_delays.Statement.{statement}
 use Rattle.platform.proofs.write.put_delays.Tie as tie
 
 abbrev Inv-loop : tie.InvT-loop
-Inv-loop store out₀ first count at₀ i₀ out at i = (i ≤ count) × Put out₀ first (rowsText delayText (take i (planIn store .delays))) at out × (length out ≡ length out₀)
+Inv-loop store out₀ first count at₀ i₀ out at i =
+    (i ≤ count) × Put out₀ first (rowsText delayText (take i (planIn store .delays))) at out × (length out ≡ length out₀)
 
 abbrev μ-loop : tie.MeasureT-loop
 μ-loop store out₀ first count at₀ i₀ out at i = count - i
 
-delay-count-requires : tie.Need-delay-count-requires Inv-loop μ-loop
-delay-count-requires c κs = search needs
-
 loop-holds : tie.Need-loop-holds Inv-loop μ-loop
-loop-holds c = (omega arith, rows-none delayText (planIn (c .before .before .before .args .store .now) .delays) (c .before .before .before .args .out .now) (c .before .before .before .args .first), refl)
+loop-holds c =
+    let start = c .before .before .before in
+    (omega arith, rows-none delayText (planIn (start .args .store .now) .delays) (start .args .out .now) (start .args .first), refl)
 
 delay-at-requires : tie.Need-delay-at-requires Inv-loop μ-loop
-delay-at-requires c κs = (held-sized _ (c .before .before .before .before .before .pre .0), omega (arith, c .loop-test .taken, c .before .before .delay-count .ensures))
-
-cast-put-delay : tie.Need-cast-put-delay Inv-loop μ-loop
-cast-put-delay c = search needs
-
-cast-put-delay-2 : tie.Need-cast-put-delay-2 Inv-loop μ-loop
-cast-put-delay-2 c = search needs
+delay-at-requires c κs =
+    let at-delay-count = c .before .before in
+    let start = at-delay-count .before .before .before in
+    (held-sized _ (start .pre .0), omega (arith, c .loop-test .taken, at-delay-count .delay-count .ensures))
 
 put-delay-requires : tie.Need-put-delay-requires Inv-loop μ-loop
 put-delay-requires c κs =
-    let v = c .before .before .before .before .before .loop .inv in
-    delay-room (planIn (c .before .before .before .before .before .before .before .before .before .args .store .now)) (c .before .before .before .before .before .loop .i) (omega (arith, c .before .before .before .before .loop-test .taken, c .before .before .before .before .before .before .delay-count .ensures)) (c .before .before .before .before .before .before .before .before .before .pre .1) (v .2) (v .1) (c .before .before .before .delay-at .ensures)
-
-add-i : tie.Need-add-i Inv-loop μ-loop
-add-i c = search needs
-
-loop-less : tie.Need-loop-less Inv-loop μ-loop
-loop-less c = search needs
+    let at-delay-at = c .before .before .before in
+    let test = at-delay-at .before in
+    let turn = test .before in
+    let at-delay-count = turn .before in
+    let start = at-delay-count .before .before .before in
+    let v = turn .loop .inv in
+    delay-room (planIn (start .args .store .now)) (turn .loop .i) (omega (arith, test .loop-test .taken, at-delay-count .delay-count .ensures)) (start .pre .1)
+    (v .2) (v .1) (at-delay-at .delay-at .ensures)
 
 loop-again : tie.Need-loop-again Inv-loop μ-loop
 loop-again c =
-    let v = c .before .before .before .before .before .before .before .before .loop .inv in (
-      omega (arith, c .before .before .before .before .before .before .before .loop-test .taken),
-      delay-written (planIn (c .before .before .before .before .before .before .before .before .before .before .before .before .args .store .now)) (c .before .before .before .before .before .before .before .before .loop .i) (omega (arith, c .before .before .before .before .before .before .before .loop-test .taken, c .before .before .before .before .before .before .before .before .before .delay-count .ensures)) (c .before .before .before .before .before .before .before .before .before .before .before .before .pre .1) (v .1) (c .before .before .before .before .before .before .delay-at .ensures) (c .before .before .put-delay .ensures),
-      c .before .before .put-delay .kept .0 ∙ v .2,
+    let at-put-delay = c .before .before in
+    let at-delay-at = at-put-delay .before .before .before .before in
+    let test = at-delay-at .before in
+    let turn = test .before in
+    let at-delay-count = turn .before in
+    let start = at-delay-count .before .before .before in
+    let v = turn .loop .inv in (
+      omega (arith, test .loop-test .taken),
+      delay-written (planIn (start .args .store .now)) (turn .loop .i) (omega (arith, test .loop-test .taken, at-delay-count .delay-count .ensures))
+          (start .pre .1) (v .1) (at-delay-at .delay-at .ensures) (at-put-delay .put-delay .ensures),
+      at-put-delay .put-delay .kept .0 ∙ v .2,
     )
 
-same-length : tie.Need-same-length Inv-loop μ-loop
-same-length c = search needs
-
 returns : tie.Need-returns Inv-loop μ-loop
-returns c = rows-end delayText (planIn (c .before .before .before .before .before .args .store .now) .delays) (c .before .loop .i) (omega (arith, c .loop-test .left, c .before .before .delay-count .ensures)) (c .before .loop .inv .1)
+returns c =
+    let turn = c .before in
+    let at-delay-count = turn .before in
+    let start = at-delay-count .before .before .before in
+    rows-end delayText (planIn (start .args .store .now) .delays) (turn .loop .i) (omega (arith, c .loop-test .left, at-delay-count .delay-count .ensures))
+    (turn .loop .inv .1)
 
 pub put-delays-spec : {M : Type 1} → statement M
 put-delays-spec =
-    tie.close
-    (tie.spec
-    Inv-loop
-    μ-loop
-    delay-count-requires
-    loop-holds
-    delay-at-requires
-    cast-put-delay
-    cast-put-delay-2
-    put-delay-requires
-    add-i
-    loop-less
-    loop-again
-    same-length
-    returns)
+    tie.close (tie.spec Inv-loop μ-loop (λ c κs. search needs) loop-holds delay-at-requires (λ c. search needs) (λ c. search needs)
+    put-delay-requires (λ c. search needs) (λ c. search needs) loop-again (λ c. search needs) returns)

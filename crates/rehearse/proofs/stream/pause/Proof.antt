@@ -161,7 +161,8 @@ module _ {M : Type 1} (𝓤 : URA M) (H : Heap 𝓤) (A : Atoms 𝓤) (W : Given
     -- of what the call ensures, that the time that is left has some last value
     last-of : (r : ℤ) → ent 𝓤 (Ensured r) (ex 𝓤 (λ (ws : Ends). sem 𝓤 H A (Last ws)))
     last-of r =
-        exE 𝓤 _ (λ ws. via 𝓤 (sem 𝓤 H A (Last ws)) (fst∗ 𝓤 (sem 𝓤 H A (Last ws)) (fact 𝓤 (Status r))) (exI 𝓤 (λ (us : Ends). sem 𝓤 H A (Last us)) ws))
+        exE 𝓤 _ (λ ws.
+        via 𝓤 (sem 𝓤 H A (Last ws)) (fst∗ 𝓤 (sem 𝓤 H A (Last ws)) (fact 𝓤 (Status r))) (exI 𝓤 (λ (us : Ends). sem 𝓤 H A (Last us)) ws))
 
   -- ---- the walk
 
@@ -191,9 +192,11 @@ module _ {M : Type 1} (𝓤 : URA M) (H : Heap 𝓤) (A : Atoms 𝓤) (W : Given
         use2 W (raw (Sleeps 𝓤 H A at-mem run .pre (bound α β γ δ l₁ l₂))) (goes α β γ δ l₁ l₂) $
         calls-at ! fm (Sleeps 𝓤 H A at-mem run) known (bound α β γ δ l₁ l₂)
         (and-then ! (load ! (from ! (stop !)) (look ! 5 refl)) (and-then ! (load ! (from ! (stop !)) (look ! 3 refl)) (no-more !))) (λ v.
-        use1 W (later (some (λ (r : ℤ). ((‵ (flft (α ∷ []) fullShare) ⊛ (‵ (flft (β ∷ []) fullShare) ⊛ ‵ ftrue)) ⊛ ‵ (i32 .own r (v ∷ [])))
+        use1 W (later (some (λ (r : ℤ).
+        ((‵ (flft (α ∷ []) fullShare) ⊛ (‵ (flft (β ∷ []) fullShare) ⊛ ‵ ftrue)) ⊛ ‵ (i32 .own r (v ∷ [])))
         ⊛ raw (Ensured α β γ δ l₁ l₂ r)))) (id⊢ 𝓤 _) $ await ! tt $ pick ! (λ r.
-        split ! $ move ! (1 ∷ []) $ use1 W (some (λ (ws : Ends α β γ δ l₁ l₂). ‵ (Last α β γ δ l₁ l₂ ws))) (last-of α β γ δ l₁ l₂ r) $ pick ! (λ ws.
+        split ! $ move ! (1 ∷ []) $
+        use1 W (some (λ (ws : Ends α β γ δ l₁ l₂). ‵ (Last α β γ δ l₁ l₂ ws))) (last-of α β γ δ l₁ l₂ r) $ pick ! (λ ws.
         fsplit ! $ move ! (1 ∷ []) $ fsplit ! $
         -- [the last value; true; true; the tokens and the result; lent β; lent α; _5; …; _4; …; _3; …; …; …; _0; …]
         move ! (3 ∷ []) $ split ! $ move ! (1 ∷ []) $ peeks ! i32 (Is i32) (shows 𝓤 H A i32) r (v ∷ []) (λ is.
@@ -208,15 +211,18 @@ module _ {M : Type 1} (𝓤 : URA M) (H : Heap 𝓤) (A : Atoms 𝓤) (W : Given
         assigns ! (of-opd ! (unit-lit !)) (from ! (stop !)) (init ! 13 refl (tt, tt)) $
         returns ! (look ! 13 refl) $ forget ! 0 refl $ forget ! 2 refl $ forget ! 5 refl $ forget ! 7 refl $ forget ! 9 refl $ forget ! 13 refl $
         move ! (13 ∷ 14 ∷ []) $ free1 ! $ move ! (2 ∷ 12 ∷ []) $ free1 ! $ move ! (0 ∷ 10 ∷ []) $ free1 ! $
-        move ! (7 ∷ 8 ∷ []) $ free1 ! $ move ! (5 ∷ 6 ∷ []) $ free1 ! $ move ! (3 ∷ 4 ∷ []) $ free1 ! $ free0 ! $ keep ! [] $ by ! exits))))))))))))))
+        move ! (7 ∷ 8 ∷ []) $ free1 ! $ move ! (5 ∷ 6 ∷ []) $ free1 ! $ move ! (3 ∷ 4 ∷ []) $ free1 ! $
+        free0 ! $ keep ! [] $ by ! exits))))))))))))))
 
   pause-walks : (C : Calls 𝓤 H) (Λ : Loops 𝓤 H) → FmC 𝓤 H (W .laws) C → Triple 𝓤 (C #nanosleep) (Sleeps 𝓤 H A at-mem run)
       → Walks 𝓤 H A pause.ended stayed (WpFn 𝓤 H C Λ code.function) (pause.clauses 𝓤 H A at-mem run)
   pause-walks C Λ fm known =
-      walked 𝓤 H A pause.ended stayed (pause.clauses 𝓤 H A at-mem run) (WpFn 𝓤 H C Λ code.function) (λ κs. tt) (λ κs. tt) (λ κs qs bounds a g are.
+      walked 𝓤 H A pause.ended stayed (pause.clauses 𝓤 H A at-mem run) (WpFn 𝓤 H C Λ code.function)
+      (λ κs. tt) (λ κs. tt) (λ κs qs bounds a g are.
       via 𝓤 (sep 𝓤 (emp 𝓤) (emp 𝓤)) (fst∗ 𝓤 _ (emp 𝓤)) (via 𝓤 (emp 𝓤) (fst∗ 𝓤 (emp 𝓤) (emp 𝓤)) (walk C Λ fm known)))
 
-pause-meets : {M : Type 1} (𝓤 : URA M) (H : Heap 𝓤) (A : Atoms 𝓤) → Given 𝓤 H A → (at-mem : Memory → SProp 𝓤) (run : Routine → Fun 𝓤) (𝓣 : Tables 𝓤 H)
+pause-meets : {M : Type 1} (𝓤 : URA M) (H : Heap 𝓤) (A : Atoms 𝓤) → Given 𝓤 H A
+    → (at-mem : Memory → SProp 𝓤) (run : Routine → Fun 𝓤) (𝓣 : Tables 𝓤 H)
     → Triple 𝓤 (𝓣 .C #nanosleep) (Sleeps 𝓤 H A at-mem run)
     → Meets 𝓤 H A pause.signature (WpFn 𝓤 H (𝓣 .C) (𝓣 .Λ) code.function) (pause.spec 𝓤 H A at-mem run)
 pause-meets 𝓤 H A W at-mem run 𝓣 known =

@@ -1,33 +1,15 @@
 -- `store::messages::clear_routes` meets its contract. Assumes nothing.
+use Rattle.store.specs.Columns.{eachPart}
+use Rattle.store.specs.Store.{routeParts}
 use borrow.Author.Needs.{needs}
 use Rattle.store.proofs.messages.clear_routes.Statement.{statement}
 use Rattle.store.proofs.messages.clear_routes.Tie as tie
 
-clear-field-requires : tie.Need-clear-field-requires
-clear-field-requires c κs = search needs
-
-clear-field-requires-2 : tie.Need-clear-field-requires-2
-clear-field-requires-2 c κs = search needs
-
-clear-field-requires-3 : tie.Need-clear-field-requires-3
-clear-field-requires-3 c κs = search needs
-
-clear-field-requires-4 : tie.Need-clear-field-requires-4
-clear-field-requires-4 c κs = search needs
-
-same-length : tie.Need-same-length
-same-length c = search needs
-
 returns : tie.Need-returns
+unfolding eachPart routeParts
 returns c = cc
 
 pub clear-routes-spec : {M : Type 1} → statement M
 clear-routes-spec =
-    tie.close
-    (tie.spec
-    clear-field-requires
-    clear-field-requires-2
-    clear-field-requires-3
-    clear-field-requires-4
-    same-length
+    tie.close (tie.spec (λ c κs. search needs) (λ c κs. search needs) (λ c κs. search needs) (λ c κs. search needs) (λ c. search needs)
     returns)

@@ -6,12 +6,6 @@ use borrow.Author.Needs.{needs}
 use Rattle.store.proofs.messages.close_gap.Statement.{statement}
 use Rattle.store.proofs.messages.close_gap.Tie as tie
 
-mul-e : tie.Need-mul-e
-mul-e c = search needs
-
-add-e : tie.Need-add-e
-add-e c = search needs
-
 mul-move-down : tie.Need-mul-move-down
 mul-move-down c = let b = c .before .before in let room = gap-room (b .args .w) (b .args .i) (b .args .n) (b .pre .0) in search needs
 
@@ -22,13 +16,16 @@ move-down-requires : tie.Need-move-down-requires
 move-down-requires c κs = let b = c .before .before in let room = gap-room (b .args .w) (b .args .i) (b .args .n) (b .pre .0) in search needs
 
 sub-clear : tie.Need-sub-clear
-sub-clear c = let b = c .before .before .before .before .before .before in let room = gap-room (b .args .w) (b .args .i) (b .args .n) (b .pre .0) in search needs
+sub-clear c =
+    let start = c .before .before .before .before .before .before in
+    let room = gap-room (start .args .w) (start .args .i) (start .args .n) (start .pre .0) in
+    search needs
 
 clear-requires : tie.Need-clear-requires
-clear-requires c κs = let b = c .before .before .before .before .before .before in let room = gap-room (b .args .w) (b .args .i) (b .args .n) (b .pre .0) in search needs
-
-same-length : tie.Need-same-length
-same-length c = search needs
+clear-requires c κs =
+    let start = c .before .before .before .before .before .before in
+    let room = gap-room (start .args .w) (start .args .i) (start .args .n) (start .pre .0) in
+    search needs
 
 returns : tie.Need-returns
 unfolding closed
@@ -36,14 +33,5 @@ returns c = c .before .before .clear .ensures ∙ rw (c .before .before .before 
 
 pub close-gap-spec : {M : Type 1} → statement M
 close-gap-spec =
-    tie.close
-    (tie.spec
-    mul-e
-    add-e
-    mul-move-down
-    add-move-down
-    move-down-requires
-    sub-clear
-    clear-requires
-    same-length
-    returns)
+    tie.close (tie.spec (λ c. search needs) (λ c. search needs) mul-move-down add-move-down move-down-requires sub-clear clear-requires
+    (λ c. search needs) returns)

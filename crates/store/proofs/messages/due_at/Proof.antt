@@ -6,17 +6,8 @@ use borrow.Author.Needs.{needs}
 use Rattle.store.proofs.messages.due_at.Statement.{statement}
 use Rattle.store.proofs.messages.due_at.Tie as tie
 
-mul-get4 : tie.Need-mul-get4
-mul-get4 c = search needs
-
-add-get4 : tie.Need-add-get4
-add-get4 c = search needs
-
-get4-requires : tie.Need-get4-requires
-get4-requires c κs = search needs
-
 returns : tie.Need-returns
 returns c = let b = c .before .before in c .get4 .ensures ∙ sym (ap (λ (m : InFlight). m .due) (message-read (b .args .s .now) (b .args .i) (b .pre .1)))
 
 pub due-at-spec : {M : Type 1} → statement M
-due-at-spec = tie.close (tie.spec mul-get4 add-get4 get4-requires returns)
+due-at-spec = tie.close (tie.spec (λ c. search needs) (λ c. search needs) (λ c κs. search needs) returns)

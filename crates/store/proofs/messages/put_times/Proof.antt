@@ -1,33 +1,15 @@
 -- `store::messages::put_times` meets its contract. Assumes nothing.
+use Rattle.store.specs.Columns.{eachPart}
+use Rattle.store.specs.Store.{timeParts}
 use borrow.Author.Needs.{needs}
 use Rattle.store.proofs.messages.put_times.Statement.{statement}
 use Rattle.store.proofs.messages.put_times.Tie as tie
 
-mul-put : tie.Need-mul-put
-mul-put c = search needs
-
-add-put : tie.Need-add-put
-add-put c = search needs
-
-put-requires : tie.Need-put-requires
-put-requires c κs = search needs
-
-mul-put-2 : tie.Need-mul-put-2
-mul-put-2 c = search needs
-
-add-put-2 : tie.Need-add-put-2
-add-put-2 c = search needs
-
-put-requires-2 : tie.Need-put-requires-2
-put-requires-2 c κs = search needs
-
-same-length : tie.Need-same-length
-same-length c = search needs
-
 returns : tie.Need-returns
+unfolding eachPart timeParts
 returns c = cc
 
 pub put-times-spec : {M : Type 1} → statement M
 put-times-spec =
-    tie.close
-    (tie.spec mul-put add-put put-requires mul-put-2 add-put-2 put-requires-2 same-length returns)
+    tie.close (tie.spec (λ c. search needs) (λ c. search needs) (λ c κs. search needs) (λ c. search needs) (λ c. search needs)
+    (λ c. search needs) (λ c κs. search needs) (λ c. search needs) returns)

@@ -9,11 +9,11 @@ use Rattle.store.proofs.nodes.set_node.Tie as tie
 put-node-requires : tie.Need-put-node-requires
 put-node-requires c κs = let q = c .before .before .pre in (omega (arith, q .1, q .0 .fits .counts .nodes), q .0 .size)
 
-same-length : tie.Need-same-length
-same-length c = search needs
-
 returns : tie.Need-returns
-returns c = let b = c .before .before .before .before .before in c .before .before .put-node .ensures ∙ put-node (b .args .s .now) (b .pre .0) (b .args .i) (b .args .n) (b .pre .1)
+returns c =
+    let after-put-node = c .before .before in
+    let start = after-put-node .before .before .before in
+    after-put-node .put-node .ensures ∙ put-node (start .args .s .now) (start .pre .0) (start .args .i) (start .args .n) (start .pre .1)
 
 pub set-node-spec : {M : Type 1} → statement M
-set-node-spec = tie.close (tie.spec put-node-requires same-length returns)
+set-node-spec = tie.close (tie.spec put-node-requires (λ c. search needs) returns)

@@ -7,21 +7,15 @@ use borrow.Author.Needs.{needs}
 use Rattle.store.proofs.plan.crash_done.Statement.{statement}
 use Rattle.store.proofs.plan.crash_done.Tie as tie
 
-crashes-done-requires : tie.Need-crashes-done-requires
-crashes-done-requires c κs = search needs
-
 add-put : tie.Need-add-put
 add-put c = let b = c .before .before .before .before in omega (arith, c .before .crashes-done .ensures, done-lt (b .args .s .now) (b .pre))
 
-put-requires : tie.Need-put-requires
-put-requires c κs = search needs
-
-same-length : tie.Need-same-length
-same-length c = search needs
-
 returns : tie.Need-returns
-returns c = let b = c .before .before .before .before .before .before .before in c .before .before .put .ensures ∙ rw (c .before .before .before .before .crashes-done .ensures) (put-crash (b .args .s .now) (b .pre))
+returns c =
+    let after-put = c .before .before in
+    let after-crashes-done = after-put .before .before in
+    let start = after-crashes-done .before .before .before in
+    after-put .put .ensures ∙ rw (after-crashes-done .crashes-done .ensures) (put-crash (start .args .s .now) (start .pre))
 
 pub crash-done-spec : {M : Type 1} → statement M
-crash-done-spec =
-    tie.close (tie.spec crashes-done-requires add-put put-requires same-length returns)
+crash-done-spec = tie.close (tie.spec (λ c κs. search needs) add-put (λ c κs. search needs) (λ c. search needs) returns)

@@ -4,15 +4,9 @@ use borrow.Author.Needs.{needs}
 use Rattle.store.proofs.plan.crashes_done.Statement.{statement}
 use Rattle.store.proofs.plan.crashes_done.Tie as tie
 
-get1-requires : tie.Need-get1-requires
-get1-requires c κs = search needs
-
-cast-result : tie.Need-cast-result
-cast-result c = search needs
-
 returns : tie.Need-returns
 unfolding stateIn
 returns c = search needs
 
 pub crashes-done-spec : {M : Type 1} → statement M
-crashes-done-spec = tie.close (tie.spec get1-requires cast-result returns)
+crashes-done-spec = tie.close (tie.spec (λ c κs. search needs) (λ c. search needs) returns)

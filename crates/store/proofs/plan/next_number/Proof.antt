@@ -4,12 +4,9 @@ use borrow.Author.Needs.{needs}
 use Rattle.store.proofs.plan.next_number.Statement.{statement}
 use Rattle.store.proofs.plan.next_number.Tie as tie
 
-get-requires : tie.Need-get-requires
-get-requires c κs = search needs
-
 returns : tie.Need-returns
 unfolding stateIn
 returns c = search needs
 
 pub next-number-spec : {M : Type 1} → statement M
-next-number-spec = tie.close (tie.spec get-requires returns)
+next-number-spec = tie.close (tie.spec (λ c κs. search needs) returns)

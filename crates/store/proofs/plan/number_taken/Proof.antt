@@ -5,23 +5,10 @@ use borrow.Author.Needs.{needs}
 use Rattle.store.proofs.plan.number_taken.Statement.{statement}
 use Rattle.store.proofs.plan.number_taken.Tie as tie
 
-next-number-requires : tie.Need-next-number-requires
-next-number-requires c κs = search needs
-
-add-put : tie.Need-add-put
-add-put c = search needs
-
-put-requires : tie.Need-put-requires
-put-requires c κs = search needs
-
-same-length : tie.Need-same-length
-same-length c = search needs
-
 returns : tie.Need-returns
 returns c =
     let z = c .before .before .before .before .before .before .before in
     c .before .before .put .ensures ∙ rw (c .before .before .before .before .next-number .ensures) (put-number (z .args .s .now) (z .pre .0))
 
 pub number-taken-spec : {M : Type 1} → statement M
-number-taken-spec =
-    tie.close (tie.spec next-number-requires add-put put-requires same-length returns)
+number-taken-spec = tie.close (tie.spec (λ c κs. search needs) (λ c. search needs) (λ c κs. search needs) (λ c. search needs) returns)

@@ -5,14 +5,8 @@ use borrow.Author.Needs.{needs}
 use Rattle.store.proofs.plan.set_tick.Statement.{statement}
 use Rattle.store.proofs.plan.set_tick.Tie as tie
 
-put-requires : tie.Need-put-requires
-put-requires c κs = search needs
-
-same-length : tie.Need-same-length
-same-length c = search needs
-
 returns : tie.Need-returns
 returns c = let b = c .before .before .before .before .before in c .before .before .put .ensures ∙ put-tick (b .args .s .now) (b .pre) (b .args .t)
 
 pub set-tick-spec : {M : Type 1} → statement M
-set-tick-spec = tie.close (tie.spec put-requires same-length returns)
+set-tick-spec = tie.close (tie.spec (λ c κs. search needs) (λ c. search needs) returns)

@@ -1,0 +1,3 @@
+pub mod RowTests
+pub mod StateTests
+pub mod Whole

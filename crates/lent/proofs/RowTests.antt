@@ -1,0 +1,206 @@
+-- A plan's tests, row by row: as long as the rows before place i pass, the test of all rows is that of the rows from i on. Assumes nothing.
+use Prim.Native.Nat.{ℕ, zero, suc, _+_, _≤_, _<_}
+use mathlib.Core.Path.{_≡_, refl, sym, ap, _∙_}
+use mathlib.Core.Bool.{Bool, true, false, not, _&&_}
+use mathlib.Core.List.{List, [], _∷_}
+use native.Mathlib.Numerals.{add-one}
+use native.Mathlib.Omega.{arith}
+use borrow.Author.Tests.{eq-eqb, ne-eqb, leb-true, le-leb, lt-leb, le-ltb, lt-ltb}
+use lib.Dec.{leb, ltb}
+use lib.ListN.{length, getD, drop, drop-of-length-le}
+use lib.Seq.{drop-cons}
+use Rattle.fields.proofs.Answers.{fails, holds}
+use Rattle.limits.specs.Limits.{mostNodes, mostH, mostW, mostD, mostTick, mostNumber, mostDelays}
+use Rattle.plans.specs.Plan.{Plan, Crash, Delay, within, startRanges, crashRange, delayRange, risingFrom, rising, later, hits, noneTwice, above, delayOrder}
+use Rattle.plans.specs.Plan.{fewDelays, every, orderTest, delayTest}
+use Rattle.plans.proofs.Orders.{number-order-taken}
+use Rattle.plans.specs.Plain.{noCrash}
+use Rattle.model.proofs.Bools.{and-split}
+use Rattle.store.specs.declared.CrashRow.{CrashRow}
+use Rattle.store.specs.declared.DelayRow.{DelayRow}
+use Rattle.store.specs.Inside.{crashRow, delayRow}
+use Rattle.store.specs.Store.{planIn}
+
+-- ---- the order
+
+-- the plan that a store holds is in number order
+pub order-taken : (b : List ℕ) {r x : Bool} → r ≡ x → r ≡ (orderTest (planIn b) && x)
+unfolding planIn
+order-taken b {r} {x} e = e ∙ sym (ap (λ (t : Bool). t && x) (number-order-taken (planIn b) refl))
+
+-- ---- a row as it was read
+
+crash-tick : {row : CrashRow} {r : Crash} → row ≡ crashRow r → row .tick ≡ r .tick
+crash-tick e = ap (λ (q : CrashRow). q .tick) e
+
+crash-node : {row : CrashRow} {r : Crash} → row ≡ crashRow r → row .node ≡ r .node
+crash-node e = ap (λ (q : CrashRow). q .node) e
+
+delay-number : {row : DelayRow} {r : Delay} → row ≡ delayRow r → row .number ≡ r .number
+delay-number e = ap (λ (q : DelayRow). q .number) e
+
+-- ---- rows of any kind
+
+-- the row at a place and those after it
+from-place : {A : Type 0} (rows : List A) (i : ℕ) (d : A) → i < length rows → drop i rows ≡ getD rows i d ∷ drop (i + 1) rows
+from-place rows i d h = rw (add-one i) (drop-cons rows i d h)
+
+module _ {A : Type 0} (test : A → Bool) (rows : List A) (i : ℕ) (so-far : every test rows ≡ every test (drop i rows)) where
+  pub every-turn : (d : A) → i < length rows → test (getD rows i d) ≡ true → every test rows ≡ every test (drop (i + 1) rows)
+  unfolding every
+  every-turn d h t = so-far ∙ rw (from-place rows i d h, t)
+
+  pub every-stop : (d : A) → i < length rows → test (getD rows i d) ≡ false → every test rows ≡ false
+  unfolding every
+  every-stop d h t = so-far ∙ rw (from-place rows i d h, t)
+
+  pub every-end : length rows ≤ i → every test rows ≡ true
+  unfolding every
+  every-end h = so-far ∙ rw (drop-of-length-le rows h)
+
+module _ {A : Type 0} (after : A → A → Bool) (rows : List A) (i : ℕ) (so-far : rising after rows ≡ rising after (drop i rows)) where
+  two-places : (d : A) → i + 1 < length rows → drop i rows ≡ getD rows i d ∷ (getD rows (i + 1) d ∷ drop (i + 1 + 1) rows)
+  two-places d h = from-place rows i d (omega arith) ∙ rw (from-place rows (i + 1) d h)
+
+  pub rising-turn : (d : A) → i + 1 < length rows → after (getD rows i d) (getD rows (i + 1) d) ≡ true
+      → rising after rows ≡ rising after (drop (i + 1) rows)
+  unfolding rising risingFrom
+  rising-turn d h t = so-far ∙ rw (two-places d h, t, from-place rows (i + 1) d h)
+
+  pub rising-stop : (d : A) → i + 1 < length rows → after (getD rows i d) (getD rows (i + 1) d) ≡ false → rising after rows ≡ false
+  unfolding rising risingFrom
+  rising-stop d h t = so-far ∙ rw (two-places d h, t)
+
+  pub rising-end : length rows ≤ i + 1 → rising after rows ≡ true
+  unfolding rising risingFrom
+  rising-end h = so-far ∙ short rows i h
+    where
+      one : (l : List A) → length l ≤ 1 → rising after l ≡ true
+      one [] h = refl
+      one (x ∷ []) h = refl
+      one (x ∷ (y ∷ l)) h = absurd (omega arith)
+
+      short : (l : List A) (i : ℕ) → length l ≤ i + 1 → rising after (drop i l) ≡ true
+      short l zero h = one l h
+      short [] (suc i) h = refl
+      short (x ∷ l) (suc i) h = short l i (omega arith)
+
+-- ---- C rows
+
+module _ (p : Plan) (r : Crash) {row : CrashRow} {end : ℕ} (got : row ≡ crashRow r) (ends : end ≡ p .end) where
+  pub crash-late : end < row .tick → crashRange p r ≡ false
+  unfolding crashRange
+  crash-late h = rw (lt-leb (r .tick) (p .end) (omega (arith, crash-tick got)))
+
+  pub crash-in-time : row .tick ≤ end → {n : ℕ} → n ≡ p .n → crashRange p r ≡ ltb (row .node) n
+  unfolding crashRange
+  crash-in-time h e = rw (le-leb (r .tick) (p .end) (omega (arith, crash-tick got)), e, got)
+
+module _ (a b : Crash) {row next : CrashRow} (got : row ≡ crashRow a) (got-next : next ≡ crashRow b) where
+  pub later-by-tick : row .tick < next .tick → later a b ≡ true
+  unfolding later
+  later-by-tick h = rw (lt-ltb (a .tick) (b .tick) (omega (arith, crash-tick got, crash-tick got-next)))
+
+  pub not-later : next .tick ≤ row .tick → (row .tick ≡ next .tick → ⊥) → later a b ≡ false
+  unfolding later
+  not-later h d =
+      rw (
+        le-ltb (a .tick) (b .tick) (omega (arith, crash-tick got, crash-tick got-next)),
+        ne-eqb (a .tick) (b .tick) (λ e. d (crash-tick got ∙ e ∙ sym (crash-tick got-next))),
+      )
+
+  pub later-by-node : next .tick ≤ row .tick → row .tick ≡ next .tick → later a b ≡ ltb (row .node) (next .node)
+  unfolding later
+  later-by-node h e =
+      rw (
+        le-ltb (a .tick) (b .tick) (omega (arith, crash-tick got, crash-tick got-next)),
+        eq-eqb (a .tick) (b .tick) (sym (crash-tick got) ∙ e ∙ crash-tick got-next),
+        got,
+        got-next,
+      )
+
+-- rows of node k, from the place first on
+module _ (rows : List Crash) (first k i : ℕ) (so-far : hits (drop first rows) k ≡ hits (drop i rows) k) where
+  pub hit-none : length rows ≤ i → hits (drop first rows) k ≡ false
+  unfolding hits
+  hit-none h = so-far ∙ rw (drop-of-length-le rows h)
+
+  module _ {row : CrashRow} (got : row ≡ crashRow (getD rows i noCrash)) (inside : i < length rows) where
+    pub hit-found : row .node ≡ k → hits (drop first rows) k ≡ true
+    unfolding hits
+    hit-found e = so-far ∙ rw (from-place rows i noCrash inside, eq-eqb (getD rows i noCrash .node) k (sym (crash-node got) ∙ e))
+
+    pub hit-turn : (row .node ≡ k → ⊥) → hits (drop first rows) k ≡ hits (drop (i + 1) rows) k
+    unfolding hits
+    hit-turn d = so-far ∙ rw (from-place rows i noCrash inside, ne-eqb (getD rows i noCrash .node) k (λ e. d (crash-node got ∙ e)))
+
+module _ (rows : List Crash) (i : ℕ) (so-far : noneTwice rows ≡ noneTwice (drop i rows)) where
+  pub once-end : length rows ≤ i → noneTwice rows ≡ true
+  unfolding noneTwice
+  once-end h = so-far ∙ rw (drop-of-length-le rows h)
+
+  module _ {row : CrashRow} {hit : Bool} (got : row ≡ crashRow (getD rows i noCrash)) (told : hit ≡ hits (drop (i + 1) rows) (row .node))
+      (inside : i < length rows) where
+    told-row : hits (drop (i + 1) rows) (getD rows i noCrash .node) ≡ hit
+    told-row = ap (hits (drop (i + 1) rows)) (sym (crash-node got)) ∙ sym told
+
+    pub once-stop : hit ≡ true → noneTwice rows ≡ false
+    unfolding noneTwice
+    once-stop e = so-far ∙ rw (from-place rows i noCrash inside, told-row, e)
+
+    pub once-turn : hit ≡ false → noneTwice rows ≡ noneTwice (drop (i + 1) rows)
+    unfolding noneTwice
+    once-turn e = so-far ∙ rw (from-place rows i noCrash inside, told-row, e)
+
+-- ---- L rows
+
+module _ (p : Plan) (r : Delay) {row : DelayRow} (got : row ≡ delayRow r) where
+  pub delay-number-high : mostNumber < row .number → delayRange p r ≡ false
+  unfolding delayRange
+  delay-number-high h = rw (lt-leb (r .number) mostNumber (omega (arith, delay-number got)))
+
+  pub delay-number-low : row .number ≤ mostNumber → {d : ℕ} → d ≡ p .d → delayRange p r ≡ within 1 d (row .delay)
+  unfolding delayRange
+  delay-number-low h e = rw (le-leb (r .number) mostNumber (omega (arith, delay-number got)), e, got)
+
+module _ (a b : Delay) {row next : DelayRow} (got : row ≡ delayRow a) (got-next : next ≡ delayRow b) where
+  pub above-next : row .number < next .number → above a b ≡ true
+  unfolding above
+  above-next h = lt-ltb (a .number) (b .number) (omega (arith, delay-number got, delay-number got-next))
+
+  pub not-above : next .number ≤ row .number → above a b ≡ false
+  unfolding above
+  not-above h = le-ltb (a .number) (b .number) (omega (arith, delay-number got, delay-number got-next))
+
+and-true : (a : Bool) → (a && true) ≡ a
+and-true true = refl
+and-true false = refl
+
+-- where the L rows are in range and no more than places, their order decides
+pub delays-by-order : (p : Plan) → length (p .delays) ≤ mostDelays → every (delayRange p) (p .delays) ≡ true → delayTest p ≡ delayOrder (p .delays)
+unfolding delayTest fewDelays
+delays-by-order p few pass = rw (pass, le-leb (length (p .delays)) mostDelays few) (and-true (delayOrder (p .delays)))
+
+-- ---- the P line
+
+-- a number y, read as x, whose test was answered
+module _ (low high : ℕ) {x y : ℕ} {b : Bool} (got : x ≡ y) (told : b ≡ within low high x) where
+  pub outside : not b ≡ true → within low high y ≡ false
+  outside h = rw (← got) (fails told h)
+
+  pub inside : not b ≡ false → within low high y ≡ true
+  inside h = rw (← got) (holds told h)
+
+within-high : (low high x : ℕ) → within low high x ≡ true → x ≤ high
+unfolding within
+within-high low high x h = leb-true x high (and-split (leb low x) (leb x high) h .1)
+
+-- H and D of a P line in range are so small that their sum is
+pub sum-small : (p : Plan) → startRanges p ≡ true → p .h + p .d ≤ mostH + mostD
+unfolding startRanges
+sum-small p t =
+    let n = and-split (within 1 mostNodes (p .n)) _ t in
+    let h = and-split (within 1 mostH (p .h)) _ (n .1) in
+    let w = and-split (within 1 mostW (p .w)) _ (h .1) in
+    let d = and-split (within 1 mostD (p .d)) (within 0 mostTick (p .end)) (w .1) in
+    omega (arith, within-high 1 mostH (p .h) (h .0), within-high 1 mostD (p .d) (d .0))

@@ -1,0 +1,207 @@
+-- Each rule leaves a live node in range in range, and what it sends is sendable. It holds in any ring order. Assumes nothing.
+use mathlib.Core.Path.{_≡_, refl, sym, _∙_}
+use mathlib.Core.Logic.{_⊎_, inl, inr, _≢_}
+use mathlib.Core.Bool.{false}
+use mathlib.Core.List.{List, List·Memᴰ, List·Memᴰ·not-nil, List·Memᴰ·cases-cons, List·Memᴰ·eq-of-singleton}
+use Prim.Native.Nat.{ℕ, _^_, _≤_, _<_}
+use native.Mathlib.Omega.{arith}
+use borrow.Author.Tests.{eqb-false}
+use lib.ListN.{length}
+use lib.Pow.{pow-pos}
+use Rattle.limits.specs.Limits.{mostNodes, mostSent}
+use Rattle.ring.specs.Ring.{listed, place, targets, InOrder}
+use Rattle.ring.proofs.Lists.{listing-lt, listing-lists, listing-other, listed-none}
+use Rattle.ring.proofs.Neighbours.{open-back-below, open-back-other, open-next-below, open-next-other, count-some, back-below}
+use Rattle.node.specs.declared.Message.{Message}
+use Rattle.node.specs.declared.Node.{Node}
+use Rattle.node.specs.Node.{Turn, off, H, O, R, message, reports, silent, leftList, newEmitter}
+use Rattle.node.specs.Node.{opening, onHeartbeat, onObserver, onReport, onHeartbeatDue, leaving, onWatchDue, onMessage}
+use Rattle.node.specs.Range.{NodeRange, LiveRange, NotOverdue, Known}
+use Rattle.node.proofs.Moves.{Opened, joins, starts-alone, opened, Heard, renews, unheard, heard, observed}
+use Rattle.node.proofs.Moves.{Reported, known, own, relays, reported, Left, stops, moves, left, beaten}
+use Rattle.node.proofs.Sends.{Sendable, reports-sendable, report-few, leaving-few}
+
+-- fields in range stay so at a later tick
+pub later-range : (n h w t u : ℕ) (a : Node) → t ≤ u → NodeRange n h w t a → NodeRange n h w u a
+later-range n h w t u a l f = record {
+  emitter = f .emitter;
+  observer = f .observer;
+  list = f .list;
+  watch = omega (arith, f .watch);
+  heartbeat = omega (arith, f .heartbeat);
+}
+
+-- a turn that node me, which was a and in range at the last tick, takes at tick t: the node after it is in range if t is not before the
+-- last tick, no timer of it is overdue where none was, and what it sends is sendable and at most seven messages
+pub record Took (n h w last t me : ℕ) (a : Node) (u : Turn) : Type 0 where
+  pub fields : last ≤ t → NodeRange n h w t (u .node)
+  pub live : LiveRange me (u .node)
+  pub timers : NotOverdue t a → NotOverdue t (u .node)
+  pub sends : (v : Message) → List·Memᴰ v (u .sends) → Sendable n me v
+  pub few : length (u .sends) ≤ mostSent
+
+module _ (n : ℕ) (order : List ℕ) (io : InOrder n order) (me : ℕ) (below : me < n) where
+  -- ---- opening
+
+  pub opening-range : (h w : ℕ) → NodeRange n h w 0 (opening order h w me) × LiveRange me (opening order h w me)
+  opening-range h w = go (opening order h w me) (opened order h w me)
+    where
+      go : (a : Node) → Opened order h w me a → NodeRange n h w 0 a × LiveRange me a
+      go a (joins two) =
+          let two-n : 1 < n = omega (arith, io .size) in (
+            record {
+              emitter = open-back-below n order io me below;
+              observer = open-next-below n order io me below;
+              list = pow-pos n;
+              watch = omega arith;
+              heartbeat = omega arith;
+            },
+            record {
+              lists = listed-none me;
+              observes = λ on. open-back-other n order io me below two-n;
+              sends = λ on. open-next-other n order io me below two-n;
+            },
+          )
+      go a (starts-alone one) = (
+        record { emitter = below; observer = below; list = pow-pos n; watch = omega arith; heartbeat = omega arith },
+        record { lists = listed-none me; observes = λ on. absurd (on refl); sends = λ on. absurd (on refl) },
+      )
+
+  -- ---- a turn
+
+  module _ (few : n ≤ mostNodes) (h w last t : ℕ) (a : Node) (f : NodeRange n h w last a) (l : LiveRange me a) where
+    order-few : length order ≤ mostNodes
+    order-few = rw (io .size) few
+
+    pub silent-took : Took n h w last t me a (silent a)
+    silent-took =
+        record {
+          fields = λ late. later-range n h w last t a late f;
+          live = l;
+          timers = λ o. o;
+          sends = λ v m. absurd (List·Memᴰ·not-nil m);
+          few = omega arith;
+        }
+
+    pub heartbeat-took : (from : ℕ) → from ≢ me → Took n h w last t me a (onHeartbeat w t from a)
+    heartbeat-took from ne = go (onHeartbeat w t from a) (heard w t from a)
+      where
+        go : (u : Turn) → Heard w t from a u → Took n h w last t me a u
+        go u (unheard e) = silent-took
+        go u (renews e) = record {
+          fields = λ late.
+              record { emitter = f .emitter; observer = f .observer; list = f .list; watch = omega arith; heartbeat = omega (arith, f .heartbeat, late) };
+          live = record { lists = l .lists; observes = λ on q. ne (sym e ∙ q); sends = l .sends };
+          timers = λ o. record { watch = λ on. omega arith; heartbeat = o .heartbeat };
+          sends = λ v m. absurd (List·Memᴰ·not-nil m);
+          few = omega arith;
+        }
+
+    pub observer-took : (from : ℕ) → from < n → from ≢ me → Took n h w last t me a (onObserver t from a)
+    observer-took from fN ne = rw (observed t from a) (record {
+      fields = λ late. record { emitter = f .emitter; observer = fN; list = f .list; watch = omega (arith, f .watch, late); heartbeat = omega arith };
+      live = record { lists = l .lists; observes = l .observes; sends = λ on. ne };
+      timers = λ o. record { watch = o .watch; heartbeat = λ on. omega arith };
+      sends = λ v m. absurd (List·Memᴰ·not-nil m);
+      few = omega arith;
+    })
+
+    pub report-took : (subject : ℕ) → subject < n → Took n h w last t me a (onReport order me subject a)
+    report-took subject sN = go (onReport order me subject a) (reported order me subject a) (report-few order order-few me subject a)
+      where
+        go : (u : Turn) → Reported order me subject a u → length (u .sends) ≤ mostSent → Took n h w last t me a u
+        go u (known e) s = silent-took
+        go u (own e) s = silent-took
+        go u (relays e ne) s =
+            let un = listing-other (a .list) subject me ne (l .lists) in
+            record {
+              fields = λ late. record {
+                emitter = f .emitter;
+                observer = f .observer;
+                list = listing-lt n (a .list) subject (f .list) sN;
+                watch = omega (arith, f .watch, late);
+                heartbeat = omega (arith, f .heartbeat, late);
+              };
+              live = record { lists = un; observes = l .observes; sends = l .sends };
+              timers = λ o. record { watch = o .watch; heartbeat = o .heartbeat };
+              sends = reports-sendable n order io me below _ un subject sN (listing-lists (a .list) subject);
+              few = s;
+            }
+
+    pub message-took : (kind from subject : ℕ) → Known kind → from < n → from ≢ me → (kind ≡ R → subject < n)
+        → Took n h w last t me a (onMessage order w t me kind from subject a)
+    unfolding onMessage
+    message-took kind from subject (inl e) fN ne sN = rw e (heartbeat-took from ne)
+    message-took kind from subject (inr (inl e)) fN ne sN = rw e (observer-took from fN ne)
+    message-took kind from subject (inr (inr e)) fN ne sN = rw e (report-took subject (sN e))
+
+    pub beat-took : a .heartbeat ≢ off → Took n h w last t me a (onHeartbeatDue h t a)
+    beat-took on = rw (beaten h t a) (record {
+      fields = λ late. record { emitter = f .emitter; observer = f .observer; list = f .list; watch = omega (arith, f .watch, late); heartbeat = omega arith };
+      live = record { lists = l .lists; observes = l .observes; sends = λ z. l .sends on };
+      timers = λ o. record { watch = o .watch; heartbeat = λ z. omega arith };
+      sends = λ v m. rw (List·Memᴰ·eq-of-singleton m) (record {
+        kind = inl refl;
+        to = f .observer;
+        apart = l .sends on;
+        subject = omega arith;
+        about = λ q. absurd (eqb-false H R refl q);
+      });
+      few = omega arith;
+    })
+
+    -- ---- leaving an emitter that is another node
+
+    module _ (ne : a .emitter ≢ me) where
+      pub left-unlisted : listed (leftList a) me ≡ false
+      left-unlisted = listing-other (a .list) (a .emitter) me ne (l .lists)
+
+      pub new-emitter-below : newEmitter order a < n
+      new-emitter-below =
+          back-below n (leftList a) order io (place order (a .emitter)) (count-some n (leftList a) order io me below left-unlisted)
+
+      pub leaving-took : Took n h w last t me a (leaving order w t me a)
+      leaving-took = go (leaving order w t me a) (left order w t me a) (leaving-few order order-few w t me a)
+        where
+          within : leftList a < 2 ^ n
+          within = listing-lt n (a .list) (a .emitter) (f .list) (f .emitter)
+
+          sent : (v : Message) → newEmitter order a ≢ me
+              → (v ≡ message O (newEmitter order a) 0) ⊎ List·Memᴰ v (reports (a .emitter) (targets order (leftList a) (place order me)))
+              → Sendable n me v
+          sent v other (inl e) =
+              rw e (record {
+                kind = inr (inl refl);
+                to = new-emitter-below;
+                apart = other;
+                subject = omega arith;
+                about = λ q. absurd (eqb-false O R refl q);
+              })
+          sent v other (inr m) =
+              reports-sendable n order io me below (leftList a) left-unlisted (a .emitter) (f .emitter) (listing-lists (a .list) (a .emitter)) v m
+
+          go : (u : Turn) → Left order w t me a u → length (u .sends) ≤ mostSent → Took n h w last t me a u
+          go u (stops e) s = record {
+            fields = λ late. record { emitter = below; observer = below; list = within; watch = omega arith; heartbeat = omega arith };
+            live = record { lists = left-unlisted; observes = λ on. absurd (on refl); sends = λ on. absurd (on refl) };
+            timers = λ o. record { watch = λ on. absurd (on refl); heartbeat = λ on. absurd (on refl) };
+            sends = λ v m. absurd (List·Memᴰ·not-nil m);
+            few = s;
+          }
+          go u (moves other) s = record {
+            fields = λ late.
+                record {
+                  emitter = new-emitter-below;
+                  observer = f .observer;
+                  list = within;
+                  watch = omega arith;
+                  heartbeat = omega (arith, f .heartbeat, late);
+                };
+            live = record { lists = left-unlisted; observes = λ on. other; sends = l .sends };
+            timers = λ o. record { watch = λ on. omega arith; heartbeat = o .heartbeat };
+            sends = λ v m. sent v other (List·Memᴰ·cases-cons m);
+            few = s;
+          }
+
+    pub watch-took : a .watch ≢ off → Took n h w last t me a (onWatchDue order w t me a)
+    watch-took on = leaving-took (l .observes on)

@@ -1,0 +1,97 @@
+-- What a rule sends: kinds, receivers, subjects, and that there are at most seven. Assumes nothing.
+use mathlib.Core.Path.{_≡_, refl, sym, ap, _∙_}
+use mathlib.Core.Logic.{inr, _≢_}
+use mathlib.Core.Bool.{true, false, true≢false}
+use mathlib.Core.List.{List, List·Memᴰ, Memᴰ·map, Memᴰ·of-map}
+use Prim.Native.Nat.{ℕ, _≤_, _<_}
+use native.Mathlib.Omega.{arith}
+use lib.ListN.{length}
+use Rattle.limits.specs.Limits.{mostNodes, mostSent}
+use Rattle.ring.specs.Ring.{rowSize, listed, listing, place, targets, InOrder}
+use Rattle.ring.proofs.Counts.{targets-few}
+use Rattle.ring.proofs.Targets.{target-below, target-other, target-unlisted}
+use Rattle.node.specs.declared.Message.{Message}
+use Rattle.node.specs.declared.Node.{Node}
+use Rattle.node.specs.Node.{Turn, R, message, reports, onReport, leftList, leaving, onMessage}
+use Rattle.node.specs.Range.{Known}
+use Rattle.node.proofs.Messages.{length-reports}
+use Rattle.node.proofs.Moves.{Heard, renews, unheard, Reported, known, own, relays, reported}
+use Rattle.node.proofs.Moves.{Messaged, beats, observes, tells, messaged, Left, stops, moves, left}
+
+-- a message that node me of n may send: to another node, and of a subject that is a node; on R, not the receiver
+pub record Sendable (n me : ℕ) (v : Message) : Type 0 where
+  pub kind : Known (v .kind)
+  pub to : v .to < n
+  pub apart : v .to ≢ me
+  pub subject : v .subject < n
+  pub about : v .kind ≡ R → v .subject ≢ v .to
+
+-- ---- reports
+
+module _ (subject : ℕ) (nodes : List ℕ) where
+  pub report-of : (v : Message) → List·Memᴰ v (reports subject nodes) → (y : ℕ) × List·Memᴰ y nodes × (message R y subject ≡ v)
+  unfolding reports
+  report-of v m = Memᴰ·of-map (λ y. message R y subject) nodes m
+
+  pub report-to : (y : ℕ) → List·Memᴰ y nodes → List·Memᴰ (message R y subject) (reports subject nodes)
+  unfolding reports
+  report-to y m = Memᴰ·map (λ y. message R y subject) m
+
+-- the forward targets of node me, by a list d that does not have it
+module _ (n : ℕ) (order : List ℕ) (io : InOrder n order) (me : ℕ) (below : me < n) (d : ℕ) (un : listed d me ≡ false) where
+  pub target-apart : (y : ℕ) → List·Memᴰ y (targets order d (place order me)) → y ≢ me
+  target-apart y m e =
+      target-other n d order io (place order me) y m (io .placed me below) (ap (listed d) (io .has me below) ∙ un)
+      (e ∙ sym (io .has me below))
+
+  -- reports of a subject that the list has
+  pub reports-sendable : (subject : ℕ) → subject < n → listed d subject ≡ true
+      → (v : Message) → List·Memᴰ v (reports subject (targets order d (place order me))) → Sendable n me v
+  reports-sendable subject sN on v m =
+      let r = report-of subject (targets order d (place order me)) v m in
+      let open-y : listed d (r .0) ≡ false = target-unlisted n d order io (place order me) (r .0) (r .1) in
+      rw (← (r .2)) (record {
+        kind = inr (inr refl);
+        to = target-below n d order io (place order me) (r .0) (r .1);
+        apart = target-apart (r .0) (r .1);
+        subject = sN;
+        about = λ q e. true≢false (sym on ∙ ap (listed d) e ∙ open-y);
+      })
+
+-- ---- how many
+
+module _ (order : List ℕ) (few : length order ≤ mostNodes) where
+  pub reports-few : (subject d p : ℕ) → length (reports subject (targets order d p)) ≤ rowSize
+  reports-few subject d p = rw (length-reports subject (targets order d p)) (targets-few order d p few)
+
+  pub report-few : (me subject : ℕ) (n : Node) → length (onReport order me subject n .sends) ≤ mostSent
+  report-few me subject n = go (onReport order me subject n) (reported order me subject n)
+    where
+      go : (u : Turn) → Reported order me subject n u → length (u .sends) ≤ mostSent
+      go u (known e) = omega arith
+      go u (own e) = omega arith
+      go u (relays e f) = omega (arith, reports-few subject (listing (n .list) subject) (place order me))
+
+  pub leaving-few : (w tick me : ℕ) (n : Node) → length (leaving order w tick me n .sends) ≤ mostSent
+  leaving-few w tick me n = go (leaving order w tick me n) (left order w tick me n)
+    where
+      go : (u : Turn) → Left order w tick me n u → length (u .sends) ≤ mostSent
+      go u (stops e) = omega arith
+      go u (moves e) = omega (arith, reports-few (n .emitter) (leftList n) (place order me))
+
+  pub message-few : (w tick me kind from subject : ℕ) (n : Node) → length (onMessage order w tick me kind from subject n .sends) ≤ mostSent
+  message-few w tick me kind from subject n = go _ (messaged order w tick me kind from subject n)
+    where
+      silent-few : (u : Turn) → Heard w tick from n u → length (u .sends) ≤ mostSent
+      silent-few u (renews e) = omega arith
+      silent-few u (unheard e) = omega arith
+
+      told-few : (u : Turn) → Reported order me subject n u → length (u .sends) ≤ mostSent
+      told-few u (known e) = omega arith
+      told-few u (own e) = omega arith
+      told-few u (relays e f) = omega (arith, reports-few subject (listing (n .list) subject) (place order me))
+
+      go : (u : Turn) → Messaged order w tick me kind from subject n u → length (u .sends) ≤ mostSent
+      go u (beats e v h) = silent-few v h
+      go u (observes e) = omega arith
+      go u (tells e f v r) = told-few v r

@@ -1,0 +1,29 @@
+-- `node::node_in_range` meets its contract. Assumes nothing.
+use Rattle.node.proofs.Tests.{emitter-out, observer-out, list-out, watch-out, heartbeat-last}
+use borrow.Author.Needs.{needs}
+use Rattle.node.proofs.node_in_range.Statement.{statement}
+use Rattle.node.proofs.node_in_range.Tie as tie
+
+returns : tie.Need-returns
+returns c = emitter-out _ _ _ _ _ (c .if1 .taken)
+
+returns-2 : tie.Need-returns-2
+returns-2 c = observer-out _ _ _ _ _ (search needs) (c .if2 .taken)
+
+returns-3 : tie.Need-returns-3
+returns-3 c = list-out _ _ _ _ _ (search needs) (search needs) _ (c .before .before .all-nodes .ensures) (c .if3 .taken)
+
+returns-4 : tie.Need-returns-4
+returns-4 c =
+    let all = c .before .before .before .before .all-nodes .ensures in
+    watch-out _ _ _ _ _ (search needs) (search needs) _ all (search needs) (c .if4 .taken)
+
+returns-5 : tie.Need-returns-5
+returns-5 c =
+    let all = c .before .before .before .before .before .all-nodes .ensures in
+    heartbeat-last _ _ _ _ _ (search needs) (search needs) _ all (search needs) (search needs)
+
+pub node-in-range-spec : {M : Type 1} → statement M
+node-in-range-spec =
+    tie.close (tie.spec returns returns-2 (λ c κs. search needs) returns-3 (λ c. search needs) (λ c. search needs) (λ c. search needs) returns-4
+    (λ c. search needs) (λ c. search needs) returns-5)

@@ -1,0 +1,6 @@
+pub mod Bools
+pub mod Orders
+pub mod Rows
+pub mod Tests
+pub mod Few
+pub mod Facts

@@ -1,0 +1,163 @@
+-- Tests of rows: of one among others, of those at the start, of one more at the end. Assumes nothing.
+use Prim.Native.Nat.{ℕ, zero, suc, _+_, _≤_, _<_}
+use native.Mathlib.Omega.{arith}
+use native.Mathlib.Decide.{ℕ-discrete}
+use mathlib.Core.Path.{_≡_, refl, sym, ap, _∙_}
+use mathlib.Core.Bool.{Bool, true, false, not, _&&_, _||_, or-false, or-assoc}
+use mathlib.Core.List.{List, [], _∷_, _++_}
+use mathlib.Mathlib.Data.Bool.Basic.{and-elim-left, and-elim-right}
+use borrow.Author.Tests.{eq-eqb, ne-eqb, le-leb, leb-true, ltb-true, not-true}
+use lib.Dec.{eqb, leb, ltb}
+use lib.ListN.{length, getD, length-append}
+use Rattle.limits.specs.Limits.{mostNumber, mostDelays}
+use Rattle.plans.specs.Plan.{Crash, Delay, Plan, within, crashRange, delayRange, risingFrom, rising, later, hits, noneTwice, crashOrder, above}
+use Rattle.plans.specs.Plan.{delayOrder, fewDelays, every}
+
+-- ---- a test that every row passes
+
+pub every-at : {A : Type 0} (test : A → Bool) (l : List A) (i : ℕ) (d : A) → every test l ≡ true → i < length l → test (getD l i d) ≡ true
+unfolding every
+every-at test [] i d h k = absurd (omega arith)
+every-at test (x ∷ l) zero d h k = and-elim-left (test x) (every test l) h
+every-at test (x ∷ l) (suc i) d h k = every-at test l i d (and-elim-right (test x) (every test l) h) (omega arith)
+
+pub every-snoc : {A : Type 0} (test : A → Bool) (xs : List A) (r : A) → every test xs ≡ true → test r ≡ true
+    → every test (xs ++ (r ∷ [])) ≡ true
+unfolding every
+every-snoc test [] r h e = rw e
+every-snoc test (x ∷ xs) r h e =
+    rw (and-elim-left (test x) (every test xs) h) (every-snoc test xs r (and-elim-right (test x) (every test xs) h) e)
+
+-- rows that pass a test pass a weaker one
+pub every-weaker : {A : Type 0} (test weaker : A → Bool) → ((r : A) → test r ≡ true → weaker r ≡ true) → (rs : List A) → every test rs ≡ true
+    → every weaker rs ≡ true
+unfolding every
+every-weaker test weaker h [] e = refl
+every-weaker test weaker h (r ∷ rs) e =
+    rw (h r (and-elim-left (test r) (every test rs) e)) (every-weaker test weaker h rs (and-elim-right (test r) (every test rs) e))
+
+-- rows at the start of others that pass
+pub every-start : {A : Type 0} (test : A → Bool) (xs ys : List A) → every test (xs ++ ys) ≡ true → every test xs ≡ true
+unfolding every
+every-start test [] ys e = refl
+every-start test (x ∷ xs) ys e =
+    rw (and-elim-left (test x) (every test (xs ++ ys)) e) (every-start test xs ys (and-elim-right (test x) (every test (xs ++ ys)) e))
+
+pub every-there : {A : Type 0} (test : A → Bool) (xs : List A) (r : A) (ys : List A) → every test (xs ++ (r ∷ ys)) ≡ true → test r ≡ true
+unfolding every
+every-there test [] r ys e = and-elim-left (test r) (every test ys) e
+every-there test (x ∷ xs) r ys e = every-there test xs r ys (and-elim-right (test x) (every test (xs ++ (r ∷ ys))) e)
+
+-- ---- rows that rise
+
+rising-from-start : {A : Type 0} (after : A → A → Bool) (x : A) (xs ys : List A) → risingFrom after x (xs ++ ys) ≡ true
+    → risingFrom after x xs ≡ true
+unfolding risingFrom
+rising-from-start after x [] ys e = refl
+rising-from-start after x (y ∷ xs) ys e =
+    rw (and-elim-left (after x y) (risingFrom after y (xs ++ ys)) e)
+    (rising-from-start after y xs ys (and-elim-right (after x y) (risingFrom after y (xs ++ ys)) e))
+
+rising-start : {A : Type 0} (after : A → A → Bool) (xs ys : List A) → rising after (xs ++ ys) ≡ true → rising after xs ≡ true
+unfolding rising
+rising-start after [] ys e = refl
+rising-start after (x ∷ xs) ys e = rising-from-start after x xs ys e
+
+-- ---- rows of a node
+
+-- the row at a place hits its node
+pub hit-of : (rows : List Crash) (z : Crash) (i k : ℕ) → i < length rows → (getD rows i z) .node ≡ k → hits rows k ≡ true
+unfolding hits
+hit-of [] z i k h e = absurd (omega arith)
+hit-of (r ∷ rs) z zero k h e = rw (eq-eqb (r .node) k e)
+hit-of (r ∷ rs) z (suc i) k h e = go (eqb (r .node) k) (hit-of rs z i k (omega arith) e)
+  where
+    go : (b : Bool) → hits rs k ≡ true → (b || hits rs k) ≡ true
+    go true q = refl
+    go false q = q
+
+hits-snoc : (rs : List Crash) (r : Crash) (k : ℕ) → hits (rs ++ (r ∷ [])) k ≡ (hits rs k || eqb (r .node) k)
+unfolding hits
+hits-snoc [] r k = or-false (eqb (r .node) k)
+hits-snoc (x ∷ xs) r k =
+    ap (λ (t : Bool). eqb (x .node) k || t) (hits-snoc xs r k)
+    ∙ sym (or-assoc (eqb (x .node) k) (hits xs k) (eqb (r .node) k))
+
+hits-start : (xs ys : List Crash) (k : ℕ) → hits (xs ++ ys) k ≡ false → hits xs k ≡ false
+unfolding hits
+hits-start [] ys k e = refl
+hits-start (x ∷ xs) ys k e = by (eqb (x .node) k) e (hits-start xs ys k)
+  where
+    by : (t : Bool) → (t || hits (xs ++ ys) k) ≡ false → (hits (xs ++ ys) k ≡ false → hits xs k ≡ false) → (t || hits xs k) ≡ false
+    by true e ih = e
+    by false e ih = ih e
+
+eqb-comm : (a b : ℕ) → eqb a b ≡ eqb b a
+eqb-comm a b = elim (ℕ-discrete a b) [
+  | yes e ↦ eq-eqb a b e ∙ sym (eq-eqb b a (sym e))
+  | no n ↦ ne-eqb a b n ∙ sym (ne-eqb b a (λ e. n (sym e)))
+]
+
+twice-tests : (a e b c : Bool) → (not (a || e) && (b && not c)) ≡ ((not a && b) && not (e || c))
+twice-tests true e b c = refl
+twice-tests false true true c = refl
+twice-tests false true false c = refl
+twice-tests false false b c = refl
+
+pub twice-snoc : (rs : List Crash) (r : Crash) → noneTwice (rs ++ (r ∷ [])) ≡ (noneTwice rs && not (hits rs (r .node)))
+unfolding noneTwice hits
+twice-snoc [] r = refl
+twice-snoc (x ∷ xs) r =
+    rw (hits-snoc xs r (x .node), twice-snoc xs r, eqb-comm (r .node) (x .node))
+    (twice-tests (hits xs (x .node)) (eqb (x .node) (r .node)) (noneTwice xs) (hits xs (r .node)))
+
+twice-start : (xs ys : List Crash) → noneTwice (xs ++ ys) ≡ true → noneTwice xs ≡ true
+unfolding noneTwice
+twice-start [] ys e = refl
+twice-start (x ∷ xs) ys e =
+    let first = and-elim-left (not (hits (xs ++ ys) (x .node))) (noneTwice (xs ++ ys)) e in
+    let rest = and-elim-right (not (hits (xs ++ ys) (x .node))) (noneTwice (xs ++ ys)) e in
+    rw (hits-start xs ys (x .node) (not-true _ first)) (twice-start xs ys rest)
+
+-- ---- the orders of C lines and of L lines, and how many L lines
+
+pub crash-order-start : (xs ys : List Crash) → crashOrder (xs ++ ys) ≡ true → crashOrder xs ≡ true
+unfolding crashOrder
+crash-order-start xs ys e =
+    let rises = and-elim-left (rising later (xs ++ ys)) (noneTwice (xs ++ ys)) e in
+    let once = and-elim-right (rising later (xs ++ ys)) (noneTwice (xs ++ ys)) e in
+    rw (rising-start later xs ys rises) (twice-start xs ys once)
+
+pub delay-order-start : (xs ys : List Delay) → delayOrder (xs ++ ys) ≡ true → delayOrder xs ≡ true
+unfolding delayOrder
+delay-order-start xs ys e = rising-start above xs ys e
+
+pub few-start : (xs ys : List Delay) → fewDelays (xs ++ ys) ≡ true → fewDelays xs ≡ true
+unfolding fewDelays
+few-start xs ys e = le-leb (length xs) mostDelays (omega (arith, leb-true (length (xs ++ ys)) mostDelays e, length-append xs ys))
+
+pub few-snoc : (rs : List Delay) (r : Delay) → fewDelays (rs ++ (r ∷ [])) ≡ ltb (length rs) mostDelays
+unfolding fewDelays
+few-snoc rs r = let e : length rs + 1 ≡ suc (length rs) = omega arith in rw (length-append rs (r ∷ []), e)
+
+-- ---- ranges of a row as facts
+
+pub crash-row : (p : Plan) (r : Crash) → crashRange p r ≡ true → (r .tick ≤ p .end) × (r .node < p .n)
+unfolding crashRange
+crash-row p r h =
+    (leb-true _ _ (and-elim-left (leb (r .tick) (p .end)) _ h), ltb-true _ _ (and-elim-right (leb (r .tick) (p .end)) _ h))
+
+pub record DelayFacts (p : Plan) (r : Delay) : Type 0 where
+  pub number : r .number ≤ mostNumber
+  pub low : 1 ≤ r .delay
+  pub high : r .delay ≤ p .d
+
+pub delay-row : (p : Plan) (r : Delay) → delayRange p r ≡ true → DelayFacts p r
+unfolding delayRange within
+delay-row p r h =
+    let d : (leb 1 (r .delay) && leb (r .delay) (p .d)) ≡ true = and-elim-right (leb (r .number) mostNumber) _ h in
+    record {
+      number = leb-true _ _ (and-elim-left (leb (r .number) mostNumber) _ h);
+      low = leb-true _ _ (and-elim-left (leb 1 (r .delay)) _ d);
+      high = leb-true _ _ (and-elim-right (leb 1 (r .delay)) _ d);
+    }

@@ -1,0 +1,1 @@
+// What a run file plans, and the laws of plans: this crate has no code.
