@@ -28,7 +28,7 @@ edit() {
     first=$(grep -m 1 ': error: ' "$log" | sed "s|.*/must-fail/$1/$2/||" | cut -c 1-300)
     [ -z "$shown" ] || echo "$1/$2: $first"
     case $first in
-    *'can be named from here'* | *'type to bind, but the signature'* | *'is not in scope'* | *'has no field'* | *'expected type `tie.Need-'*)
+    *'can be named from here'* | *'type to bind, but the signature'* | *'is not in scope'* | *'has no field'* | *'expected type `tie.Need-'* | *'-spec`: '*)
         tell "$1/$2: refused only because a proof file no longer fits: $first"
         ;;
     esac
