@@ -14,7 +14,7 @@ use Rattle.ring.specs.Ring.{tableAnswer}
 use Rattle.text.specs.Put.{put}
 use Rattle.plans.specs.Plan.{Plan, within as between}
 use Rattle.runfile.specs.Text.{planText}
-use Rattle.runfile.specs.File.{FileAnswer, accepted as acceptedFile, turnedDown, fileOf, FileAnswer as Answer}
+use Rattle.runfile.specs.File.{FileAnswer, accepted as acceptedFile, turnedDown, fileOf}
 use Rattle.runfile.proofs.Refusals.{refusal-small}
 use Rattle.logline.specs.declared.Line.{Line}
 use Rattle.logline.specs.declared.Read.the-variants.{Accepted as Read}
@@ -158,7 +158,7 @@ open-down file store = go (fileOf file) refl
     by p true = record { first = refl; untouched = λ h. absurd (h refl) }
     by p false = record { first = refl; untouched = λ h. refl }
 
-    go : (a : Answer) → fileOf file ≡ a
+    go : (a : FileAnswer) → fileOf file ≡ a
         → TurnsDown (openRefusal (fileAnswer a store .answer))
         (place (not (eqb (fileNumber a) 0)) (fileNumber a) ∷ place (not (eqb (length store) storeSize)) 7 ∷ [])
         (fileAnswer a store .store ≡ store)

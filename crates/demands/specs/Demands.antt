@@ -15,7 +15,7 @@ use Rattle.text.specs.Number.{decimal}
 use Rattle.text.specs.Hex.{hexOf}
 use Rattle.plans.specs.Plan.{Plan, planTest}
 use Rattle.runfile.specs.Text.{planText}
-use Rattle.runfile.specs.File.{FileAnswer as Answer, accepted, turnedDown, fileOf}
+use Rattle.runfile.specs.File.{FileAnswer, accepted, turnedDown, fileOf}
 use Rattle.logline.specs.declared.Line.{Line}
 use Rattle.logline.specs.declared.Read.the-variants.{Accepted as LineRead, Refused as LineUnread}
 use Rattle.logline.specs.declared.Written.{Written}
@@ -63,7 +63,7 @@ pub record TurnsDown (number : ℕ) (places : List Place) (Untouched : Type 0) :
   pub untouched : number ≢ 0 → Untouched
 
 -- opening: the file's own number, 1 to 6, then the store's length
-unfoldable pub fileNumber : Answer → ℕ
+unfoldable pub fileNumber : FileAnswer → ℕ
 fileNumber (accepted p) = 0
 fileNumber (turnedDown number line) = number
 

@@ -9,7 +9,7 @@ use Rattle.runfile.specs.File.{lines, fieldThen, pairOf, crashOf, delayOf, star
 use Rattle.runfile.specs.File.{laterLine, stepThen, laterLines, allLines, fileOf}
 use Rattle.plans.specs.Plan.{within, startRanges, longEnough, crashRange, delayRange, risingFrom, rising, later, hits, noneTwice, crashOrder, above}
 use Rattle.plans.specs.Plan.{delayOrder}
-use Rattle.plans.specs.Plan.{fewDelays, startPlan as opening, withCrash, withDelay}
+use Rattle.plans.specs.Plan.{fewDelays, startPlan, withCrash, withDelay}
 use Rattle.logline.specs.Line.{lineText}
 use Rattle.model.specs.Platform.{alive, survivors, withCrashed, crashedList, start, crashEntries, messageEntries, timerEntry, timerEntries, pending, earlier}
 use Rattle.model.specs.Platform.{first, upTo, nextEvent, delayIn, numbered, taken, without, received, apply, fits, tried, try, delayOf as messageDelay}
@@ -19,7 +19,7 @@ use Rattle.edges.specs.Edges.{dead, targetsOf, backFrom, bytes, judged, 
 pub edges : Edges
 unfolding keep numbers listed listing unlisted place round ahead back next count powers jumps targets dead targetsOf backFrom reports nodeOpening
     onHeartbeat onObserver onReport onHeartbeatDue leaving onMessage digit decimal hexByte numberFieldAt ends within startRanges longEnough crashRange
-    delayRange risingFrom rising later hits noneTwice crashOrder above delayOrder fewDelays onto lines opening fieldThen pairOf crashOf delayOf
+    delayRange risingFrom rising later hits noneTwice crashOrder above delayOrder fewDelays onto lines startPlan fieldThen pairOf crashOf delayOf
     startOf formOf rowOf orElse withCrash withDelay startLine early crashLine delayLine firstLine laterLine stepThen laterLines allLines fileOf
     lineText alive survivors withCrashed crashedList start crashEntries messageEntries timerEntry timerEntries pending earlier first upTo nextEvent
     delayIn messageDelay numbered taken without received apply fits tried try otherOf lastLine linesFrom log bytes judged logText written logOf

@@ -6,8 +6,8 @@ use Prim.Native.Nat.{ℕ}
 use Prim.Native.Char.{Char, code}
 use Prim.Native.String.{String, [] as empty, _∷_ as before}
 use Rattle.ring.specs.Ring.{numbers, listing, place, back, powers, targets}
-use Rattle.runfile.specs.File.{FileAnswer as Answer, accepted, turnedDown as refused, fileOf}
-use Rattle.plans.specs.Plan.{startPlan as opening, withDelay}
+use Rattle.runfile.specs.File.{FileAnswer, accepted, turnedDown, fileOf}
+use Rattle.plans.specs.Plan.{startPlan, withDelay}
 use Rattle.logline.specs.declared.Line.{Line}
 use Rattle.logline.specs.Line.{lineText}
 use Rattle.model.specs.Lines.{log}
@@ -30,7 +30,7 @@ bytes empty = []
 bytes (before c s) = code c ∷ bytes s
 
 -- what a run file comes to
-unfoldable pub judged : String → Answer
+unfoldable pub judged : String → FileAnswer
 judged file = fileOf (bytes file)
 
 -- the text of a log's lines
@@ -39,9 +39,9 @@ logText [] = []
 logText (l ∷ ls) = lineText l ++ logText ls
 
 -- the whole log of an accepted file that has fewer than 20 events
-unfoldable pub written : Answer → List ℕ
+unfoldable pub written : FileAnswer → List ℕ
 written (accepted p) = logText (log p 20)
-written (refused number line) = []
+written (turnedDown number line) = []
 
 unfoldable pub logOf : String → List ℕ
 logOf file = written (judged file)
@@ -65,9 +65,9 @@ pub record Edges : Type 0 where
   -- "P,1,1,2,1,5 logs only `E,5,1,0,0000000000000000`"
   pub lone-log : logOf "P,1,1,2,1,5\n" ≡ bytes "E,5,1,0,0000000000000000\n"
   -- "H 2, D 1: W 3 passes"
-  pub watch-3-passes : judged "P,2,2,3,1,6\n" ≡ accepted (opening 2 2 3 1 6)
+  pub watch-3-passes : judged "P,2,2,3,1,6\n" ≡ accepted (startPlan 2 2 3 1 6)
   -- "W 2 gets 4"
-  pub watch-2-refused : judged "P,2,2,2,1,6\n" ≡ refused 4 1
+  pub watch-2-refused : judged "P,2,2,2,1,6\n" ≡ turnedDown 4 1
   -- "N 8, nodes 2 and 3 listed: targets of 1 are 4, 5, 7"
   pub targets-of-1 : targetsOf 8 (dead (2 ∷ 3 ∷ [])) 1 ≡ 4 ∷ 5 ∷ 7 ∷ []
   -- "of 7 are 0, 1, 5"
@@ -81,10 +81,10 @@ pub record Edges : Type 0 where
   -- "with all others listed, to itself"
   pub back-to-itself : backFrom 5 (dead (1 ∷ 2 ∷ 3 ∷ 4 ∷ [])) 4 ≡ 0
   -- "D 5: delay 5 passes"
-  pub delay-5-passes : judged "P,2,2,7,5,6\nL,0,5\n" ≡ accepted (withDelay (opening 2 2 7 5 6) (record { number = 0; delay = 5 }))
+  pub delay-5-passes : judged "P,2,2,7,5,6\nL,0,5\n" ≡ accepted (withDelay (startPlan 2 2 7 5 6) (record { number = 0; delay = 5 }))
   -- "0 and 6 get 3"
-  pub delay-0-refused : judged "P,2,2,7,5,6\nL,0,0\n" ≡ refused 3 2
-  pub delay-6-refused : judged "P,2,2,7,5,6\nL,0,6\n" ≡ refused 3 2
+  pub delay-0-refused : judged "P,2,2,7,5,6\nL,0,0\n" ≡ turnedDown 3 2
+  pub delay-6-refused : judged "P,2,2,7,5,6\nL,0,6\n" ≡ turnedDown 3 2
   -- "after `C,3,1`, both `C,3,1` and `C,3,0` get 5"
-  pub crash-twice-refused : judged "P,2,2,3,1,6\nC,3,1\nC,3,1\n" ≡ refused 5 3
-  pub crash-falling-refused : judged "P,2,2,3,1,6\nC,3,1\nC,3,0\n" ≡ refused 5 3
+  pub crash-twice-refused : judged "P,2,2,3,1,6\nC,3,1\nC,3,1\n" ≡ turnedDown 5 3
+  pub crash-falling-refused : judged "P,2,2,3,1,6\nC,3,1\nC,3,0\n" ≡ turnedDown 5 3

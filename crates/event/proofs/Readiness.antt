@@ -1,7 +1,7 @@
 -- Which stores are ready for an event, what that gives, and that an event leaves a store ready. Assumes nothing.
 use Prim.Native.Nat.{ℕ, _+_, _*_, _^_, _≤_, _<_}
 use mathlib.Core.Path.{_≡_, refl, sym, ap, _∙_}
-use mathlib.Core.Bool.{true}
+use mathlib.Core.Bool.{true, and-eq-true-iff}
 use mathlib.Core.List.{List}
 use native.Mathlib.Omega.{arith}
 use borrow.Author.Tests.{eqb-true}
@@ -12,7 +12,6 @@ use Rattle.plans.specs.Plan.{Plan, planTest}
 use Rattle.model.specs.Platform.{State, start, try, left, steps}
 use Rattle.plans.specs.Plain.{Plain}
 use Rattle.model.specs.Range.{Accepted, Sound, InRange, storeTest}
-use Rattle.model.proofs.Bools.{and-split}
 use Rattle.plans.proofs.Facts.{plan-plain}
 use Rattle.model.proofs.Plans.{plan-accepted}
 use Rattle.model.proofs.Tests.{test-store}
@@ -101,13 +100,13 @@ opened-ready p good = steps-ready p good (start p) (record { sound = start-range
 pub tested-ready : (b : List ℕ) → ((i : ℕ) → getD b i 0 < 256) → storeInRange b ≡ true → Ready b
 unfolding storeInRange storeTest steps
 tested-ready b byte h =
-    let l = and-split (eqb (length b) storeSize) _ h in
-    let c = and-split (roomTest (columns (planIn b) (stateIn b))) _ (l .1) in
-    let t = and-split (storeTest (planIn b) (stateIn b)) (unusedTest b (columns (planIn b) (stateIn b))) (c .1) in
+    let l = and-eq-true-iff (eqb (length b) storeSize) _ .0 h in
+    let c = and-eq-true-iff (roomTest (columns (planIn b) (stateIn b))) _ .0 (l .1) in
+    let t = and-eq-true-iff (storeTest (planIn b) (stateIn b)) (unusedTest b (columns (planIn b) (stateIn b))) .0 (c .1) in
     let v : Held b = held-read b byte (eqb-true (length b) storeSize (l .0)) (c .0) (t .1) in
     record {
       held = v;
-      plan = (and-split (planTest (planIn b)) _ (t .0)) .0;
+      plan = (and-eq-true-iff (planTest (planIn b)) _ .0 (t .0)) .0;
       from = stateIn b;
       inRange = (test-store (planIn b) (stateIn b) (t .0)) .1;
       tries = 0;

@@ -1,6 +1,6 @@
 -- What the tests of a record, a tick and a message tell, as facts with names. Assumes nothing.
 use mathlib.Core.Path.{_≡_, refl, sym, ap, _∙_}
-use mathlib.Core.Bool.{Bool, true, false, true≢false, not, _&&_, _||_}
+use mathlib.Core.Bool.{Bool, true, false, true≢false, not, _&&_, _||_, and-eq-true-iff}
 use mathlib.Core.List.{List}
 use Prim.Native.Nat.{ℕ, _≤_, _<_}
 use native.Mathlib.Omega.{arith}
@@ -19,12 +19,6 @@ use Rattle.host.specs.Record.{spareFrom, decode, openable, inRange, soun
 use Rattle.host.specs.Call.{tickTaken, otherNode, messageTaken, answer}
 use Rattle.limits.specs.Refusals.{accepted}
 
--- ---- both
-
-pub both : (a b : Bool) → (a && b) ≡ true → (a ≡ true) × (b ≡ true)
-both true b e = (refl, e)
-both false b e = absurd (true≢false (sym e))
-
 -- ---- the numbers of a record
 
 pub record Openable (number nodes h w : ℕ) : Type 0 where
@@ -39,12 +33,12 @@ pub record Openable (number nodes h w : ℕ) : Type 0 where
 pub openable-facts : (number nodes h w : ℕ) → openable number nodes h w ≡ true → Openable number nodes h w
 unfolding openable
 openable-facts number nodes h w e =
-    let a = both (leb 1 nodes) _ e in
-    let b = both (leb nodes mostNodes) _ (a .1) in
-    let c = both (ltb number nodes) _ (b .1) in
-    let d = both (leb 1 h) _ (c .1) in
-    let f = both (leb h mostH) _ (d .1) in
-    let g = both (leb 1 w) _ (f .1) in
+    let a = and-eq-true-iff (leb 1 nodes) _ .0 e in
+    let b = and-eq-true-iff (leb nodes mostNodes) _ .0 (a .1) in
+    let c = and-eq-true-iff (ltb number nodes) _ .0 (b .1) in
+    let d = and-eq-true-iff (leb 1 h) _ .0 (c .1) in
+    let f = and-eq-true-iff (leb h mostH) _ .0 (d .1) in
+    let g = and-eq-true-iff (leb 1 w) _ .0 (f .1) in
     record {
       some = leb-true 1 nodes (a .0);
       most = leb-true nodes mostNodes (b .0);
@@ -80,9 +74,9 @@ module _ (r : Record) where
   pub in-range-facts : inRange r ≡ true → InRange r
   unfolding inRange
   in-range-facts e =
-      let a = both (openable (r .number) (r .nodes) (r .h) (r .w)) _ e in
-      let b = both (leb (r .last) mostTick) _ (a .1) in
-      let c = both (nodeTest (r .nodes) (r .h) (r .w) (r .last) (r .node)) _ (b .1) in
+      let a = and-eq-true-iff (openable (r .number) (r .nodes) (r .h) (r .w)) _ .0 e in
+      let b = and-eq-true-iff (leb (r .last) mostTick) _ .0 (a .1) in
+      let c = and-eq-true-iff (nodeTest (r .nodes) (r .h) (r .w) (r .last) (r .node)) _ .0 (b .1) in
       record {
         openable = openable-facts (r .number) (r .nodes) (r .h) (r .w) (a .0);
         last = leb-true (r .last) mostTick (b .0);
@@ -108,8 +102,8 @@ pub record Sound (s : List ℕ) : Type 0 where
 pub sound-facts : (s : List ℕ) → sound s ≡ true → Sound s
 unfolding sound
 sound-facts s e =
-    let a = both (eqb (length s) recordSize) _ e in
-    let b = both (zeros (slice spareFrom recordSize s)) _ (a .1) in
+    let a = and-eq-true-iff (eqb (length s) recordSize) _ .0 e in
+    let b = and-eq-true-iff (zeros (slice spareFrom recordSize s)) _ .0 (a .1) in
     record { size = eqb-true (length s) recordSize (a .0); spare = b .0; fields = in-range-facts (decode s) (b .1) }
 
 -- ---- a tick and a message that are taken
@@ -117,13 +111,13 @@ sound-facts s e =
 pub tick-facts : (r : Record) (tick : ℕ) → tickTaken r tick ≡ true → (r .last ≤ tick) × (tick ≤ mostTick)
 unfolding tickTaken
 tick-facts r tick e =
-    let a = both (leb (r .last) tick) _ e in
+    let a = and-eq-true-iff (leb (r .last) tick) _ .0 e in
     (leb-true (r .last) tick (a .0), leb-true tick mostTick (a .1))
 
 pub other-facts : (r : Record) (i : ℕ) → otherNode r i ≡ true → (i < r .nodes) × (i ≡ r .number → ⊥)
 unfolding otherNode
 other-facts r i e =
-    let a = both (ltb i (r .nodes)) _ e in
+    let a = and-eq-true-iff (ltb i (r .nodes)) _ .0 e in
     (ltb-true i (r .nodes) (a .0), eqb-false i (r .number) (not-true (eqb i (r .number)) (a .1)))
 
 pub facts-other : (r : Record) (i : ℕ) → (i < r .nodes) × (i ≡ r .number → ⊥) → otherNode r i ≡ true
@@ -139,8 +133,8 @@ module _ (r : Record) (kind sender subject : ℕ) where
   pub message-facts : messageTaken r kind sender subject ≡ true → MessageTaken r kind sender subject
   unfolding messageTaken
   message-facts e =
-      let a = both (kindTest kind) _ e in
-      let b = both (otherNode r sender) _ (a .1) in
+      let a = and-eq-true-iff (kindTest kind) _ .0 e in
+      let b = and-eq-true-iff (otherNode r sender) _ .0 (a .1) in
       record {
         known = kind-facts kind (a .0);
         from = other-facts r sender (b .0);

@@ -1,7 +1,7 @@
 -- A record that opening makes is in range, and each turn of a record's node leaves one that was in range so. The ring of a record is in
 -- number order. Assumes nothing.
 use mathlib.Core.Path.{_≡_, refl}
-use mathlib.Core.Bool.{Bool, true, false, cond}
+use mathlib.Core.Bool.{Bool, true, false, cond, and-eq-true-iff}
 use mathlib.Core.List.{List}
 use Prim.Native.Nat.{ℕ, _≤_}
 use native.Mathlib.Omega.{arith}
@@ -15,7 +15,7 @@ use Rattle.node.specs.Node.{silent, onHeartbeatDue, onWatchDue, Turn}
 use Rattle.node.proofs.Ranges.{Took, opening-range, silent-took, message-took, beat-took, watch-took}
 use Rattle.host.specs.declared.Record.{Record}
 use Rattle.host.specs.Call.{withTurn, openedRecord, delivered, dueBy, fired}
-use Rattle.host.proofs.Facts.{both, Openable, InRange, MessageTaken}
+use Rattle.host.proofs.Facts.{Openable, InRange, MessageTaken}
 
 -- ---- opening
 
@@ -30,7 +30,7 @@ opening-in-range number nodes h w o =
 -- a timer that is due is on
 on-due : (tick timer : ℕ) → dueBy tick timer ≡ true → timer ≡ 0 → ⊥
 unfolding dueBy
-on-due tick timer e z = omega (arith, ltb-true 0 timer (both (ltb 0 timer) _ e .0))
+on-due tick timer e z = omega (arith, ltb-true 0 timer (and-eq-true-iff (ltb 0 timer) _ .0 e .0))
 
 module _ (r : Record) (f : InRange r) (tick : ℕ) where
   abbrev order : List ℕ

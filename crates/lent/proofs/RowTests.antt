@@ -1,7 +1,7 @@
 -- A plan's tests, row by row: as long as the rows before place i pass, the test of all rows is that of the rows from i on. Assumes nothing.
 use Prim.Native.Nat.{ℕ, zero, suc, _+_, _≤_, _<_}
 use mathlib.Core.Path.{_≡_, refl, sym, ap, _∙_}
-use mathlib.Core.Bool.{Bool, true, false, not, _&&_}
+use mathlib.Core.Bool.{Bool, true, false, not, _&&_, and-eq-true-iff}
 use mathlib.Core.List.{List, [], _∷_}
 use native.Mathlib.Numerals.{add-one}
 use native.Mathlib.Omega.{arith}
@@ -15,7 +15,6 @@ use Rattle.plans.specs.Plan.{Plan, Crash, Delay, within, startRanges, crashRang
 use Rattle.plans.specs.Plan.{fewDelays, every, orderTest, delayTest}
 use Rattle.plans.proofs.Orders.{number-order-taken}
 use Rattle.plans.specs.Plain.{noCrash}
-use Rattle.model.proofs.Bools.{and-split}
 use Rattle.store.specs.declared.CrashRow.{CrashRow}
 use Rattle.store.specs.declared.DelayRow.{DelayRow}
 use Rattle.store.specs.Inside.{crashRow, delayRow}
@@ -193,14 +192,14 @@ module _ (low high : ℕ) {x y : ℕ} {b : Bool} (got : x ≡ y) (told : b ≡ w
 
 within-high : (low high x : ℕ) → within low high x ≡ true → x ≤ high
 unfolding within
-within-high low high x h = leb-true x high (and-split (leb low x) (leb x high) h .1)
+within-high low high x h = leb-true x high (and-eq-true-iff (leb low x) (leb x high) .0 h .1)
 
 -- H and D of a P line in range are so small that their sum is
 pub sum-small : (p : Plan) → startRanges p ≡ true → p .h + p .d ≤ mostH + mostD
 unfolding startRanges
 sum-small p t =
-    let n = and-split (within 1 mostNodes (p .n)) _ t in
-    let h = and-split (within 1 mostH (p .h)) _ (n .1) in
-    let w = and-split (within 1 mostW (p .w)) _ (h .1) in
-    let d = and-split (within 1 mostD (p .d)) (within 0 mostTick (p .end)) (w .1) in
+    let n = and-eq-true-iff (within 1 mostNodes (p .n)) _ .0 t in
+    let h = and-eq-true-iff (within 1 mostH (p .h)) _ .0 (n .1) in
+    let w = and-eq-true-iff (within 1 mostW (p .w)) _ .0 (h .1) in
+    let d = and-eq-true-iff (within 1 mostD (p .d)) (within 0 mostTick (p .end)) .0 (w .1) in
     omega (arith, within-high 1 mostH (p .h) (h .0), within-high 1 mostD (p .d) (d .0))

@@ -72,8 +72,6 @@ pub mod SettledNode
 pub mod Theorems
 -- ---- for the layers above: tests for number 7, plans, the search of the next event
 
--- tests joined by &&
-pub mod Bools
 -- plans of run files
 pub mod Plans
 -- the ranges as tests, for number 7

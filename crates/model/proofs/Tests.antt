@@ -1,7 +1,7 @@
 -- The computed tests for number 7 hold exactly of what is in range. Assumes nothing.
 use mathlib.Core.Path.{_≡_, refl}
 use mathlib.Core.Logic.{_⊎_, inl, inr}
-use mathlib.Core.Bool.{Bool, true, false, cond, _&&_}
+use mathlib.Core.Bool.{Bool, true, false, cond, _&&_, and-eq-true-iff}
 use mathlib.Core.List.{List, [], _∷_, List·Memᴰ, List·Memᴰ·not-nil, List·Memᴰ·cases-cons, List·Memᴰ·head, List·Memᴰ·tail}
 use Prim.Native.Nat.{ℕ, zero, suc, _+_, _≤_, _<_}
 use native.Mathlib.Nat.{add-zero}
@@ -23,7 +23,6 @@ use Rattle.ring.proofs.Lists.{listed-none}
 use Rattle.plans.specs.Plain.{rowAt, Plain, noCrash}
 use Rattle.model.specs.Range.{Accepted}
 use Rattle.model.proofs.Theorems.{ranges}
-use Rattle.model.proofs.Bools.{and-split, and-join}
 use Rattle.model.proofs.Plans.{plan-accepted}
 
 -- ---- the nodes
@@ -35,8 +34,8 @@ module _ (p : Plan) (done t : ℕ) where
 
   node-ok : (i : ℕ) (a : Node) → nodeHere p done t i a ≡ true → Ranged i a
   node-ok i a h =
-      let u = and-split (nodeTest (p .n) (p .h) (p .w) t a) _ h in
-      (node-facts _ _ _ t a (u .0), λ q. live (and-split (liveTest i a) (timersTest t a) (rw q at (u .1))))
+      let u = and-eq-true-iff (nodeTest (p .n) (p .h) (p .w) t a) _ .0 h in
+      (node-facts _ _ _ t a (u .0), λ q. live (and-eq-true-iff (liveTest i a) (timersTest t a) .0 (rw q at (u .1))))
     where
       live : (liveTest i a ≡ true) × (timersTest t a ≡ true) → LiveRange i a × NotOverdue t a
       live x = (live-facts i a (x .0), timers-facts t a (x .1))
@@ -44,10 +43,10 @@ module _ (p : Plan) (done t : ℕ) where
   nodes-ok : (ns : List Node) (i : ℕ) → nodesTest p done t i ns ≡ true → (z : Node) (j : ℕ) → j < length ns → Ranged (i + j) (getD ns j z)
   unfolding nodesTest
   nodes-ok [] i h z j l = absurd (omega arith)
-  nodes-ok (a ∷ ns) i h z zero l = rw add-zero (node-ok i a ((and-split (nodeHere p done t i a) _ h) .0))
+  nodes-ok (a ∷ ns) i h z zero l = rw add-zero (node-ok i a ((and-eq-true-iff (nodeHere p done t i a) _ .0 h) .0))
   nodes-ok (a ∷ ns) i h z (suc j) l =
       let e : suc i + j ≡ i + suc j = omega arith in
-      rw e at (nodes-ok ns (suc i) ((and-split (nodeHere p done t i a) _ h) .1) z j (omega arith))
+      rw e at (nodes-ok ns (suc i) ((and-eq-true-iff (nodeHere p done t i a) _ .0 h) .1) z j (omega arith))
 
   node-test : (i : ℕ) (a : Node) → Ranged i a → nodeHere p done t i a ≡ true
   node-test i a f = rw (facts-node _ _ _ t a (f .0)) (go (alive p done i) refl)
@@ -61,7 +60,7 @@ module _ (p : Plan) (done t : ℕ) where
   unfolding nodesTest
   nodes-test [] i f = refl
   nodes-test (a ∷ ns) i f =
-      and-join _ _ (node-test i a (rw add-zero at (f 0 (omega arith)))) (nodes-test ns (suc i) (λ j l. shift j (f (suc j) (omega arith))))
+      and-eq-true-iff _ _ .1 ((node-test i a (rw add-zero at (f 0 (omega arith)))), (nodes-test ns (suc i) (λ j l. shift j (f (suc j) (omega arith)))))
     where
       shift : (j : ℕ) → Ranged (i + suc j) (getD ns j (alone (i + suc j) 0)) → Ranged (suc i + j) (getD ns j (alone (suc i + j) 0))
       shift j x = let e : i + suc j ≡ suc i + j = omega arith in rw e at x
@@ -72,12 +71,12 @@ module _ (p : Plan) (t : ℕ) where
   message-ok : (m : InFlight) → messageTest p t m ≡ true → FlightRange p t m × (t ≤ m .due)
   unfolding messageTest
   message-ok m h =
-      let a = and-split _ _ h in
-      let b = and-split _ _ (a .1) in
-      let c = and-split _ _ (b .1) in
-      let d = and-split _ _ (c .1) in
-      let e = and-split _ _ (d .1) in
-      let f = and-split _ _ (e .1) in (
+      let a = and-eq-true-iff _ _ .0 h in
+      let b = and-eq-true-iff _ _ .0 (a .1) in
+      let c = and-eq-true-iff _ _ .0 (b .1) in
+      let d = and-eq-true-iff _ _ .0 (c .1) in
+      let e = and-eq-true-iff _ _ .0 (d .1) in
+      let f = and-eq-true-iff _ _ .0 (e .1) in (
         record {
           kind = kind-facts (m .kind) (a .0);
           from = ltb-true _ _ (b .0);
@@ -107,8 +106,8 @@ module _ (p : Plan) (t : ℕ) where
   unfolding flightTest Rises
   flight-ok [] lo hi h = (leb-true _ _ h, λ m x. absurd (List·Memᴰ·not-nil x))
   flight-ok (g ∷ ms) lo hi h =
-      let a = and-split _ _ h in
-      let b = and-split _ _ (a .1) in
+      let a = and-eq-true-iff _ _ .0 h in
+      let b = and-eq-true-iff _ _ .0 (a .1) in
       let r = flight-ok ms (suc (g .number)) hi (b .1) in
       ((leb-true _ _ (a .0), r .0), λ m x. go m (List·Memᴰ·cases-cons x) (b .0) (r .1))
     where
@@ -177,12 +176,12 @@ module _ (p : Plan) (pl : Plain p) (s : State) where
   pub test-range : soundTest p s ≡ true → Sound p s
   unfolding soundTest
   test-range h =
-      let a = and-split _ _ h in
-      let b = and-split _ _ (a .1) in
-      let c = and-split _ _ (b .1) in
-      let d = and-split _ _ (c .1) in
-      let e = and-split _ _ (d .1) in
-      let f = and-split _ _ (e .1) in
+      let a = and-eq-true-iff _ _ .0 h in
+      let b = and-eq-true-iff _ _ .0 (a .1) in
+      let c = and-eq-true-iff _ _ .0 (b .1) in
+      let d = and-eq-true-iff _ _ .0 (c .1) in
+      let e = and-eq-true-iff _ _ .0 (d .1) in
+      let f = and-eq-true-iff _ _ .0 (e .1) in
       let len : length (s .nodes) ≡ p .n = eqb-true _ _ (c .0) in
       record {
         done = leb-true _ _ (a .0);
@@ -221,15 +220,15 @@ module _ (p : Plan) (pl : Plain p) (s : State) where
 pub test-store : (p : Plan) (s : State) → storeTest p s ≡ true → Accepted p × InRange p s
 unfolding storeTest
 test-store p s h =
-    let a = and-split (planTest p) _ h in
-    let b = and-split (soundTest p s) (leb (s .next) mostNext) (a .1) in
+    let a = and-eq-true-iff (planTest p) _ .0 h in
+    let b = and-eq-true-iff (soundTest p s) (leb (s .next) mostNext) .0 (a .1) in
     let ac : Accepted p = plan-accepted p (a .0) in
     (ac, record { sound = test-range p (ac .plain) s (b .0); cap = leb-true _ _ (b .1) })
 
 -- and what is both passes it
 pub store-test : (p : Plan) (s : State) → Plain p → planTest p ≡ true → InRange p s → storeTest p s ≡ true
 unfolding storeTest
-store-test p s pl t r = and-join _ _ t (and-join _ _ (range-test p pl s (r .sound)) (le-leb _ _ (r .cap)))
+store-test p s pl t r = and-eq-true-iff _ _ .1 (t, (and-eq-true-iff _ _ .1 ((range-test p pl s (r .sound)), (le-leb _ _ (r .cap)))))
 
 -- no store that an accepted file leads to is refused by 7
 pub reached-test : (p : Plan) → planTest p ≡ true → (e : ℕ) → storeTest p (after p e) ≡ true

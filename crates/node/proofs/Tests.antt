@@ -1,7 +1,7 @@
 -- The computed tests of a node hold exactly of what is in range, and the code's answers are theirs. Assumes nothing.
 use mathlib.Core.Path.{_≡_, refl, sym}
 use mathlib.Core.Logic.{inl, inr, _≢_}
-use mathlib.Core.Bool.{Bool, true, false, true≢false, not, _&&_, _||_}
+use mathlib.Core.Bool.{Bool, true, false, true≢false, not, _&&_, _||_, and-eq-true-iff}
 use Prim.Native.Nat.{ℕ, suc, _+_, _-_, _*_, _^_, _≤_, _<_}
 use native.Mathlib.Numerals.{add-one}
 use native.Mathlib.Omega.{arith}
@@ -14,22 +14,16 @@ use Rattle.node.specs.declared.Node.{Node}
 use Rattle.node.specs.Node.{H, O, R}
 use Rattle.node.specs.Range.{NodeRange, LiveRange, NotOverdue, Known, nodeTest, apart, liveTest, notOverdue, timersTest, kindTest}
 
--- ---- both, either
-
-both : (a b : Bool) → (a && b) ≡ true → (a ≡ true) × (b ≡ true)
-both true b e = (refl, e)
-both false b e = absurd (true≢false (sym e))
-
 -- ---- a node's fields
 
 module _ (n h w t : ℕ) (a : Node) where
   pub node-facts : nodeTest n h w t a ≡ true → NodeRange n h w t a
   unfolding nodeTest
   node-facts e =
-      let u = both _ _ e in
-      let v = both _ _ (u .1) in
-      let x = both _ _ (v .1) in
-      let y = both _ _ (x .1) in
+      let u = and-eq-true-iff _ _ .0 e in
+      let v = and-eq-true-iff _ _ .0 (u .1) in
+      let x = and-eq-true-iff _ _ .0 (v .1) in
+      let y = and-eq-true-iff _ _ .0 (x .1) in
       record {
         emitter = ltb-true _ _ (u .0);
         observer = ltb-true _ _ (v .0);
@@ -95,8 +89,8 @@ module _ (me : ℕ) (a : Node) where
   pub live-facts : liveTest me a ≡ true → LiveRange me a
   unfolding liveTest
   live-facts e =
-      let u = both (not (listed (a .list) me)) _ e in
-      let v = both (apart (a .watch) (a .emitter) me) _ (u .1) in
+      let u = and-eq-true-iff (not (listed (a .list) me)) _ .0 e in
+      let v = and-eq-true-iff (apart (a .watch) (a .emitter) me) _ .0 (u .1) in
       record {
         lists = not-true _ (u .0);
         observes = apart-facts (a .watch) (a .emitter) me (v .0);
@@ -141,7 +135,7 @@ module _ (t : ℕ) (a : Node) where
   pub timers-facts : timersTest t a ≡ true → NotOverdue t a
   unfolding timersTest
   timers-facts e =
-      let u = both (notOverdue t (a .watch)) _ e in
+      let u = and-eq-true-iff (notOverdue t (a .watch)) _ .0 e in
       record { watch = overdue-facts t (a .watch) (u .0); heartbeat = overdue-facts t (a .heartbeat) (u .1) }
 
   pub facts-timers : NotOverdue t a → timersTest t a ≡ true

@@ -9,11 +9,11 @@ use borrow.Author.Tests.{eq-eqb, ne-eqb}
 use lib.Dec.{eqb}
 use lib.ListN.{length}
 use Rattle.plans.specs.Plan.{Plan, Crash, Delay, planTest, startPlan}
-use Rattle.runfile.specs.File.{FileAnswer as Answer, accepted, fileOf, turnedDown}
+use Rattle.runfile.specs.File.{FileAnswer, accepted, fileOf, turnedDown}
 use Rattle.runfile.specs.declared.Fields.{Fields}
 use Rattle.runfile.specs.declared.Outline.{Outline}
 use Rattle.runfile.specs.declared.Read.the-variants.{Accepted as Read·Accepted, Refused as Read·Refused}
-use Rattle.runfile.specs.Reader.{outlineOf, readOf, fieldsAt as rowAt, crashPlace, delayPlace}
+use Rattle.runfile.specs.Reader.{outlineOf, readOf, fieldsAt, crashPlace, delayPlace}
 use Rattle.plans.proofs.Tests.{Ranges, ranges, in-number-order, few-delays}
 use Rattle.plans.proofs.Few.{crashes-few}
 use Rattle.runfile.proofs.Refusals.{refusal-small}
@@ -48,24 +48,24 @@ module _ (file : List ℕ) (ok : Accepts file) where
 
   -- the row that stands at a place of the file is put, and the next row's place is known
   pub crash-turn : (i : ℕ) {at : ℕ} {s t : List ℕ} {row : Fields} → i < length (p .crashes) → at ≡ crashPlace p i → s ≡ filled p i 0
-      → row ≡ rowAt file at
+      → row ≡ fieldsAt file at
       → t ≡ putCrash s i (row .first) (row .second)
       → (row .next ≡ crashPlace p (i + 1)) × (t ≡ filled p (i + 1) 0)
   crash-turn i less place at row put =
       let z : Crash = record { tick = 0; node = 0 } in
-      let e = row ∙ ap (rowAt file) place ∙ crash-at file p ok z i less in (
+      let e = row ∙ ap (fieldsAt file) place ∙ crash-at file p ok z i less in (
         ap (λ (r : Fields). r .next) e ∙ ap (crashPlace p) (sym (add-one i)),
         put ∙ rw (at, e) (crash-filled p (bounds .n-high) crashes-fit delays-fit i z less),
       )
 
   pub delay-turn : (j : ℕ) {at : ℕ} {s t : List ℕ} {row : Fields} → j < length (p .delays) → at ≡ delayPlace p j
       → s ≡ filled p (length (p .crashes)) j
-      → row ≡ rowAt file at
+      → row ≡ fieldsAt file at
       → t ≡ putDelay s j (row .first) (row .second)
       → (row .next ≡ delayPlace p (j + 1)) × (t ≡ filled p (length (p .crashes)) (j + 1))
   delay-turn j less place at row put =
       let z : Delay = record { number = 0; delay = 0 } in
-      let e = row ∙ ap (rowAt file) place ∙ delay-at file p ok z j less in (
+      let e = row ∙ ap (fieldsAt file) place ∙ delay-at file p ok z j less in (
         ap (λ (r : Fields). r .next) e ∙ ap (delayPlace p) (sym (add-one j)),
         put ∙ rw (at, e) (delay-filled p (bounds .n-high) crashes-fit delays-fit j z less),
       )
@@ -115,7 +115,7 @@ pub read-accepts : (file : List ℕ) (o : Outline) → Read·Accepted o ≡ read
 unfolding planned readOf
 read-accepts file o e = go (fileOf file) refl e
   where
-    go : (a : Answer) → fileOf file ≡ a → Read·Accepted o ≡ readOf a
+    go : (a : FileAnswer) → fileOf file ≡ a → Read·Accepted o ≡ readOf a
         → (fileOf file ≡ accepted (planned (fileOf file))) × (o ≡ outlineOf (planned (fileOf file)))
     go (accepted p) same h = let out : o ≡ outlineOf p = cc in (rw same refl, rw same out)
     go (turnedDown number line) same h = let z : _≡_ {A = ℕ} 0 1 = cc in absurd (omega arith)
@@ -126,14 +126,14 @@ module _ (file store : List ℕ) where
   unfolding openFile openAnswer readOf
   open-refused {number} {line} e = go (fileOf file) e
     where
-      go : (a : Answer) → Read·Refused number line ≡ readOf a
+      go : (a : FileAnswer) → Read·Refused number line ≡ readOf a
           → (Unopened number line ≡ openAnswer a store .answer) × (store ≡ openAnswer a store .store)
       go (accepted p) h = let z : _≡_ {A = ℕ} 0 1 = cc in absurd (omega arith)
       go (turnedDown k l) h = let a : number ≡ k = cc in let b : line ≡ l = cc in (rw (a, b), refl)
 
   open-plan : Accepts file → openFile file store ≡ openPlan (planOf file) store
   unfolding openFile openAnswer
-  open-plan ok = ap (λ (a : Answer). openAnswer a store) ok
+  open-plan ok = ap (λ (a : FileAnswer). openAnswer a store) ok
 
   pub open-short : Accepts file → (length store ≡ storeSize → ⊥)
       → (Unopened badStore 0 ≡ openFile file store .answer) × (store ≡ openFile file store .store)
@@ -159,7 +159,7 @@ opening-small file store number line e = go (fileOf file) refl e
     tested p true h = let z : _≡_ {A = ℕ} 0 1 = cc in absurd (omega arith)
     tested p false h = let a : badStore ≡ number = cc in let b : _≡_ {A = ℕ} 0 line = cc in omega arith
 
-    go : (a : Answer) → fileOf file ≡ a → openAnswer a store .answer ≡ Unopened number line → (1 ≤ number) × (number ≤ 7) × (line ≤ 65536)
+    go : (a : FileAnswer) → fileOf file ≡ a → openAnswer a store .answer ≡ Unopened number line → (1 ≤ number) × (number ≤ 7) × (line ≤ 65536)
     go (accepted p) same h = tested p (eqb (length store) storeSize) h
     go (turnedDown k l) same h =
         let a : k ≡ number = cc in

@@ -8,7 +8,7 @@ use lib.ListN.{length, take, drop, getD, length-append, take-append-drop}
 use lib.Seq.{take-suc, take-all}
 use Rattle.text.specs.Put.{Put}
 use Rattle.text.proofs.PutLaws.{put-then, put-text, put-none}
-use Rattle.plans.specs.Plan.{Plan, startPlan as opening}
+use Rattle.plans.specs.Plan.{Plan, startPlan}
 use Rattle.runfile.specs.Text.{startText, crashText, delayText, rowsText, planText}
 use Rattle.runfile.proofs.RoundTrip.{rows-append}
 use Rattle.plans.specs.Plain.{noCrash, rowAt}
@@ -93,28 +93,28 @@ module _ (p : Plan) (l : List ℕ) (room : length (planText p) ≤ length l) whe
   unfolding planText
   sizes = simp length-append (omega arith)
 
-  pub start-room : 0 + length (startText (opening (p .n) (p .h) (p .w) (p .d) (p .end))) ≤ length l
-  unfolding startText opening
+  pub start-room : 0 + length (startText (startPlan (p .n) (p .h) (p .w) (p .d) (p .end))) ≤ length l
+  unfolding startText startPlan
   start-room = omega (arith, sizes)
 
-  pub crashes-room : {m : List ℕ} {r : ℕ} → length m ≡ length l → Put l 0 (startText (opening (p .n) (p .h) (p .w) (p .d) (p .end))) r m
+  pub crashes-room : {m : List ℕ} {r : ℕ} → length m ≡ length l → Put l 0 (startText (startPlan (p .n) (p .h) (p .w) (p .d) (p .end))) r m
       → r + length cs ≤ length m
-  unfolding startText opening
+  unfolding startText startPlan
   crashes-room same put = omega (arith, sizes, put .next)
 
-  pub delays-room : {m k : List ℕ} {r q : ℕ} → Put l 0 (startText (opening (p .n) (p .h) (p .w) (p .d) (p .end))) r m → Put m r cs q k
+  pub delays-room : {m k : List ℕ} {r q : ℕ} → Put l 0 (startText (startPlan (p .n) (p .h) (p .w) (p .d) (p .end))) r m → Put m r cs q k
       → length m ≡ length l
       → length k ≡ length m → q + length ds ≤ length k
-  unfolding startText opening
+  unfolding startText startPlan
   delays-room put next before same = omega (arith, sizes, put .next, next .next)
 
-  pub all-written : {m k o : List ℕ} {r q e : ℕ} → length m ≡ length l → Put l 0 (startText (opening (p .n) (p .h) (p .w) (p .d) (p .end))) r m
+  pub all-written : {m k o : List ℕ} {r q e : ℕ} → length m ≡ length l → Put l 0 (startText (startPlan (p .n) (p .h) (p .w) (p .d) (p .end))) r m
       → Put m r cs q k → Put k q ds e o → Put l 0 (planText p) e o
-  unfolding planText startText opening
+  unfolding planText startText startPlan
   all-written {m} {k} {o} {r} {q} {e} same a b c =
       put-then start-room a (put-then (crashes-room same a) b c)
 
 -- the P line of values that are the plan's
 pub values : (p : Plan) {n h w d end : ℕ} → n ≡ p .n → h ≡ p .h → w ≡ p .w → d ≡ p .d → end ≡ p .end
-    → opening n h w d end ≡ opening (p .n) (p .h) (p .w) (p .d) (p .end)
+    → startPlan n h w d end ≡ startPlan (p .n) (p .h) (p .w) (p .d) (p .end)
 values p a b c d e = rw (a, b, c, d, e)

@@ -3,10 +3,10 @@ use mathlib.Core.Path.{_≡_}
 use mathlib.Core.List.{List}
 use Prim.Native.Nat.{ℕ}
 use Rattle.plans.specs.Plan.{Plan, startPlan}
-use Rattle.runfile.specs.File.{FileAnswer as Answer, accepted, fileOf, turnedDown}
+use Rattle.runfile.specs.File.{FileAnswer, accepted, fileOf, turnedDown}
 
 -- a refused file plans nothing
-unfoldable pub planned : Answer → Plan
+unfoldable pub planned : FileAnswer → Plan
 planned (accepted p) = p
 planned (turnedDown number line) = startPlan 0 0 0 0 0
 

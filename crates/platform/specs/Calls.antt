@@ -10,7 +10,7 @@ use Rattle.text.specs.Put.{put}
 use Rattle.logline.specs.Line.{lineText}
 use Rattle.plans.specs.Plan.{Plan}
 use Rattle.runfile.specs.Text.{planText}
-use Rattle.runfile.specs.File.{FileAnswer as Answer, accepted, fileOf, turnedDown}
+use Rattle.runfile.specs.File.{FileAnswer, accepted, fileOf, turnedDown}
 use Rattle.limits.specs.Limits.{storeSize, lineRoom, fileRoom}
 use Rattle.limits.specs.Refusals.{badStore, tooMany, shortPart}
 use Rattle.model.specs.Platform.{State, Outcome, did, ended, refused, start, try, steps, eventCount, runAnswer, spent, finished, overfull, Ending}
@@ -39,7 +39,7 @@ openPlan p store =
     (record { answer = Unopened badStore 0; store = store })
 
 -- the file is tried before the store
-unfoldable pub openAnswer : Answer → List ℕ → AfterOpen
+unfoldable pub openAnswer : FileAnswer → List ℕ → AfterOpen
 openAnswer (turnedDown number line) store = record { answer = Unopened number line; store = store }
 openAnswer (accepted p) store = openPlan p store
 

@@ -1,6 +1,6 @@
 -- The forwarding table's laws. Assumes nothing.
 use mathlib.Core.Path.{_≡_, refl}
-use mathlib.Core.Bool.{Bool, true, false, cond, _&&_, false≢true}
+use mathlib.Core.Bool.{Bool, true, false, cond, _&&_, false≢true, and-eq-true-iff}
 use mathlib.Core.List.{List, map}
 use Prim.Native.Nat.{ℕ, _-_, _^_, _≤_, _<_}
 use native.Mathlib.Omega.{arith}
@@ -11,11 +11,6 @@ use lib.Pow.{lt-of-le-ones}
 use Rattle.limits.specs.Limits.{mostNodes}
 use Rattle.ring.specs.Ring.{rowSize, none, numbers, listed, place, targets, row, tableAnswer, tableRow, tableRows}
 use Rattle.limits.specs.Refusals.{outOfRange}
-
-both : (a b : Bool) → (a && b) ≡ true → (a ≡ true) × (b ≡ true)
-both true true e = (refl, refl)
-both true false e = absurd (false≢true e)
-both false b e = absurd (false≢true e)
 
 -- the three cases of a row
 module _ (order : List ℕ) (d i : ℕ) where
@@ -65,6 +60,6 @@ module _ (n d : ℕ) where
   pub accepted : tableAnswer n d ≡ 0 → (1 ≤ n) × (n ≤ mostNodes) × (d < 2 ^ n)
   unfolding tableAnswer
   accepted e =
-      let a = both (leb 1 n && leb n mostNodes) (ltb d (2 ^ n)) (answered _ e) in
-      let b = both (leb 1 n) (leb n mostNodes) (a .0) in
+      let a = and-eq-true-iff (leb 1 n && leb n mostNodes) (ltb d (2 ^ n)) .0 (answered _ e) in
+      let b = and-eq-true-iff (leb 1 n) (leb n mostNodes) .0 (a .0) in
       (leb-true 1 n (b .0), leb-true n mostNodes (b .1), ltb-true d (2 ^ n) (a .1))

@@ -2,7 +2,7 @@
 -- holds. Assumes nothing.
 use Prim.Native.Nat.{ℕ, zero, suc, _+_, _-_, _<_, _≤_}
 use mathlib.Core.Path.{_≡_, refl, sym, _∙_}
-use mathlib.Core.Bool.{Bool, true, _&&_, and-true}
+use mathlib.Core.Bool.{Bool, true, _&&_, and-true, and-eq-true-iff}
 use mathlib.Core.List.{List, [], _∷_, _++_, map}
 use native.Mathlib.Nat.{one-mul}
 use native.Mathlib.Omega.{arith}
@@ -18,7 +18,6 @@ use Rattle.node.specs.Node.{alone}
 use Rattle.fields.specs.Fields.{fieldAt}
 use Rattle.model.specs.Platform.{State, InFlight, nodeOf, messageAt, noMessage}
 use Rattle.plans.specs.Plain.{rowAt}
-use Rattle.model.proofs.Bools.{and-split}
 use Rattle.store.specs.Columns.{Column, unused, cell, number, joined, roomTest, unusedTest}
 use Rattle.store.specs.Columns.{columnsOf, numbersOf, cellsAt, RowFits, RowsFit, placesTest}
 use Rattle.limits.specs.Limits.{storeSize}
@@ -152,9 +151,9 @@ module _ (p : Plan) (s : State) where
 
   pub room-counts : length (s .nodes) ≡ p .n → roomTest (columns p s) ≡ true → Counts p s
   room-counts e room =
-      let nodes = and-split (leb (length (s .nodes)) 64) _ (sym room-parts ∙ room) in
-      let crashes = and-split (leb (length (p .crashes)) 64) _ (nodes .1) in
-      let rest = and-split (leb (length (p .delays)) 2048) (leb (length (s .flight)) 2048) (crashes .1) in
+      let nodes = and-eq-true-iff (leb (length (s .nodes)) 64) _ .0 (sym room-parts ∙ room) in
+      let crashes = and-eq-true-iff (leb (length (p .crashes)) 64) _ .0 (nodes .1) in
+      let rest = and-eq-true-iff (leb (length (p .delays)) 2048) (leb (length (s .flight)) 2048) .0 (crashes .1) in
       record {
         nodes = omega (arith, leb-true (length (s .nodes)) 64 (nodes .0));
         crashes = leb-true _ 64 (crashes .0);
