@@ -13,6 +13,7 @@ use Rattle.model.specs.Range.{NotBefore}
 use Rattle.model.proofs.Search.{found-crash, found-message, found-none, found-watch, found-beat}
 use Rattle.store.specs.Store.{planIn, stateIn}
 use Rattle.event.specs.Event.{NextIs}
+use Rattle.event.specs.Search.{crashTick}
 use Rattle.event.proofs.Readiness.{ready-accepted, ready-sound}
 use Rattle.queue.specs.declared.Row.{Row}
 use Rattle.queue.specs.Rows.{rowAt as queueRow}
@@ -30,10 +31,10 @@ use Rattle.course.proofs.Looking.{whole-crash}
 -- what a look finds: the end tick, that of the next crash and that of the first message
 pub record Looked (b q : List ℕ) (c : Progress) (end crash due : ℕ) : Type 0 where
   pub last : end ≡ planIn b .end
-  pub first : CrashAt (planIn b) (stateIn b) crash
+  pub first : crash ≡ crashTick (planIn b) (stateIn b .done)
   pub message : (flight : List InFlight) → Holds q (c .start) (c .end) flight → DueAt q (c .start) (c .end) flight (end + 1) due
 
-pub looked : {b q : List ℕ} (c : Progress) {end crash due : ℕ} → end ≡ planIn b .end → CrashAt (planIn b) (stateIn b) crash
+pub looked : {b q : List ℕ} (c : Progress) {end crash due : ℕ} → end ≡ planIn b .end → crash ≡ crashTick (planIn b) (stateIn b .done)
     → ((flight : List InFlight) → Holds q (c .start) (c .end) flight → DueAt q (c .start) (c .end) flight (end + 1) due)
     → Looked b q c end crash due
 looked c e f m = record { last = e; first = f; message = m }
@@ -53,7 +54,7 @@ module _ {b q : List ℕ} {c : Progress} {whole : List ℕ} (k : Underway b q c 
     ee = l .last ∙ ap (λ (z : Plan). z .end) (apart-plan (k .apart))
 
     ca : CrashAt p s cr
-    ca = whole-crash (k .apart) cr (l .first)
+    ca = whole-crash (k .apart) pl cr (l .first)
 
     da : DueAt q (c .start) (c .end) (s .flight) (en + 1) du
     da = l .message (s .flight) (k .apart .holds)

@@ -12,14 +12,13 @@ use Rattle.node.specs.Node.{alone}
 use Rattle.node.specs.declared.Node.{Node}
 use Rattle.ring.specs.Ring.{listed}
 use Rattle.plans.specs.Plan.{Plan}
-use Rattle.store.specs.declared.CrashRow.{CrashRow}
 use Rattle.model.specs.Platform.{InFlight, State, alive, nodeOf, crashedList}
 use Rattle.plans.specs.Plain.{rowAt, Plain}
 use Rattle.model.specs.Range.{Accepted}
 use Rattle.store.specs.Store.{planIn, stateIn}
-use Rattle.store.specs.Inside.{withFlight, crashRow}
-use Rattle.event.specs.Search.{timerTick}
-use Rattle.event.proofs.Searching.{live-of, dead-of, timer-none, timer-sooner, timer-later}
+use Rattle.store.specs.Inside.{withFlight}
+use Rattle.event.specs.Search.{crashTick, timerTick}
+use Rattle.event.proofs.Searching.{crashes-over, crash-first, live-of, dead-of, timer-none, timer-sooner, timer-later}
 use Rattle.queue.specs.declared.Row.{Row}
 use Rattle.queue.specs.Rows.{rowAt as queueRow}
 use Rattle.queue.specs.Order.{insertBefore, ordered, Every, From, Rising}
@@ -30,13 +29,31 @@ use Rattle.course.specs.Apart.{Apart}
 use Rattle.course.specs.Look.{CrashAt, DueAt, Timers, DueNow, TimerAt, Before, SoonerOf, Under}
 use Rattle.course.proofs.Parting.{apart-plan, apart-state, apart-done}
 
+-- ---- crashes
+
+-- what the search for the first one that is not done finds
+pub crash-at : (p : Plan) → Plain p → (s : State) (r : ℕ) → r ≡ crashTick p (s .done) → CrashAt p s r
+crash-at p pl s r e = go (decLt (s .done) (length (p .crashes)))
+  where
+    go : Dec (s .done < length (p .crashes)) → CrashAt p s r
+    go (no h) =
+        let over : r ≡ suc (p .end) = e ∙ crashes-over p s (omega arith) in
+        record { within = omega arith; all = λ i g k. absurd (omega arith); here = λ g. absurd (omega arith) }
+    go (yes h) =
+        let first : r ≡ rowAt p (s .done) .tick = e ∙ crash-first p pl s h in
+        record {
+          within = omega (arith, first, pl .tick (s .done) h);
+          all = λ i g k. all first i g k (ℕ-discrete i (s .done));
+          here = λ g. (h, sym first);
+        }
+      where
+        all : r ≡ rowAt p (s .done) .tick → (i : ℕ) → s .done ≤ i → i < length (p .crashes) → Dec (i ≡ s .done) → r ≤ rowAt p i .tick
+        all f i g k (yes q) = omega (arith, f, ap (λ (z : ℕ). rowAt p z .tick) q)
+        all f i g k (no q) = omega (arith, f, pl .rising (s .done) i (omega arith) k)
+
 -- ---- what is found in a run's store holds of the whole one
 
 module _ (p : Plan) (s : State) (ms : List InFlight) where
-  crash-any : (r : ℕ) → CrashAt p (withFlight s ms) r → CrashAt p s r
-  unfolding withFlight
-  crash-any r h = record { within = h .within; all = h .all; here = h .here }
-
   timers-any : (t x : ℕ) → Timers p (withFlight s ms) t x → Timers p s t x
   unfolding withFlight
   timers-any t x h = record { watch = h .watch; heartbeat = h .heartbeat; passed = h .passed }
@@ -50,8 +67,8 @@ module _ (p : Plan) (s : State) (ms : List InFlight) where
   timer-any t r h = record { timers = timers-any t r (h .timers); within = h .within; here = h .here }
 
 module _ {b q whole : List ℕ} {start end : ℕ} (s : Apart b q start end whole) where
-  pub whole-crash : (r : ℕ) → CrashAt (planIn b) (stateIn b) r → CrashAt (planIn whole) (stateIn whole) r
-  whole-crash r h = crash-any (planIn whole) (stateIn whole) [] r (rw (apart-plan s, apart-state s) at h)
+  pub whole-crash : Plain (planIn whole) → (r : ℕ) → r ≡ crashTick (planIn b) (stateIn b .done) → CrashAt (planIn whole) (stateIn whole) r
+  whole-crash pl r e = crash-at (planIn whole) pl (stateIn whole) r (e ∙ ap₂ crashTick (apart-plan s) (apart-done s))
 
   pub whole-timers : (t x : ℕ) → Timers (planIn b) (stateIn b) t x → Timers (planIn whole) (stateIn whole) t x
   whole-timers t x h = timers-any (planIn whole) (stateIn whole) [] t x (rw (apart-plan s, apart-state s) at h)
@@ -68,29 +85,6 @@ module _ {b q whole : List ℕ} {start end : ℕ} (s : Apart b q start end whole
 
   pub apart-timers : (t x : ℕ) → Timers (planIn whole) (stateIn whole) t x → Timers (planIn b) (stateIn b) t x
   apart-timers t x h = rw (apart-plan s, apart-state s) (timers-none (planIn whole) (stateIn whole) [] t x h)
-
--- ---- crashes
-
-module _ (p : Plan) (s : State) (n done : ℕ) (ne : n ≡ length (p .crashes)) (de : done ≡ s .done) where
-  pub crash-none : (end : ℕ) → end ≡ p .end → n ≤ done → CrashAt p s (end + 1)
-  crash-none end ee h = record { within = omega arith; all = λ i g k. absurd (omega arith); here = λ g. absurd (omega arith) }
-
-  pub crash-some : Plain p → done < n → (row : CrashRow) → row ≡ crashRow (rowAt p done) → CrashAt p s (row .tick)
-  crash-some pl h row re = record {
-    within = omega (arith, e, pl .tick (s .done) inside);
-    all = λ i g k. all i g k (ℕ-discrete i (s .done));
-    here = λ g. (inside, sym e);
-  }
-    where
-      inside : s .done < length (p .crashes)
-      inside = omega arith
-
-      e : row .tick ≡ rowAt p (s .done) .tick
-      e = ap (λ (z : CrashRow). z .tick) re ∙ ap (λ (i : ℕ). rowAt p i .tick) de
-
-      all : (i : ℕ) → s .done ≤ i → i < length (p .crashes) → Dec (i ≡ s .done) → row .tick ≤ rowAt p i .tick
-      all i g k (yes q) = omega (arith, e, ap (λ (z : ℕ). rowAt p z .tick) q)
-      all i g k (no q) = omega (arith, e, pl .rising (s .done) i (omega arith) k)
 
 -- ---- messages
 

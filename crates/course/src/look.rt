@@ -9,20 +9,7 @@ ghost use Rattle.model.specs.Platform.{InFlight, crashedList};
 ghost use Rattle.store.specs.Store.{planIn, stateIn};
 ghost use Rattle.event.specs.Acting.{Acting};
 ghost use Rattle.queue.specs.Holds.{Holds};
-ghost use Rattle.course.specs.Look.{CrashAt, DueAt, Timers, DueNow, TimerAt, SoonerOf};
-
-// The tick of the first undone crash, or the one after the end where all are done.
-pub fn crash_tick(b: &[u8]) -> u32
-    requires { ⌜ Acting (now b) ⌝ }
-    ensures { λ r. ⌜ CrashAt (planIn (now (b .entry))) (stateIn (now (b .entry))) r ⌝ }
-{
-    let done = plan::crashes_done(b);
-    if plan::crash_count(b) <= done {
-        return plan::end_tick(b) + 1;
-    }
-    let row = plan::crash_at(b, done);
-    row.tick
-}
+ghost use Rattle.course.specs.Look.{DueAt, Timers, DueNow, TimerAt, SoonerOf};
 
 // The tick of the first message of a queue, or `never` where none is due before that.
 pub fn message_tick(q: &[u64], start: usize, end: usize, never: u32) -> u32

@@ -3,6 +3,7 @@ use crate::Progress;
 use crate::Step;
 use crate::act;
 use crate::look;
+use event::search;
 use store::nodes;
 use store::plan;
 ghost use mathlib.Core.List.{List};
@@ -51,7 +52,7 @@ pub fn step(b: &mut [u8], q: &mut [u64], c: Progress) -> Step
     ensures { λ r. ⌜ Stepped (now (b .entry)) (now (q .entry)) c r (now (b .exit)) (now (q .exit)) ⌝ }
 {
     let end = plan::end_tick(b);
-    let crash = look::crash_tick(b);
+    let crash = search::earliest_crash(b);
     let due = look::message_tick(q, c.start, c.end, end + 1);
     let bound = c.bound;
     if crash <= due {

@@ -28,7 +28,7 @@ use Rattle.ring.proofs.Laws.{keep-ext}
 use Rattle.model.proofs.SettledNode.{crashed-listed}
 use Rattle.event.specs.declared.Next.the-variants.{Nothing}
 use Rattle.event.specs.Event.{nextOf, entry}
-use Rattle.event.specs.Search.{sooner, leastTick, timerTick, firstAt}
+use Rattle.event.specs.Search.{sooner, leastTick, crashTick, timerTick, firstAt}
 
 -- ---- the earliest tick
 
@@ -182,14 +182,13 @@ dead-of p ac done k h = go (alive p done k) (sym (crashed-listed p ac done k) �
 -- ---- the earliest tick of crashes
 
 -- all are done
-pub crashes-over : (p : Plan) (s : State) (t : ℕ) → length (p .crashes) ≤ s .done → leastTick t (crashEntries (drop (s .done) (p .crashes))) ≡ t
-unfolding crashEntries leastTick
-crashes-over p s t h = rw (drop-of-length-le (p .crashes) h)
+pub crashes-over : (p : Plan) (s : State) → length (p .crashes) ≤ s .done → crashTick p (s .done) ≡ suc (p .end)
+unfolding crashTick crashEntries leastTick
+crashes-over p s h = rw (drop-of-length-le (p .crashes) h)
 
 -- the first undone row is the earliest
-pub crash-first : (p : Plan) → Plain p → (s : State) → s .done < length (p .crashes)
-    → leastTick (suc (p .end)) (crashEntries (drop (s .done) (p .crashes))) ≡ (rowAt p (s .done)) .tick
-unfolding crashEntries leastTick
+pub crash-first : (p : Plan) → Plain p → (s : State) → s .done < length (p .crashes) → crashTick p (s .done) ≡ (rowAt p (s .done)) .tick
+unfolding crashTick crashEntries leastTick
 crash-first p pl s h =
     rw (drop-cons (p .crashes) (s .done) noCrash h)
     (ap (λ (u : ℕ). leastTick u (crashEntries (drop (suc (s .done)) (p .crashes))))
@@ -369,13 +368,13 @@ module _ (p : Plan) (d dead x : ℕ) (r : Bool) (is : r ≡ listed dead x) (e : 
 
 -- ---- the whole search
 
-module _ (p : Plan) (s : State) (c m t : ℕ) (crashes : c ≡ leastTick (suc (p .end)) (crashEntries (drop (s .done) (p .crashes))))
+module _ (p : Plan) (s : State) (c m t : ℕ) (crashes : c ≡ crashTick p (s .done))
     (messages : m ≡ leastTick c (messageEntries 0 (s .flight))) (timers : t ≡ leastTick m (timerEntries p (s .done) 0 (s .nodes))) where
   earliest : leastTick (suc (p .end)) (pending p s) ≡ t
-  unfolding pending
+  unfolding pending crashTick
   earliest =
       least-append (suc (p .end)) (crashEntries (drop (s .done) (p .crashes))) _
-      ∙ least-append (leastTick (suc (p .end)) (crashEntries (drop (s .done) (p .crashes)))) (messageEntries 0 (s .flight)) _
+      ∙ least-append (crashTick p (s .done)) (messageEntries 0 (s .flight)) _
       ∙ rw (← crashes, ← messages) (sym timers)
 
   pub search-none : p .end < t → nextOf (nextEvent p s) ≡ Nothing

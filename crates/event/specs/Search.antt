@@ -4,7 +4,9 @@ use mathlib.Core.List.{List, [], _∷_}
 use mathlib.Core.Option.{Option, none, some}
 use Prim.Native.Nat.{ℕ, zero, suc}
 use lib.Dec.{eqb, ltb}
-use Rattle.model.specs.Platform.{Entry}
+use lib.ListN.{drop}
+use Rattle.plans.specs.Plan.{Plan}
+use Rattle.model.specs.Platform.{Entry, crashEntries}
 
 -- the earlier of two ticks
 unfoldable pub sooner : ℕ → ℕ → ℕ
@@ -14,6 +16,10 @@ sooner t u = cond (ltb u t) u t
 unfoldable pub leastTick : ℕ → List Entry → ℕ
 leastTick t [] = t
 leastTick t (e ∷ es) = leastTick (sooner t (e .tick)) es
+
+-- the tick of the first crash that is not done, or the one after the end where all are
+unfoldable pub crashTick : Plan → ℕ → ℕ
+crashTick p done = leastTick (suc (p .end)) (crashEntries (drop done (p .crashes)))
 
 -- the earliest of t and a timer's tick, where it is on
 unfoldable pub timerTick : ℕ → ℕ → ℕ

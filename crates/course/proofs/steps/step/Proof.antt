@@ -12,8 +12,8 @@ use Rattle.course.proofs.steps.step.Tie as tie
 end-tick-requires : tie.Need-end-tick-requires
 end-tick-requires c κs = (apart-held (c .before .before .before .pre .underway .apart)) .size
 
-crash-tick-requires : tie.Need-crash-tick-requires
-crash-tick-requires c κs =
+earliest-crash-requires : tie.Need-earliest-crash-requires
+earliest-crash-requires c κs =
     let k = c .before .before .before .before .before .pre .underway in
     apart-acting (k .apart) (k .ready)
 
@@ -36,10 +36,10 @@ timers-requires c κs =
     let at-if2 = c .before .before in
     let at-if1 = at-if2 .before in
     let at-message-tick = at-if1 .before in
-    let at-crash-tick = at-message-tick .before .before in
-    let at-end-tick = at-crash-tick .before .before in
+    let at-earliest-crash = at-message-tick .before .before in
+    let at-end-tick = at-earliest-crash .before .before in
     let start = at-end-tick .before .before .before .before in
-    let l = looked (start .args .c) (at-end-tick .end-tick .ensures) (at-crash-tick .crash-tick .ensures) (at-message-tick .message-tick .ensures) in
+    let l = looked (start .args .c) (at-end-tick .end-tick .ensures) (at-earliest-crash .earliest-crash .ensures) (at-message-tick .message-tick .ensures) in
     let p = start .pre in
     let k = p .underway in
     let h = at-if2 .if2 .taken in
@@ -53,10 +53,10 @@ returns c =
     let at-if2 = at-timers .before .before .before in
     let at-if1 = at-if2 .before in
     let at-message-tick = at-if1 .before in
-    let at-crash-tick = at-message-tick .before .before in
-    let at-end-tick = at-crash-tick .before .before in
+    let at-earliest-crash = at-message-tick .before .before in
+    let at-end-tick = at-earliest-crash .before .before in
     let start = at-end-tick .before .before .before .before in
-    let l = looked (start .args .c) (at-end-tick .end-tick .ensures) (at-crash-tick .crash-tick .ensures) (at-message-tick .message-tick .ensures) in
+    let l = looked (start .args .c) (at-end-tick .end-tick .ensures) (at-earliest-crash .earliest-crash .ensures) (at-message-tick .message-tick .ensures) in
     let h = at-if2 .if2 .taken in
     let quiet = chosen-quiet k l h (omega (arith, h, at-if1 .if1 .taken)) in
     at-timers .timers .ensures whole k quiet
@@ -67,10 +67,10 @@ returns-2 c =
     let at-if2 = c .before in
     let at-if1 = at-if2 .before in
     let at-message-tick = at-if1 .before in
-    let at-crash-tick = at-message-tick .before .before in
-    let at-end-tick = at-crash-tick .before .before in
+    let at-earliest-crash = at-message-tick .before .before in
+    let at-end-tick = at-earliest-crash .before .before in
     let start = at-end-tick .before .before .before .before in
-    let l = looked (start .args .c) (at-end-tick .end-tick .ensures) (at-crash-tick .crash-tick .ensures) (at-message-tick .message-tick .ensures) in
+    let l = looked (start .args .c) (at-end-tick .end-tick .ensures) (at-earliest-crash .earliest-crash .ensures) (at-message-tick .message-tick .ensures) in
     chosen-ended k l (omega (arith, at-if1 .if1 .taken)) (at-if2 .if2 .left) (c .if3 .taken)
 
 do-crash-requires : tie.Need-do-crash-requires
@@ -79,10 +79,10 @@ do-crash-requires c κs =
     let at-if2 = at-if3 .before in
     let at-if1 = at-if2 .before in
     let at-message-tick = at-if1 .before in
-    let at-crash-tick = at-message-tick .before .before in
-    let at-end-tick = at-crash-tick .before .before in
+    let at-earliest-crash = at-message-tick .before .before in
+    let at-end-tick = at-earliest-crash .before .before in
     let start = at-end-tick .before .before .before .before in
-    let l = looked (start .args .c) (at-end-tick .end-tick .ensures) (at-crash-tick .crash-tick .ensures) (at-message-tick .message-tick .ensures) in
+    let l = looked (start .args .c) (at-end-tick .end-tick .ensures) (at-earliest-crash .earliest-crash .ensures) (at-message-tick .message-tick .ensures) in
     let p = start .pre in
     let k = p .underway in
     let next = chosen-crash k l (omega (arith, at-if1 .if1 .taken)) (at-if2 .if2 .left) (at-if3 .if3 .left) in
@@ -96,10 +96,10 @@ returns-3 c =
     let at-if2 = at-if3 .before in
     let at-if1 = at-if2 .before in
     let at-message-tick = at-if1 .before in
-    let at-crash-tick = at-message-tick .before .before in
-    let at-end-tick = at-crash-tick .before .before in
+    let at-earliest-crash = at-message-tick .before .before in
+    let at-end-tick = at-earliest-crash .before .before in
     let start = at-end-tick .before .before .before .before in
-    let l = looked (start .args .c) (at-end-tick .end-tick .ensures) (at-crash-tick .crash-tick .ensures) (at-message-tick .message-tick .ensures) in
+    let l = looked (start .args .c) (at-end-tick .end-tick .ensures) (at-earliest-crash .earliest-crash .ensures) (at-message-tick .message-tick .ensures) in
     let next = chosen-crash k l (omega (arith, at-if1 .if1 .taken)) (at-if2 .if2 .left) (at-if3 .if3 .left) in
     at-do-crash .do-crash .ensures _ whole _ k next
 
@@ -108,10 +108,10 @@ timers-requires-2 c κs =
     let at-if4 = c .before .before in
     let at-if1 = at-if4 .before in
     let at-message-tick = at-if1 .before in
-    let at-crash-tick = at-message-tick .before .before in
-    let at-end-tick = at-crash-tick .before .before in
+    let at-earliest-crash = at-message-tick .before .before in
+    let at-end-tick = at-earliest-crash .before .before in
     let start = at-end-tick .before .before .before .before in
-    let l = looked (start .args .c) (at-end-tick .end-tick .ensures) (at-crash-tick .crash-tick .ensures) (at-message-tick .message-tick .ensures) in
+    let l = looked (start .args .c) (at-end-tick .end-tick .ensures) (at-earliest-crash .earliest-crash .ensures) (at-message-tick .message-tick .ensures) in
     let p = start .pre in
     let k = p .underway in
     let h = at-if4 .if4 .taken in
@@ -125,10 +125,10 @@ returns-4 c =
     let at-if4 = at-timers2 .before .before .before in
     let at-if1 = at-if4 .before in
     let at-message-tick = at-if1 .before in
-    let at-crash-tick = at-message-tick .before .before in
-    let at-end-tick = at-crash-tick .before .before in
+    let at-earliest-crash = at-message-tick .before .before in
+    let at-end-tick = at-earliest-crash .before .before in
     let start = at-end-tick .before .before .before .before in
-    let l = looked (start .args .c) (at-end-tick .end-tick .ensures) (at-crash-tick .crash-tick .ensures) (at-message-tick .message-tick .ensures) in
+    let l = looked (start .args .c) (at-end-tick .end-tick .ensures) (at-earliest-crash .earliest-crash .ensures) (at-message-tick .message-tick .ensures) in
     let h = at-if4 .if4 .taken in
     let quiet = chosen-quiet k l (omega (arith, h, at-if1 .if1 .left)) h in
     at-timers2 .timers2 .ensures whole k quiet
@@ -138,10 +138,10 @@ do-message-requires c κs =
     let at-if4 = c .before .before in
     let at-if1 = at-if4 .before in
     let at-message-tick = at-if1 .before in
-    let at-crash-tick = at-message-tick .before .before in
-    let at-end-tick = at-crash-tick .before .before in
+    let at-earliest-crash = at-message-tick .before .before in
+    let at-end-tick = at-earliest-crash .before .before in
     let start = at-end-tick .before .before .before .before in
-    let l = looked (start .args .c) (at-end-tick .end-tick .ensures) (at-crash-tick .crash-tick .ensures) (at-message-tick .message-tick .ensures) in
+    let l = looked (start .args .c) (at-end-tick .end-tick .ensures) (at-earliest-crash .earliest-crash .ensures) (at-message-tick .message-tick .ensures) in
     let p = start .pre in
     let k = p .underway in
     let delivers = chosen-message k l (omega (arith, at-if1 .if1 .left)) (omega (arith, at-if4 .if4 .left)) in
@@ -154,16 +154,16 @@ returns-5 c =
     let at-if4 = at-do-message .before .before .before in
     let at-if1 = at-if4 .before in
     let at-message-tick = at-if1 .before in
-    let at-crash-tick = at-message-tick .before .before in
-    let at-end-tick = at-crash-tick .before .before in
+    let at-earliest-crash = at-message-tick .before .before in
+    let at-end-tick = at-earliest-crash .before .before in
     let start = at-end-tick .before .before .before .before in
-    let l = looked (start .args .c) (at-end-tick .end-tick .ensures) (at-crash-tick .crash-tick .ensures) (at-message-tick .message-tick .ensures) in
+    let l = looked (start .args .c) (at-end-tick .end-tick .ensures) (at-earliest-crash .earliest-crash .ensures) (at-message-tick .message-tick .ensures) in
     let delivers = chosen-message k l (omega (arith, at-if1 .if1 .left)) (omega (arith, at-if4 .if4 .left)) in
     at-do-message .do-message .ensures whole k delivers
 
 pub step-spec : {M : Type 1} → statement M
 step-spec =
-    tie.close (tie.spec end-tick-requires crash-tick-requires add-message-tick message-tick-requires timers-requires (λ c. search needs)
+    tie.close (tie.spec end-tick-requires earliest-crash-requires add-message-tick message-tick-requires timers-requires (λ c. search needs)
     (λ c. search needs) returns (λ c. search needs) (λ c. search needs) returns-2 do-crash-requires (λ c. search needs) (λ c. search needs)
     returns-3 timers-requires-2 (λ c. search needs) (λ c. search needs) returns-4 do-message-requires (λ c. search needs) (λ c. search needs)
     returns-5)

@@ -1,7 +1,7 @@
 -- `event::search::next_event` meets its contract. Assumes nothing.
 use mathlib.Core.Path.{sym, _∙_}
 use Rattle.store.specs.Store.{planIn, stateIn}
-use Rattle.event.proofs.Readiness.{ready-crashes}
+use Rattle.event.proofs.Readiness.{ready-acting, ready-crashes}
 use Rattle.event.proofs.Searching.{search-none, search-found}
 use native.Mathlib.Omega.{arith}
 use Rattle.event.proofs.search.next_event.Statement.{statement}
@@ -11,7 +11,7 @@ crashed-list-requires : tie.Need-crashed-list-requires
 crashed-list-requires c κs = ready-crashes _ (c .before .pre)
 
 earliest-crash-requires : tie.Need-earliest-crash-requires
-earliest-crash-requires c κs = c .before .before .pre
+earliest-crash-requires c κs = ready-acting _ (c .before .before .pre)
 
 earliest-message-requires : tie.Need-earliest-message-requires
 earliest-message-requires c κs = c .before .before .before .pre .held
