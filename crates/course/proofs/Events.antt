@@ -4,23 +4,22 @@ use mathlib.Core.Path.{_≡_, refl, sym, ap, ap₂, subst, _∙_}
 use mathlib.Core.List.{List}
 use native.Mathlib.Omega.{arith}
 use lib.ListN.{length, set}
-use Rattle.limits.specs.Limits.{mostInFlight, mostSent}
+use Rattle.limits.specs.Limits.{mostTick, mostInFlight, mostSent}
 use Rattle.node.specs.declared.Node.{Node}
 use Rattle.node.specs.declared.Turned.{Turned}
-use Rattle.node.specs.Node.{turned, onHeartbeatDue, onWatchDue}
+use Rattle.node.specs.Node.{Turn, turned}
 use Rattle.model.specs.declared.Deed.{Deed}
-use Rattle.logline.specs.Line.{letterS, letterW}
 use Rattle.plans.specs.Plan.{Plan}
-use Rattle.model.specs.Platform.{InFlight, State, Entry, Outcome, watch, heartbeat, did, crashedList, nodeOf, taken, apply, left}
+use Rattle.model.specs.Platform.{InFlight, State, Event, Entry, Outcome, did, crashedList, nodeOf, taken, left}
 use Rattle.model.specs.Lines.{deed}
 use Rattle.store.specs.Store.{encode, planIn, stateIn}
 use Rattle.store.specs.Inside.{withFlight}
 use Rattle.event.specs.declared.Happened.{Happened}
 use Rattle.event.specs.declared.Happened.the-variants.{Did as done, Refused as overfull}
-use Rattle.event.specs.Event.{NextIs, entry, nextOutcome, nextAnswer, storeLeft, turnLeft, turnOf}
+use Rattle.event.specs.Acting.{Acting}
+use Rattle.event.specs.Event.{entry, nextOutcome, nextAnswer, storeLeft, turnLeft, turnOf}
 use Rattle.event.proofs.Readiness.{left-ready, left-holds, ready-sound}
-use Rattle.event.proofs.Turning.{turn-did}
-use Rattle.event.proofs.Doing.{beat-place, beat-turns, beat-count, beat-refused, beat-done, watch-place, watch-turns, watch-count, watch-refused, watch-done}
+use Rattle.event.proofs.Doing.{Timer, timer-tick, timer-count, timer-turns, timer-refused, timer-did, timer-done}
 use Rattle.queue.specs.Rows.{places}
 use Rattle.course.specs.declared.Progress.{Progress}
 use Rattle.course.specs.declared.Step.{Step}
@@ -28,7 +27,7 @@ use Rattle.course.specs.declared.Step.the-variants.{Did, Waits, Ended, R
 use Rattle.course.specs.Apart.{Apart}
 use Rattle.course.specs.Look.{Timers}
 use Rattle.course.specs.Progress.{Underway, Settling, Settled, SettledAs, Taken, TurnedDown, SteppedAs}
-use Rattle.course.proofs.Parting.{apart-plan, apart-node}
+use Rattle.course.proofs.Parting.{apart-plan, apart-node, apart-acting}
 use Rattle.course.proofs.Progressing.{timers-turn}
 
 -- ---- any turn
@@ -114,78 +113,36 @@ same-flight : (s : State) → s ≡ withFlight s (s .flight)
 unfolding withFlight
 same-flight s = refl
 
-module _ (b q : List ℕ) (c : Progress) (whole : List ℕ) (k : Underway b q c whole) where
-  -- of a heartbeat that is due
-  module _ (next : NextIs whole (c .bound) (heartbeat (c .x))) (u : Turned)
-      (ue : u ≡ turned (onHeartbeatDue (planIn b .h) (c .bound) (nodeOf (stateIn b) (c .x)))) where
-    beat-is : u ≡ turned (onHeartbeatDue (planIn whole .h) (c .bound) (nodeOf (stateIn whole) (c .x)))
-    beat-is =
-        ue ∙ ap₂ (λ (p : Plan) (n : Node). turned (onHeartbeatDue (p .h) (c .bound) n)) (apart-plan (k .apart)) (apart-node (k .apart) (c .x))
+module _ {b q : List ℕ} {c : Progress} {whole : List ℕ} (k : Underway b q c whole) {e : Event} {turn : Plan → Node → Turn} {letter : ℕ}
+    {other : Node → ℕ} (d : Timer whole (c .bound) (c .x) e turn letter other) where
+  -- what is asked for where the run's store is read for the turn
+  pub timer-asks : Acting b × ((c .bound ≤ mostTick) × (c .x < planIn b .n))
+  timer-asks = (apart-acting (k .apart) (k .ready), (timer-tick d, rw (apart-plan (k .apart)) (d .place)))
 
-    pub beat-settling : c .end + mostSent ≤ places → Settling b q c (c .bound) (c .x) u
-    beat-settling room = record {
-      whole = whole;
-      apart = k .apart;
-      few = beat-count whole (k .ready) (c .bound) (c .x) next u beat-is;
-      turns = beat-turns whole (k .ready) (c .bound) (c .x) next u beat-is;
-      room = room;
-    }
+  -- the run's store gives the turn u
+  module _ {u : Turned} (ue : u ≡ turned (turn (planIn b) (nodeOf (stateIn b) (c .x)))) where
+    turn-is : u ≡ turned (turn (planIn whole) (nodeOf (stateIn whole) (c .x)))
+    turn-is = ue ∙ ap₂ (λ (p : Plan) (n : Node). turned (turn p n)) (apart-plan (k .apart)) (apart-node (k .apart) (c .x))
 
-    module _ (l : Deed) (le : l ≡ deed letterS (c .bound) (c .x) (nodeOf (stateIn b) (c .x) .observer) (u .node .list)) where
-      deed-is : l ≡ deed letterS (c .bound) (c .x) (nodeOf (stateIn whole) (c .x) .observer) (u .node .list)
-      deed-is = le ∙ ap (λ (n : Node). deed letterS (c .bound) (c .x) (n .observer) (u .node .list)) (apart-node (k .apart) (c .x))
+    pub timer-settling : c .end + mostSent ≤ places → Settling b q c (c .bound) (c .x) u
+    timer-settling room = record { whole = whole; apart = k .apart; few = timer-count d turn-is; turns = timer-turns d turn-is; room = room }
 
-      beat-given : Given whole whole (stateIn whole .flight) (c .bound) (c .x) u l
-      unfolding apply
-      beat-given = record {
+    module _ {l : Deed} (le : l ≡ deed letter (c .bound) (c .x) (other (nodeOf (stateIn b) (c .x))) (u .node .list)) where
+      deed-is : l ≡ deed letter (c .bound) (c .x) (other (nodeOf (stateIn whole) (c .x))) (u .node .list)
+      deed-is = le ∙ ap (λ (n : Node). deed letter (c .bound) (c .x) (other n) (u .node .list)) (apart-node (k .apart) (c .x))
+
+      timer-given : Given whole whole (stateIn whole .flight) (c .bound) (c .x) u l
+      timer-given = record {
         plan = refl;
         state = same-flight (stateIn whole);
-        inside = beat-place whole (k .ready) (c .bound) (c .x) next;
-        entry = entry (c .bound) (heartbeat (c .x));
-        outcome = turn-did (planIn whole) (stateIn whole) (c .bound) (heartbeat (c .x)) next (c .x) (stateIn whole .flight) u _ beat-is refl;
-        answer = λ room. beat-done whole (k .ready) (c .bound) (c .x) next u beat-is l deed-is room .0;
-        full = beat-refused whole (k .ready) (c .bound) (c .x) next u beat-is;
+        inside = d .place;
+        entry = entry (c .bound) e;
+        outcome = timer-did d turn-is;
+        answer = λ room. timer-done d turn-is deed-is room .0;
+        full = timer-refused d turn-is;
       }
 
-      pub beat-stepped : (r : Step) (b' q' : List ℕ) → Settled b q c (c .bound) (c .x) u l r b' q' → SteppedAs whole c r b' q'
-      beat-stepped r b' q' s =
-          turn-stepped b q c c whole whole k (stateIn whole .flight) (c .bound) (c .x) u l beat-given (k .timers) refl (omega arith) r b' q'
-          (s whole (k .apart) (beat-turns whole (k .ready) (c .bound) (c .x) next u beat-is))
-
-  -- of a watch that is due
-  module _ (next : NextIs whole (c .bound) (watch (c .x))) (u : Turned)
-      (ue : u ≡ turned (onWatchDue (planIn b .order) (planIn b .w) (c .bound) (c .x) (nodeOf (stateIn b) (c .x)))) where
-    watch-is : u ≡ turned (onWatchDue (planIn whole .order) (planIn whole .w) (c .bound) (c .x) (nodeOf (stateIn whole) (c .x)))
-    watch-is =
-        ue ∙ ap₂ (λ (p : Plan) (n : Node). turned (onWatchDue (p .order) (p .w) (c .bound) (c .x) n)) (apart-plan (k .apart))
-        (apart-node (k .apart) (c .x))
-
-    pub watch-settling : c .end + mostSent ≤ places → Settling b q c (c .bound) (c .x) u
-    watch-settling room = record {
-      whole = whole;
-      apart = k .apart;
-      few = watch-count whole (k .ready) (c .bound) (c .x) next u watch-is;
-      turns = watch-turns whole (k .ready) (c .bound) (c .x) next u watch-is;
-      room = room;
-    }
-
-    module _ (l : Deed) (le : l ≡ deed letterW (c .bound) (c .x) (nodeOf (stateIn b) (c .x) .emitter) (u .node .list)) where
-      watch-deed-is : l ≡ deed letterW (c .bound) (c .x) (nodeOf (stateIn whole) (c .x) .emitter) (u .node .list)
-      watch-deed-is = le ∙ ap (λ (n : Node). deed letterW (c .bound) (c .x) (n .emitter) (u .node .list)) (apart-node (k .apart) (c .x))
-
-      watch-given : Given whole whole (stateIn whole .flight) (c .bound) (c .x) u l
-      unfolding apply
-      watch-given = record {
-        plan = refl;
-        state = same-flight (stateIn whole);
-        inside = watch-place whole (k .ready) (c .bound) (c .x) next;
-        entry = entry (c .bound) (watch (c .x));
-        outcome = turn-did (planIn whole) (stateIn whole) (c .bound) (watch (c .x)) next (c .x) (stateIn whole .flight) u _ watch-is refl;
-        answer = λ room. watch-done whole (k .ready) (c .bound) (c .x) next u watch-is l watch-deed-is room .0;
-        full = watch-refused whole (k .ready) (c .bound) (c .x) next u watch-is;
-      }
-
-      pub watch-stepped : (r : Step) (b' q' : List ℕ) → Settled b q c (c .bound) (c .x) u l r b' q' → SteppedAs whole c r b' q'
-      watch-stepped r b' q' s =
-          turn-stepped b q c c whole whole k (stateIn whole .flight) (c .bound) (c .x) u l watch-given (k .timers) refl (omega arith) r b' q'
-          (s whole (k .apart) (watch-turns whole (k .ready) (c .bound) (c .x) next u watch-is))
+      pub timer-stepped : (r : Step) (b' q' : List ℕ) → Settled b q c (c .bound) (c .x) u l r b' q' → SteppedAs whole c r b' q'
+      timer-stepped r b' q' s =
+          turn-stepped b q c c whole whole k (stateIn whole .flight) (c .bound) (c .x) u l timer-given (k .timers) refl (omega arith) r b' q'
+          (s whole (k .apart) (timer-turns d turn-is))

@@ -4,7 +4,6 @@ use mathlib.Core.Path.{_≡_, sym, ap₂, subst, _∙_}
 use mathlib.Core.List.{List}
 use mathlib.Core.Option.{none}
 use native.Mathlib.Omega.{arith}
-use lib.ListN.{length}
 use Rattle.limits.specs.Limits.{mostSent}
 use Rattle.store.specs.Store.{planIn, stateIn}
 use Rattle.event.specs.Ready.{Ready}

@@ -1,4 +1,4 @@
-// A look for the next event. Of the store it asks for the plan, the crashes done and the nodes only.
+// A look for the next message and the next timer. Of the store it asks for the plan, the crashes done and the nodes only.
 use event::search;
 use store::nodes;
 use store::plan;

@@ -130,91 +130,76 @@ module _ (b : List ℕ) (r : Ready b) (t : ℕ) (ev : Event) (next : NextIs b t 
       let q : Sendable (planIn b .n) x m = k .sends m h in
       record { kind = kind-fits (m .kind) (q .kind); to = omega (arith, q .to, pl .n≤); subject = omega (arith, q .subject, pl .n≤) }
 
--- ---- a watch
+-- ---- a timer that is due, of a watch or of heartbeats
 
-module _ (b : List ℕ) (r : Ready b) (t x : ℕ) (next : NextIs b t (watch x)) where
-  pub watch-place : x < planIn b .n
-  unfolding Chosen
-  watch-place = rw (ready-sound b r .nodes) at (chosen b r t (watch x) next .0)
+-- The event e is next, at tick t: node x takes the turn that the plan and the node give, and what e did is told by a letter, the other
+-- node and the list after it.
+pub record Timer (b : List ℕ) (t x : ℕ) (e : Event) (turn : Plan → Node → Turn) (letter : ℕ) (other : Node → ℕ) : Type 0 where
+  pub ready : Ready b
+  pub next : NextIs b t e
+  pub place : x < planIn b .n
+  pub takes : Takes b ready t e next x (turn (planIn b) (nodeOf (stateIn b) x))
+  pub applied : apply (planIn b) (stateIn b) t e ≡ taken (planIn b) (stateIn b) t x (stateIn b .flight) (turn (planIn b) (nodeOf (stateIn b) x))
+  pub told : (s' : State) → deedOf (planIn b) (stateIn b) s' t e ≡ deed letter t x (other (nodeOf (stateIn b) x)) (nodeOf s' x .list)
 
-  watch-takes : Takes b r t (watch x) next x (onWatchDue (planIn b .order) (planIn b .w) t x (nodeOf (stateIn b) x))
-  unfolding Chosen
-  watch-takes =
+module _ (b : List ℕ) (r : Ready b) (t x : ℕ) where
+  pub watch-timer : NextIs b t (watch x) → Timer b t x (watch x) (λ p a. onWatchDue (p .order) (p .w) t x a) W (λ a. a .emitter)
+  unfolding Chosen apply deedOf
+  watch-timer next =
       let ch = chosen b r t (watch x) next in
-      watch-taken (planIn b) (ready-accepted b r .plain) (stateIn b) (ready-sound b r) t (not-past b r t (watch x) next) (at-end b r t (watch x) next)
-      x watch-place (ch .1) (ch .2)
+      let place : x < planIn b .n = rw (ready-sound b r .nodes) at (ch .0) in
+      let pl = ready-accepted b r .plain in
+      let past = not-past b r t (watch x) next in
+      let end = at-end b r t (watch x) next in
+      let takes = watch-taken (planIn b) pl (stateIn b) (ready-sound b r) t past end x place (ch .1) (ch .2) in
+      record { ready = r; next = next; place = place; takes = takes; applied = refl; told = λ s'. refl }
 
-  module _ (u : Turned) (is : u ≡ turned (onWatchDue (planIn b .order) (planIn b .w) t x (nodeOf (stateIn b) x))) where
-    pub watch-count : u .count ≤ mostSent
-    unfolding turned
-    watch-count = rw is (watch-takes .few)
-
-    pub watch-turns : length (stateIn b .flight) + u .count ≤ mostInFlight → Turns b t x u
-    watch-turns h =
-        turns-of b t x u _ is (r .held) (r .plan) (event-tick b r t (watch x) next) watch-place (watch-takes .few) h (ready-next b r)
-        (took-node b r t (watch x) next x _ watch-takes) (took-message b r t (watch x) next x _ watch-takes)
-
-    watch-by : apply (planIn b) (stateIn b) t (watch x) ≡ taken (planIn b) (stateIn b) t x (stateIn b .flight)
-        (onWatchDue (planIn b .order) (planIn b .w) t x (nodeOf (stateIn b) x))
-    unfolding apply
-    watch-by = refl
-
-    pub watch-refused : mostInFlight < length (stateIn b .flight) + u .count → (_≡_ {A = Happened} Refused (nextAnswer b)) × (b ≡ storeLeft b)
-    watch-refused h =
-        refused-answer (planIn b) (stateIn b) b (r .held .canonical) (turn-refused (planIn b) (stateIn b) t (watch x) next x
-        (stateIn b .flight) u _ is watch-by h)
-
-    pub watch-done : (a : Deed) → a ≡ deed W t x (nodeOf (stateIn b) x .emitter) (u .node .list) → length (stateIn b .flight) + u .count ≤ mostInFlight
-        → (Did a ≡ nextAnswer b) × (turnLeft b t x u ≡ storeLeft b)
-    unfolding deedOf turnOf
-    watch-done a ae h =
-        let after = node-taken (planIn b) t x (stateIn b) (stateIn b .flight) (turnOf u) (rw (ready-sound b r .nodes) watch-place) in
-        did-answer (planIn b) (stateIn b) (turnLeft b t x u) a _ _
-        (turn-did (planIn b) (stateIn b) t (watch x) next x (stateIn b .flight) u _ is watch-by h) refl
-        (ae ∙ ap (λ (n : Node). deed W t x (nodeOf (stateIn b) x .emitter) (n .list)) (sym after))
-
--- ---- a heartbeat
-
-module _ (b : List ℕ) (r : Ready b) (t x : ℕ) (next : NextIs b t (heartbeat x)) where
-  pub beat-place : x < planIn b .n
-  unfolding Chosen
-  beat-place = rw (ready-sound b r .nodes) at (chosen b r t (heartbeat x) next .0)
-
-  beat-takes : Takes b r t (heartbeat x) next x (onHeartbeatDue (planIn b .h) t (nodeOf (stateIn b) x))
-  unfolding Chosen
-  beat-takes =
+  pub beat-timer : NextIs b t (heartbeat x) → Timer b t x (heartbeat x) (λ p a. onHeartbeatDue (p .h) t a) S (λ a. a .observer)
+  unfolding Chosen apply deedOf
+  beat-timer next =
       let ch = chosen b r t (heartbeat x) next in
-      beat-taken (planIn b) (ready-accepted b r .plain) (stateIn b) (ready-sound b r) t (not-past b r t (heartbeat x) next)
-      (at-end b r t (heartbeat x) next) x beat-place (ch .1) (ch .2)
+      let place : x < planIn b .n = rw (ready-sound b r .nodes) at (ch .0) in
+      let pl = ready-accepted b r .plain in
+      let past = not-past b r t (heartbeat x) next in
+      let end = at-end b r t (heartbeat x) next in
+      let takes = beat-taken (planIn b) pl (stateIn b) (ready-sound b r) t past end x place (ch .1) (ch .2) in
+      record { ready = r; next = next; place = place; takes = takes; applied = refl; told = λ s'. refl }
 
-  module _ (u : Turned) (is : u ≡ turned (onHeartbeatDue (planIn b .h) t (nodeOf (stateIn b) x))) where
-    pub beat-count : u .count ≤ mostSent
+module _ {b : List ℕ} {t x : ℕ} {e : Event} {turn : Plan → Node → Turn} {letter : ℕ} {other : Node → ℕ}
+    (k : Timer b t x e turn letter other) where
+  pub timer-tick : t ≤ mostTick
+  timer-tick = event-tick b (k .ready) t e (k .next)
+
+  pub timer-byte : x < 256
+  timer-byte = omega (arith, k .place, ready-accepted b (k .ready) .plain .n≤)
+
+  -- the code has u of the turn
+  module _ {u : Turned} (is : u ≡ turned (turn (planIn b) (nodeOf (stateIn b) x))) where
+    pub timer-count : u .count ≤ mostSent
     unfolding turned
-    beat-count = rw is (beat-takes .few)
+    timer-count = rw is (k .takes .few)
 
-    pub beat-turns : length (stateIn b .flight) + u .count ≤ mostInFlight → Turns b t x u
-    beat-turns h =
-        turns-of b t x u _ is (r .held) (r .plan) (event-tick b r t (heartbeat x) next) beat-place (beat-takes .few) h (ready-next b r)
-        (took-node b r t (heartbeat x) next x _ beat-takes) (took-message b r t (heartbeat x) next x _ beat-takes)
+    pub timer-turns : length (stateIn b .flight) + u .count ≤ mostInFlight → Turns b t x u
+    timer-turns h =
+        turns-of b t x u _ is (k .ready .held) (k .ready .plan) timer-tick (k .place) (k .takes .few) h (ready-next b (k .ready))
+        (took-node b (k .ready) t e (k .next) x _ (k .takes)) (took-message b (k .ready) t e (k .next) x _ (k .takes))
 
-    beat-by : apply (planIn b) (stateIn b) t (heartbeat x) ≡ taken (planIn b) (stateIn b) t x (stateIn b .flight)
-        (onHeartbeatDue (planIn b .h) t (nodeOf (stateIn b) x))
-    unfolding apply
-    beat-by = refl
+    pub timer-refused : mostInFlight < length (stateIn b .flight) + u .count → (_≡_ {A = Happened} Refused (nextAnswer b)) × (b ≡ storeLeft b)
+    timer-refused h =
+        refused-answer (planIn b) (stateIn b) b (k .ready .held .canonical)
+        (turn-refused (planIn b) (stateIn b) t e (k .next) x (stateIn b .flight) u _ is (k .applied) h)
 
-    pub beat-refused : mostInFlight < length (stateIn b .flight) + u .count → (_≡_ {A = Happened} Refused (nextAnswer b)) × (b ≡ storeLeft b)
-    beat-refused h =
-        refused-answer (planIn b) (stateIn b) b (r .held .canonical) (turn-refused (planIn b) (stateIn b) t (heartbeat x) next x
-        (stateIn b .flight) u _ is beat-by h)
+    pub timer-did : length (stateIn b .flight) + u .count ≤ mostInFlight
+        → nextOutcome b ≡ did (entry t e) (taken (planIn b) (stateIn b) t x (stateIn b .flight) (turnOf u))
+    timer-did = turn-did (planIn b) (stateIn b) t e (k .next) x (stateIn b .flight) u _ is (k .applied)
 
-    pub beat-done : (a : Deed) → a ≡ deed S t x (nodeOf (stateIn b) x .observer) (u .node .list) → length (stateIn b .flight) + u .count ≤ mostInFlight
-        → (Did a ≡ nextAnswer b) × (turnLeft b t x u ≡ storeLeft b)
-    unfolding deedOf turnOf
-    beat-done a ae h =
-        let after = node-taken (planIn b) t x (stateIn b) (stateIn b .flight) (turnOf u) (rw (ready-sound b r .nodes) beat-place) in
-        did-answer (planIn b) (stateIn b) (turnLeft b t x u) a _ _
-        (turn-did (planIn b) (stateIn b) t (heartbeat x) next x (stateIn b .flight) u _ is beat-by h) refl
-        (ae ∙ ap (λ (n : Node). deed S t x (nodeOf (stateIn b) x .observer) (n .list)) (sym after))
+    pub timer-done : {a : Deed} → a ≡ deed letter t x (other (nodeOf (stateIn b) x)) (u .node .list)
+        → length (stateIn b .flight) + u .count ≤ mostInFlight → (Did a ≡ nextAnswer b) × (turnLeft b t x u ≡ storeLeft b)
+    unfolding turnOf
+    timer-done {a} ae h =
+        let after = node-taken (planIn b) t x (stateIn b) (stateIn b .flight) (turnOf u) (rw (ready-sound b (k .ready) .nodes) (k .place)) in
+        did-answer (planIn b) (stateIn b) (turnLeft b t x u) a _ _ (timer-did h) refl
+        (ae ∙ (ap (λ (n : Node). deed letter t x (other (nodeOf (stateIn b) x)) (n .list)) (sym after) ∙ sym (k .told _)))
 
 -- ---- a crash
 

@@ -1,8 +1,6 @@
 -- `course::act::do_watch` meets its contract. Assumes nothing.
-use Rattle.event.proofs.Readiness.{ready-accepted}
-use Rattle.event.proofs.Doing.{event-tick, watch-place}
-use Rattle.course.proofs.Parting.{apart-plan, apart-acting}
-use Rattle.course.proofs.Events.{watch-settling, watch-stepped}
+use Rattle.event.proofs.Doing.{watch-timer, timer-byte}
+use Rattle.course.proofs.Events.{timer-asks, timer-settling, timer-stepped}
 use borrow.Author.Needs.{needs}
 use native.Mathlib.Omega.{arith}
 use Rattle.course.proofs.act.do_watch.Statement.{statement}
@@ -12,40 +10,34 @@ watch-turn-requires : tie.Need-watch-turn-requires
 watch-turn-requires c κs =
     let p = c .before .before .before .pre in
     let k = p .underway in
-    let x = watch-place (p .whole) (k .ready) _ _ (p .next) in
-    (apart-acting (k .apart) (k .ready), (event-tick (p .whole) (k .ready) _ _ (p .next), rw (apart-plan (k .apart)) x))
+    timer-asks k (watch-timer _ (k .ready) _ _ (p .next))
 
 watch-deed-requires : tie.Need-watch-deed-requires
 watch-deed-requires c κs =
     let p = c .before .before .before .before .before .pre in
     let k = p .underway in
-    (apart-acting (k .apart) (k .ready), rw (apart-plan (k .apart)) (watch-place (p .whole) (k .ready) _ _ (p .next)))
+    let asks = timer-asks k (watch-timer _ (k .ready) _ _ (p .next)) in
+    (asks .0, asks .1 .1)
 
 cast-settle : tie.Need-cast-settle
 cast-settle c =
-    let start = c .before .before .before .before .before .before .before .before in
-    let p = start .pre in
-    let r = p .underway .ready in
-    omega (arith, watch-place (p .whole) r _ _ (p .next), ready-accepted (p .whole) r .plain .n≤)
+    let p = c .before .before .before .before .before .before .before .before .pre in
+    omega (arith, timer-byte (watch-timer _ (p .underway .ready) _ _ (p .next)))
 
 settle-requires : tie.Need-settle-requires
 settle-requires c κs =
     let at-watch-turn = c .before .before .before .before in
-    let start = at-watch-turn .before .before .before .before in
-    let p = start .pre in
-    let u = at-watch-turn .watch-turn in
-    watch-settling _ _ (start .args .c) (p .whole) (p .underway) (p .next) (u .result) (u .ensures) (p .room)
+    let p = at-watch-turn .before .before .before .before .pre in
+    let k = p .underway in
+    timer-settling k (watch-timer _ (k .ready) _ _ (p .next)) (at-watch-turn .watch-turn .ensures) (p .room)
 
 returns : tie.Need-returns
 returns c =
     λ whole k next.
     let at-settle = c .before .before .before .before in
     let at-watch-deed = at-settle .before .before .before in
-    let at-watch-turn = at-watch-deed .before .before in
-    let start = at-watch-turn .before .before .before .before in
-    let u = at-watch-turn .watch-turn in
-    let l = at-watch-deed .watch-deed in
-    watch-stepped _ _ (start .args .c) whole k next (u .result) (u .ensures) _ (l .ensures) _ _ _ (at-settle .settle .ensures)
+    let u = at-watch-deed .before .before .watch-turn in
+    timer-stepped k (watch-timer whole (k .ready) _ _ next) (u .ensures) (at-watch-deed .watch-deed .ensures) _ _ _ (at-settle .settle .ensures)
 
 pub do-watch-spec : {M : Type 1} → statement M
 do-watch-spec =

@@ -1,7 +1,7 @@
 -- `event::act::do_watch` meets its contract. Assumes nothing.
 use mathlib.Core.Path.{_∙_}
-use Rattle.event.proofs.Readiness.{ready-accepted, ready-acting}
-use Rattle.event.proofs.Doing.{event-tick, watch-place, watch-count, watch-turns, watch-refused, watch-done}
+use Rattle.event.proofs.Readiness.{ready-acting}
+use Rattle.event.proofs.Doing.{watch-timer, timer-tick, timer-byte, timer-count, timer-turns, timer-refused, timer-done}
 use native.Mathlib.Omega.{arith}
 use borrow.Author.Needs.{needs}
 use Rattle.event.proofs.act.do_watch.Statement.{statement}
@@ -9,8 +9,9 @@ use Rattle.event.proofs.act.do_watch.Tie as tie
 
 watch-turn-requires : tie.Need-watch-turn-requires
 watch-turn-requires c κs =
-    let start = c .before .before in
-    (ready-acting _ (start .pre .0), (event-tick _ (start .pre .0) _ _ (start .pre .1), watch-place _ (start .pre .0) _ _ (start .pre .1)))
+    let p = c .before .before .pre in
+    let k = watch-timer _ (p .0) _ _ (p .1) in
+    (ready-acting _ (p .0), (timer-tick k, k .place))
 
 message-count-requires : tie.Need-message-count-requires
 message-count-requires c κs = c .before .before .before .before .pre .0 .held .size
@@ -19,37 +20,35 @@ add-if1 : tie.Need-add-if1
 add-if1 c =
     let at-message-count = c .before in
     let at-watch-turn = at-message-count .before .before in
-    let start = at-watch-turn .before .before .before in
-    let u = at-watch-turn .watch-turn in
-    let k = watch-count _ (start .pre .0) _ _ (start .pre .1) _ (u .ensures) in
-    omega (arith, at-message-count .message-count .ensures, start .pre .0 .held .fits .counts .messages, k)
+    let p = at-watch-turn .before .before .before .pre in
+    let count = timer-count (watch-timer _ (p .0) _ _ (p .1)) (at-watch-turn .watch-turn .ensures) in
+    omega (arith, at-message-count .message-count .ensures, p .0 .held .fits .counts .messages, count)
 
 returns : tie.Need-returns
 returns c =
     let at-message-count = c .before .before in
     let at-watch-turn = at-message-count .before .before in
-    let start = at-watch-turn .before .before .before in
-    let u = at-watch-turn .watch-turn in
-    watch-refused _ (start .pre .0) _ _ (start .pre .1) _ (u .ensures) (omega (arith, c .if1 .taken, at-message-count .message-count .ensures))
+    let p = at-watch-turn .before .before .before .pre in
+    timer-refused (watch-timer _ (p .0) _ _ (p .1)) (at-watch-turn .watch-turn .ensures)
+    (omega (arith, c .if1 .taken, at-message-count .message-count .ensures))
 
 watch-deed-requires : tie.Need-watch-deed-requires
 watch-deed-requires c κs =
-    let start = c .before .before .before .before .before .before .before .before in
-    (ready-acting _ (start .pre .0), watch-place _ (start .pre .0) _ _ (start .pre .1))
+    let p = c .before .before .before .before .before .before .before .before .pre in
+    (ready-acting _ (p .0), watch-timer _ (p .0) _ _ (p .1) .place)
 
 cast-take-turn : tie.Need-cast-take-turn
 cast-take-turn c =
-    let start = c .before .before .before .before .before .before .before .before .before .before in
-    omega (arith, watch-place _ (start .pre .0) _ _ (start .pre .1), ready-accepted _ (start .pre .0) .plain .n≤)
+    let p = c .before .before .before .before .before .before .before .before .before .before .pre in
+    omega (arith, timer-byte (watch-timer _ (p .0) _ _ (p .1)))
 
 take-turn-requires : tie.Need-take-turn-requires
 take-turn-requires c κs =
     let at-if1 = c .before .before .before in
     let at-message-count = at-if1 .before .before in
     let at-watch-turn = at-message-count .before .before in
-    let start = at-watch-turn .before .before .before in
-    let u = at-watch-turn .watch-turn in
-    watch-turns _ (start .pre .0) _ _ (start .pre .1) _ (u .ensures)
+    let p = at-watch-turn .before .before .before .pre in
+    timer-turns (watch-timer _ (p .0) _ _ (p .1)) (at-watch-turn .watch-turn .ensures)
     (omega (arith, at-if1 .if1 .left, at-message-count .message-count .ensures))
 
 returns-2 : tie.Need-returns-2
@@ -59,11 +58,10 @@ returns-2 c =
     let at-if1 = at-watch-deed .before .before in
     let at-message-count = at-if1 .before .before in
     let at-watch-turn = at-message-count .before .before in
-    let start = at-watch-turn .before .before .before in
-    let u = at-watch-turn .watch-turn in
-    let l = at-watch-deed .watch-deed in
+    let p = at-watch-turn .before .before .before .pre in
+    let k = watch-timer _ (p .0) _ _ (p .1) in
     let d =
-    watch-done _ (start .pre .0) _ _ (start .pre .1) _ (u .ensures) _ (l .ensures)
+    timer-done k (at-watch-turn .watch-turn .ensures) (at-watch-deed .watch-deed .ensures)
     (omega (arith, at-if1 .if1 .left, at-message-count .message-count .ensures)) in
     (d .0, at-take-turn .take-turn .ensures ∙ d .1)
 
