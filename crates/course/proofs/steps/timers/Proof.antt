@@ -1,9 +1,8 @@
 -- `course::steps::timers` meets its contract. Assumes nothing.
-use mathlib.Core.Path.{_∙_}
 use Rattle.event.proofs.Readiness.{held-sized, ready-accepted}
-use Rattle.course.proofs.Parting.{apart-held, apart-plan, apart-node, apart-acting}
-use Rattle.course.proofs.Looking.{passed-less, timer-less, whole-timer, whole-timers, apart-dead, apart-timers}
-use Rattle.course.proofs.Choosing.{at-underway, found-a-watch, found-a-beat, from-at, chosen-later}
+use Rattle.course.proofs.Parting.{apart-held, apart-plan, apart-acting}
+use Rattle.course.proofs.Looking.{passed-less, apart-dead, apart-timers}
+use Rattle.course.proofs.Choosing.{timer-found, found-a-watch, found-a-beat, timer-acts, timer-steps, chosen-later}
 use native.Mathlib.Omega.{arith}
 use borrow.Author.Needs.{needs}
 use Rattle.course.proofs.steps.timers.Statement.{statement}
@@ -41,11 +40,7 @@ least-timer-requires c κs =
     )
 
 returns : tie.Need-returns
-returns c =
-    λ whole k u.
-    let t = whole-timer (k .apart) _ _ (c .before .before .before .timer-node .ensures) in
-    let e = c .least-timer .ensures in
-    chosen-later k u t _ (e .0, whole-timers (k .apart) _ _ (e .1))
+returns c = λ whole k u. chosen-later k _ (c .least-timer .ensures)
 
 node-at-requires : tie.Need-node-at-requires
 node-at-requires c κs =
@@ -68,14 +63,10 @@ do-watch-requires c κs =
     let at-if1 = at-node-at .before .before in
     let at-timer-node = at-if1 .before in
     let at-node-count = at-timer-node .before .before in
-    let start = at-node-count .before .before .before .before in
-    let p = start .pre in
-    let k = p .underway in
-    let t = whole-timer (k .apart) _ _ (at-timer-node .timer-node .ensures) in
-    let less = timer-less (k .apart) _ _ (at-node-count .node-count .ensures) (at-if1 .if1 .left) in
-    let a = at-node-at .node-at .ensures ∙ apart-node (k .apart) _ in
-    let n = found-a-watch k (p .quiet) t less a (at-if2 .if2 .taken) in
-    record { whole = p .whole; underway = at-underway k (p .quiet) t; next = n; room = p .room }
+    let p = at-node-count .before .before .before .before .pre in
+    let count = at-node-count .node-count .ensures in
+    let f = timer-found (at-timer-node .timer-node .ensures) count (at-if1 .if1 .left) (at-node-at .node-at .ensures) in
+    timer-acts (p .underway) (p .quiet) f (found-a-watch (p .underway) (p .quiet) f (at-if2 .if2 .taken)) (p .room)
 
 returns-2 : tie.Need-returns-2
 returns-2 c =
@@ -85,12 +76,9 @@ returns-2 c =
     let at-node-at = at-if2 .before .before in
     let at-if1 = at-node-at .before .before in
     let at-timer-node = at-if1 .before in
-    let at-node-count = at-timer-node .before .before in
-    let t = whole-timer (k .apart) _ _ (at-timer-node .timer-node .ensures) in
-    let less = timer-less (k .apart) _ _ (at-node-count .node-count .ensures) (at-if1 .if1 .left) in
-    let a = at-node-at .node-at .ensures ∙ apart-node (k .apart) _ in
-    let n = found-a-watch k u t less a (at-if2 .if2 .taken) in
-    from-at k u t _ _ _ (at-do-watch .do-watch .ensures whole (at-underway k u t) n)
+    let count = at-timer-node .before .before .node-count .ensures in
+    let f = timer-found (at-timer-node .timer-node .ensures) count (at-if1 .if1 .left) (at-node-at .node-at .ensures) in
+    timer-steps k u f (found-a-watch k u f (at-if2 .if2 .taken)) _ _ _ (at-do-watch .do-watch .ensures)
 
 do-heartbeat-requires : tie.Need-do-heartbeat-requires
 do-heartbeat-requires c κs =
@@ -99,14 +87,10 @@ do-heartbeat-requires c κs =
     let at-if1 = at-node-at .before .before in
     let at-timer-node = at-if1 .before in
     let at-node-count = at-timer-node .before .before in
-    let start = at-node-count .before .before .before .before in
-    let p = start .pre in
-    let k = p .underway in
-    let t = whole-timer (k .apart) _ _ (at-timer-node .timer-node .ensures) in
-    let less = timer-less (k .apart) _ _ (at-node-count .node-count .ensures) (at-if1 .if1 .left) in
-    let a = at-node-at .node-at .ensures ∙ apart-node (k .apart) _ in
-    let n = found-a-beat k (p .quiet) t less a (at-if2 .if2 .left) in
-    record { whole = p .whole; underway = at-underway k (p .quiet) t; next = n; room = p .room }
+    let p = at-node-count .before .before .before .before .pre in
+    let count = at-node-count .node-count .ensures in
+    let f = timer-found (at-timer-node .timer-node .ensures) count (at-if1 .if1 .left) (at-node-at .node-at .ensures) in
+    timer-acts (p .underway) (p .quiet) f (found-a-beat (p .underway) (p .quiet) f (at-if2 .if2 .left)) (p .room)
 
 returns-3 : tie.Need-returns-3
 returns-3 c =
@@ -116,12 +100,9 @@ returns-3 c =
     let at-node-at = at-if2 .before .before in
     let at-if1 = at-node-at .before .before in
     let at-timer-node = at-if1 .before in
-    let at-node-count = at-timer-node .before .before in
-    let t = whole-timer (k .apart) _ _ (at-timer-node .timer-node .ensures) in
-    let less = timer-less (k .apart) _ _ (at-node-count .node-count .ensures) (at-if1 .if1 .left) in
-    let a = at-node-at .node-at .ensures ∙ apart-node (k .apart) _ in
-    let n = found-a-beat k u t less a (at-if2 .if2 .left) in
-    from-at k u t _ _ _ (at-do-heartbeat .do-heartbeat .ensures whole (at-underway k u t) n)
+    let count = at-timer-node .before .before .node-count .ensures in
+    let f = timer-found (at-timer-node .timer-node .ensures) count (at-if1 .if1 .left) (at-node-at .node-at .ensures) in
+    timer-steps k u f (found-a-beat k u f (at-if2 .if2 .left)) _ _ _ (at-do-heartbeat .do-heartbeat .ensures)
 
 pub timers-spec : {M : Type 1} → statement M
 timers-spec =
