@@ -1,3 +1,4 @@
+pub mod Parts
 pub mod RowTests
 pub mod StateTests
 pub mod Whole

@@ -1,7 +1,7 @@
 -- A plan's tests, row by row: as long as the rows before place i pass, the test of all rows is that of the rows from i on. Assumes nothing.
 use Prim.Native.Nat.{ℕ, zero, suc, _+_, _≤_, _<_}
 use mathlib.Core.Path.{_≡_, refl, sym, ap, _∙_}
-use mathlib.Core.Bool.{Bool, true, false, not, _&&_, and-eq-true-iff}
+use mathlib.Core.Bool.{Bool, true, false, not, _&&_, and-eq-true-iff, and-true}
 use mathlib.Core.List.{List, [], _∷_}
 use native.Mathlib.Numerals.{add-one}
 use native.Mathlib.Omega.{arith}
@@ -44,18 +44,21 @@ delay-number e = ap (λ (q : DelayRow). q .number) e
 from-place : {A : Type 0} (rows : List A) (i : ℕ) (d : A) → i < length rows → drop i rows ≡ getD rows i d ∷ drop (i + 1) rows
 from-place rows i d h = rw (add-one i) (drop-cons rows i d h)
 
-module _ {A : Type 0} (test : A → Bool) (rows : List A) (i : ℕ) (so-far : every test rows ≡ every test (drop i rows)) where
-  pub every-turn : (d : A) → i < length rows → test (getD rows i d) ≡ true → every test rows ≡ every test (drop (i + 1) rows)
-  unfolding every
-  every-turn d h t = so-far ∙ rw (from-place rows i d h, t)
+-- count rows, each of which a call tests
+module _ {A : Type 0} (test : A → Bool) (rows : List A) (i : ℕ) {count : ℕ} (so-far : every test rows ≡ every test (drop i rows))
+    (all : count ≡ length rows) where
+  module _ (z : A) {a : Bool} (told : a ≡ test (getD rows i z)) (inside : i < count) where
+    pub every-turn : not a ≡ false → every test rows ≡ every test (drop (i + 1) rows)
+    unfolding every
+    every-turn h = so-far ∙ rw (from-place rows i z (omega arith), holds told h)
 
-  pub every-stop : (d : A) → i < length rows → test (getD rows i d) ≡ false → every test rows ≡ false
-  unfolding every
-  every-stop d h t = so-far ∙ rw (from-place rows i d h, t)
+    pub every-stop : not a ≡ true → false ≡ every test rows
+    unfolding every
+    every-stop h = rw (so-far, from-place rows i z (omega arith), fails told h)
 
-  pub every-end : length rows ≤ i → every test rows ≡ true
+  pub every-end : count ≤ i → true ≡ every test rows
   unfolding every
-  every-end h = so-far ∙ rw (drop-of-length-le rows h)
+  every-end h = let past : length rows ≤ i = omega arith in rw (so-far, drop-of-length-le rows past)
 
 module _ {A : Type 0} (after : A → A → Bool) (rows : List A) (i : ℕ) (so-far : rising after rows ≡ rising after (drop i rows)) where
   two-places : (d : A) → i + 1 < length rows → drop i rows ≡ getD rows i d ∷ (getD rows (i + 1) d ∷ drop (i + 1 + 1) rows)
@@ -170,10 +173,6 @@ module _ (a b : Delay) {row next : DelayRow} (got : row ≡ delayRow a) (got-nex
   pub not-above : next .number ≤ row .number → above a b ≡ false
   unfolding above
   not-above h = le-ltb (a .number) (b .number) (omega (arith, delay-number got, delay-number got-next))
-
-and-true : (a : Bool) → (a && true) ≡ a
-and-true true = refl
-and-true false = refl
 
 -- where the L rows are in range and no more than places, their order decides
 pub delays-by-order : (p : Plan) → length (p .delays) ≤ mostDelays → every (delayRange p) (p .delays) ≡ true → delayTest p ≡ delayOrder (p .delays)

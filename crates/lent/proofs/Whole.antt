@@ -1,7 +1,7 @@
 -- Number 7's test of a whole store, part by part, as the code goes through it. Assumes nothing.
 use Prim.Native.Nat.{ℕ}
 use mathlib.Core.Path.{_≡_, ap, _∙_}
-use mathlib.Core.Bool.{Bool, true, _&&_, and-assoc, and-true}
+use mathlib.Core.Bool.{Bool, true, false, not, _&&_, and-assoc, and-true}
 use mathlib.Core.List.{List}
 use lib.Dec.{eqb, leb}
 use lib.ListN.{length}
@@ -14,6 +14,7 @@ use Rattle.store.specs.Store.{nodeParts, crashParts, delayParts, messageParts, 
 use Rattle.store.specs.Inside.{Sized}
 use Rattle.store.proofs.Store.{length-nodes, room-parts, room-counts}
 use Rattle.store.proofs.Blank.{unused-parts}
+use Rattle.lent.proofs.Parts.{part-fails, part-holds}
 
 module _ (b : List ℕ) where
   -- the counts
@@ -46,3 +47,32 @@ module _ (b : List ℕ) where
   unused-here =
       unused-parts b (planIn b) (stateIn b)
       ∙ rw (length-nodes b, and-true (restZero b crashNodes (length (planIn b .crashes))), and-true (restZero b delayTicks (length (planIn b .delays))))
+
+  -- what was answered of the places after a count that was read
+  module _ {a : Bool} {n : ℕ} (told : a ≡ restTest nodeParts b n) (read : n ≡ planIn b .n) where
+    pub nodes-fail : not a ≡ true → (y : Bool) → false ≡ (restTest nodeParts b (planIn b .n) && y)
+    nodes-fail = part-fails (told ∙ ap (restTest nodeParts b) read)
+
+    pub nodes-hold : not a ≡ false → {r y : Bool} → r ≡ y → r ≡ (restTest nodeParts b (planIn b .n) && y)
+    nodes-hold = part-holds (told ∙ ap (restTest nodeParts b) read)
+
+  module _ {a : Bool} {n : ℕ} (told : a ≡ rowsRest crashTicks crashNodes n) (read : n ≡ length (planIn b .crashes)) where
+    pub crashes-fail : not a ≡ true → (y : Bool) → false ≡ (rowsRest crashTicks crashNodes (length (planIn b .crashes)) && y)
+    crashes-fail = part-fails (told ∙ ap (rowsRest crashTicks crashNodes) read)
+
+    pub crashes-hold : not a ≡ false → {r y : Bool} → r ≡ y → r ≡ (rowsRest crashTicks crashNodes (length (planIn b .crashes)) && y)
+    crashes-hold = part-holds (told ∙ ap (rowsRest crashTicks crashNodes) read)
+
+  module _ {a : Bool} {n : ℕ} (told : a ≡ rowsRest delayNumbers delayTicks n) (read : n ≡ length (planIn b .delays)) where
+    pub delays-fail : not a ≡ true → (y : Bool) → false ≡ (rowsRest delayNumbers delayTicks (length (planIn b .delays)) && y)
+    delays-fail = part-fails (told ∙ ap (rowsRest delayNumbers delayTicks) read)
+
+    pub delays-hold : not a ≡ false → {r y : Bool} → r ≡ y → r ≡ (rowsRest delayNumbers delayTicks (length (planIn b .delays)) && y)
+    delays-hold = part-holds (told ∙ ap (rowsRest delayNumbers delayTicks) read)
+
+  module _ {a : Bool} {n : ℕ} (told : a ≡ restTest messageParts b n) (read : n ≡ length (stateIn b .flight)) where
+    pub messages-fail : not a ≡ true → (y : Bool) → false ≡ (restTest messageParts b (length (stateIn b .flight)) && y)
+    messages-fail = part-fails (told ∙ ap (restTest messageParts b) read)
+
+    pub messages-hold : not a ≡ false → {r y : Bool} → r ≡ y → r ≡ (restTest messageParts b (length (stateIn b .flight)) && y)
+    messages-hold = part-holds (told ∙ ap (restTest messageParts b) read)

@@ -2,13 +2,15 @@
 use mathlib.Core.Path.{_≡_, refl, sym, ap, _∙_}
 use mathlib.Core.Bool.{Bool, true, false, cond}
 use mathlib.Core.List.{List}
-use Prim.Native.Nat.{ℕ, _+_, _≤_, _<_}
+use Prim.Native.Nat.{ℕ, suc, _+_, _≤_, _<_}
 use native.Mathlib.Numerals.{add-one}
 use native.Mathlib.Omega.{arith}
 use borrow.Author.Tests.{eq-eqb, ne-eqb}
 use lib.Dec.{eqb}
 use lib.ListN.{length}
-use Rattle.plans.specs.Plan.{Plan, Crash, Delay, planTest, startPlan}
+use Rattle.plans.specs.Plan.{Plan, planTest, startPlan}
+use Rattle.plans.specs.Plain.{noCrash, rowAt}
+use Rattle.store.specs.Inside.{delayAt}
 use Rattle.runfile.specs.File.{FileAnswer, accepted, fileOf, turnedDown}
 use Rattle.runfile.specs.declared.Fields.{Fields}
 use Rattle.runfile.specs.declared.Outline.{Outline}
@@ -46,29 +48,39 @@ module _ (file : List ℕ) (ok : Accepts file) where
   pub delays-fit : length (p .delays) ≤ 2048
   delays-fit = few-delays p good
 
-  -- the row that stands at a place of the file is put, and the next row's place is known
-  pub crash-turn : (i : ℕ) {at : ℕ} {s t : List ℕ} {row : Fields} → i < length (p .crashes) → at ≡ crashPlace p i → s ≡ filled p i 0
-      → row ≡ fieldsAt file at
-      → t ≡ putCrash s i (row .first) (row .second)
-      → (row .next ≡ crashPlace p (i + 1)) × (t ≡ filled p (i + 1) 0)
-  crash-turn i less place at row put =
-      let z : Crash = record { tick = 0; node = 0 } in
-      let e = row ∙ ap (fieldsAt file) place ∙ crash-at file p ok z i less in (
-        ap (λ (r : Fields). r .next) e ∙ ap (crashPlace p) (sym (add-one i)),
-        put ∙ rw (at, e) (crash-filled p (bounds .n-high) crashes-fit delays-fit i z less),
-      )
+  -- a C row of the file has its place in the store; it is put there, and the place of the next one is known
+  module _ (i : ℕ) {count : ℕ} (less : i < count) (all : count ≡ length (p .crashes)) where
+    pub crash-fits : i < 64
+    crash-fits = omega (arith, crashes-fit)
 
-  pub delay-turn : (j : ℕ) {at : ℕ} {s t : List ℕ} {row : Fields} → j < length (p .delays) → at ≡ delayPlace p j
-      → s ≡ filled p (length (p .crashes)) j
-      → row ≡ fieldsAt file at
-      → t ≡ putDelay s j (row .first) (row .second)
-      → (row .next ≡ delayPlace p (j + 1)) × (t ≡ filled p (length (p .crashes)) (j + 1))
-  delay-turn j less place at row put =
-      let z : Delay = record { number = 0; delay = 0 } in
-      let e = row ∙ ap (fieldsAt file) place ∙ delay-at file p ok z j less in (
-        ap (λ (r : Fields). r .next) e ∙ ap (delayPlace p) (sym (add-one j)),
-        put ∙ rw (at, e) (delay-filled p (bounds .n-high) crashes-fit delays-fit j z less),
-      )
+    module _ {at : ℕ} {row : Fields} (place : at ≡ crashPlace p i) (got : row ≡ fieldsAt file at) where
+      got-crash : row ≡ record
+          { first = rowAt p i .tick; second = rowAt p i .node; next = crashPlace p (suc i) }
+      got-crash = got ∙ ap (fieldsAt file) place ∙ crash-at file p ok noCrash i (omega arith)
+
+      pub crash-next : row .next ≡ crashPlace p (i + 1)
+      crash-next = ap (λ (r : Fields). r .next) got-crash ∙ ap (crashPlace p) (sym (add-one i))
+
+      pub crash-put : {s t : List ℕ} → s ≡ filled p i 0 → t ≡ putCrash s i (row .first) (row .second) → t ≡ filled p (i + 1) 0
+      crash-put before put = put ∙ rw (before, got-crash) (crash-filled p (bounds .n-high) crashes-fit delays-fit i noCrash (omega arith))
+
+  -- the same of an L row
+  module _ (i : ℕ) {count : ℕ} (less : i < count) (all : count ≡ length (p .delays)) where
+    pub delay-fits : i < 2048
+    delay-fits = omega (arith, delays-fit)
+
+    module _ {at : ℕ} {row : Fields} (place : at ≡ delayPlace p i) (got : row ≡ fieldsAt file at) where
+      got-delay : row ≡ record
+          { first = delayAt p i .number; second = delayAt p i .delay; next = delayPlace p (suc i) }
+      got-delay = got ∙ ap (fieldsAt file) place ∙ delay-at file p ok (record { number = 0; delay = 0 }) i (omega arith)
+
+      pub delay-next : row .next ≡ delayPlace p (i + 1)
+      delay-next = ap (λ (r : Fields). r .next) got-delay ∙ ap (delayPlace p) (sym (add-one i))
+
+      pub delay-put : {s t : List ℕ} → s ≡ filled p (length (p .crashes)) i → t ≡ putDelay s i (row .first) (row .second)
+          → t ≡ filled p (length (p .crashes)) (i + 1)
+      delay-put before put =
+          put ∙ rw (before, got-delay) (delay-filled p (bounds .n-high) crashes-fit delays-fit i (record { number = 0; delay = 0 }) (omega arith))
 
 -- ---- the end of a loop that counts
 
@@ -145,7 +157,7 @@ module _ (file store : List ℕ) where
   unfolding openPlan
   open-ready ok h e = rw (open-plan ok, eq-eqb (length store) storeSize h) (refl, e)
 
--- a refused opening has a number of 1 to 7 and a line of at most 65,536
+-- a refused startPlan has a number of 1 to 7 and a line of at most 65,536
 pub opening-small : (file store : List ℕ) (number line : ℕ) → openFile file store .answer ≡ Unopened number line
     → (1 ≤ number) × (number ≤ 7) × (line ≤ 65536)
 unfolding openFile openAnswer openPlan

@@ -27,29 +27,31 @@ pub record RunsOn (first : List ℕ) (budget rest : ℕ) (b q : List ℕ) (c : P
 pub queued-starts : (first b q : List ℕ) (budget : ℕ) (c : Progress) → Ready first → Underway b q c first → RunsOn first budget budget b q c
 queued-starts first b q budget c r k = record { whole = first; underway = k; runs = run-starts first budget r }
 
-module _ (first : List ℕ) (budget rest : ℕ) (whole : List ℕ) (h : Runs first budget rest whole) (more : 0 < rest)
-    (r : Went) (b' q' : List ℕ) (g : Agrees whole r b' q') where
-  told : (w : Went) → r ≡ w → Agrees whole w b' q'
-  told w e = subst (λ (z : Went). Agrees whole z b' q') e g
+module _ {first : List ℕ} {budget rest : ℕ} {b q : List ℕ} {c : Progress} (w : RunsOn first budget rest b q c) (more : 0 < rest)
+    {r : Went} {b' q' : List ℕ} (next : (whole : List ℕ) → Underway b q c whole → Agrees whole r b' q') where
+  told : (z : Went) → r ≡ z → Agrees (w .whole) z b' q'
+  told z e = subst (λ (z : Went). Agrees (w .whole) z b' q') e (next (w .whole) (w .underway))
 
-  pub queued-did : (d : Progress) (l : Deed) → r ≡ WentOn d l → RunsOn first budget (rest - 1) b' q' d
+  pub queued-did : {d : Progress} {l : Deed} → r ≡ WentOn d l → RunsOn first budget (rest - 1) b' q' d
   unfolding answerOf progressOf
-  queued-did d l e = let f = told (WentOn d l) e in record {
-    whole = storeLeft whole;
+  queued-did {d} {l} e = let f = told (WentOn d l) e in record {
+    whole = storeLeft (w .whole);
     underway = f .underway;
-    runs = run-goes-on first budget rest whole h more (f .answer) refl;
+    runs = run-goes-on first budget rest (w .whole) (w .runs) more (f .answer) refl;
   }
 
-  pub queued-ended : (d : Progress) → r ≡ WentOut d
-      → Underway b' q' d (storeLeft whole) × ((b : List ℕ) → b ≡ storeLeft whole → Ends (runNext first budget) (Done (budget - rest)) b)
+  pub queued-ended : {d : Progress} → r ≡ WentOut d
+      → Underway b' q' d (storeLeft (w .whole)) × ((s : List ℕ) → s ≡ storeLeft (w .whole) → Ends (runNext first budget) (Done (budget - rest)) s)
   unfolding answerOf progressOf
-  queued-ended d e = let f = told (WentOut d) e in (f .underway, λ b be. run-ended first budget rest whole h more (f .answer) be)
+  queued-ended {d} e = let f = told (WentOut d) e in (f .underway, λ s be. run-ended first budget rest (w .whole) (w .runs) more (f .answer) be)
 
-  pub queued-refused : (d : Progress) → r ≡ WentWrong d
-      → Underway b' q' d (storeLeft whole) × ((b : List ℕ) → b ≡ storeLeft whole → Ends (runNext first budget) (Unrun tooMany (budget - rest)) b)
+  pub queued-refused : {d : Progress} → r ≡ WentWrong d
+      → Underway b' q' d (storeLeft (w .whole))
+      × ((s : List ℕ) → s ≡ storeLeft (w .whole) → Ends (runNext first budget) (Unrun tooMany (budget - rest)) s)
   unfolding answerOf progressOf
-  queued-refused d e = let f = told (WentWrong d) e in (f .underway, λ b be. run-refused first budget rest whole h more (f .answer) be)
+  queued-refused {d} e = let f = told (WentWrong d) e in (f .underway, λ s be. run-refused first budget rest (w .whole) (w .runs) more (f .answer) be)
 
 -- the messages are back in the store
-pub queued-back : (first : List ℕ) (budget rest : ℕ) (whole b : List ℕ) → Runs first budget rest whole → b ≡ whole → Runs first budget rest b
-queued-back first budget rest whole b h e = subst (Runs first budget rest) (sym e) h
+pub queued-back : {first : List ℕ} {budget rest : ℕ} {b q : List ℕ} {c : Progress} (w : RunsOn first budget rest b q c) {s : List ℕ}
+    → ((whole : List ℕ) → Underway b q c whole → s ≡ whole) → Runs first budget rest s
+queued-back {first} {budget} {rest} w back = subst (Runs first budget rest) (sym (back (w .whole) (w .underway))) (w .runs)

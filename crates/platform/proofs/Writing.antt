@@ -51,70 +51,62 @@ module _ {A : Type 0} (text : A → List ℕ) (xs : List A) where
       let fits : at + length (rowsTo i) ≤ length l = omega (arith, rows-within i) in
       put-text (sym (rows-next i z h)) (put-then fits p s)
 
-  pub rows-end : {l m : List ℕ} {at r : ℕ} (i : ℕ) → length xs ≤ i → Put l at (rowsTo i) r m → Put l at (rowsText text xs) r m
-  rows-end i h p = put-text (ap (rowsText text) (take-all i xs h)) p
+  pub rows-end : {l m : List ℕ} {count at r : ℕ} (i : ℕ) → count ≡ length xs → count ≤ i → Put l at (rowsTo i) r m
+      → Put l at (rowsText text xs) r m
+  rows-end i all h p = put-text (ap (rowsText text) (take-all i xs (omega arith))) p
 
 -- ---- the rows of a store's plan
 
-module _ (p : Plan) {l m : List ℕ} {at r : ℕ} (i : ℕ) where
-  pub crash-room : {row : CrashRow} → i < length (p .crashes) → at + length (rowsText crashText (p .crashes)) ≤ length l → length m ≡ length l
-      → Put l at (rowsTo crashText (p .crashes) i) r m → row ≡ crashRow (rowAt p i)
-      → r + length (crashText (record { tick = row .tick; node = row .node })) ≤ length m
-  crash-room h room same put e = rw e (rows-room crashText (p .crashes) i noCrash h room same put)
+module _ (p : Plan) (i : ℕ) {l m : List ℕ} {count at r : ℕ} (all : count ≡ length (p .crashes))
+    (room : at + length (rowsText crashText (p .crashes)) ≤ length l)
+    (put : Put l at (rowsTo crashText (p .crashes) i) r m) {row : CrashRow} (e : row ≡ crashRow (rowAt p i)) where
+  pub crash-room : i < count → length m ≡ length l → r + length (crashText (record { tick = row .tick; node = row .node })) ≤ length m
+  crash-room h same = rw e (rows-room crashText (p .crashes) i noCrash (omega arith) room same put)
 
-  pub crash-written : {row : CrashRow} {k : List ℕ} {q : ℕ} → i < length (p .crashes) → at + length (rowsText crashText (p .crashes)) ≤ length l
-      → Put l at (rowsTo crashText (p .crashes) i) r m → row ≡ crashRow (rowAt p i)
-      → Put m r (crashText (record { tick = row .tick; node = row .node })) q k
+  pub crash-written : {k : List ℕ} {q : ℕ} → i < count → Put m r (crashText (record { tick = row .tick; node = row .node })) q k
       → Put l at (rowsTo crashText (p .crashes) (i + 1)) q k
-  crash-written h room put e s = rows-turn crashText (p .crashes) i noCrash h room put (rw e at s)
+  crash-written h s = rows-turn crashText (p .crashes) i noCrash (omega arith) room put (rw e at s)
 
-  pub delay-room : {row : DelayRow} → i < length (p .delays) → at + length (rowsText delayText (p .delays)) ≤ length l → length m ≡ length l
-      → Put l at (rowsTo delayText (p .delays) i) r m → row ≡ delayRow (delayAt p i)
-      → r + length (delayText (record { number = row .number; delay = row .delay })) ≤ length m
-  delay-room h room same put e = rw e (rows-room delayText (p .delays) i (record { number = 0; delay = 0 }) h room same put)
+module _ (p : Plan) (i : ℕ) {l m : List ℕ} {count at r : ℕ} (all : count ≡ length (p .delays))
+    (room : at + length (rowsText delayText (p .delays)) ≤ length l)
+    (put : Put l at (rowsTo delayText (p .delays) i) r m) {row : DelayRow} (e : row ≡ delayRow (delayAt p i)) where
+  pub delay-room : i < count → length m ≡ length l → r + length (delayText (record { number = row .number; delay = row .delay })) ≤ length m
+  delay-room h same = rw e (rows-room delayText (p .delays) i (record { number = 0; delay = 0 }) (omega arith) room same put)
 
-  pub delay-written : {row : DelayRow} {k : List ℕ} {q : ℕ} → i < length (p .delays) → at + length (rowsText delayText (p .delays)) ≤ length l
-      → Put l at (rowsTo delayText (p .delays) i) r m → row ≡ delayRow (delayAt p i)
-      → Put m r (delayText (record { number = row .number; delay = row .delay })) q k
+  pub delay-written : {k : List ℕ} {q : ℕ} → i < count → Put m r (delayText (record { number = row .number; delay = row .delay })) q k
       → Put l at (rowsTo delayText (p .delays) (i + 1)) q k
-  delay-written h room put e s = rows-turn delayText (p .delays) i (record { number = 0; delay = 0 }) h room put (rw e at s)
+  delay-written h s = rows-turn delayText (p .delays) i (record { number = 0; delay = 0 }) (omega arith) room put (rw e at s)
 
 -- ---- a plan's lines
 
--- the P line, then the C lines, then the L lines
-module _ (p : Plan) (l : List ℕ) (room : length (planText p) ≤ length l) where
-  abbrev cs : List ℕ
-  cs = rowsText crashText (p .crashes)
+abbrev cs : Plan → List ℕ
+cs p = rowsText crashText (p .crashes)
 
-  abbrev ds : List ℕ
-  ds = rowsText delayText (p .delays)
+abbrev ds : Plan → List ℕ
+ds p = rowsText delayText (p .delays)
 
-  sizes : length (planText p) ≡ length (startText p) + length cs + length ds
-  unfolding planText
-  sizes = simp length-append (omega arith)
-
-  pub start-room : 0 + length (startText (startPlan (p .n) (p .h) (p .w) (p .d) (p .end))) ≤ length l
+-- the P line of numbers that were read, then the C lines, then the L lines
+module _ (p : Plan) (l : List ℕ) {n h w d end : ℕ} (room : length (planText p) ≤ length l)
+    (en : n ≡ p .n) (eh : h ≡ p .h) (ew : w ≡ p .w) (ed : d ≡ p .d) (ee : end ≡ p .end) where
+  same-start : startText (startPlan n h w d end) ≡ startText p
   unfolding startText startPlan
+  same-start = rw (en, eh, ew, ed, ee)
+
+  sizes : length (planText p) ≡ length (startText (startPlan n h w d end)) + length (cs p) + length (ds p)
+  unfolding planText
+  sizes = rw same-start (simp length-append (omega arith))
+
+  pub start-room : 0 + length (startText (startPlan n h w d end)) ≤ length l
   start-room = omega (arith, sizes)
 
-  pub crashes-room : {m : List ℕ} {r : ℕ} → length m ≡ length l → Put l 0 (startText (startPlan (p .n) (p .h) (p .w) (p .d) (p .end))) r m
-      → r + length cs ≤ length m
-  unfolding startText startPlan
-  crashes-room same put = omega (arith, sizes, put .next)
+  module _ {m : List ℕ} {r : ℕ} (put : Put l 0 (startText (startPlan n h w d end)) r m) (same : length m ≡ length l) where
+    pub crashes-room : r + length (cs p) ≤ length m
+    crashes-room = omega (arith, sizes, put .next)
 
-  pub delays-room : {m k : List ℕ} {r q : ℕ} → Put l 0 (startText (startPlan (p .n) (p .h) (p .w) (p .d) (p .end))) r m → Put m r cs q k
-      → length m ≡ length l
-      → length k ≡ length m → q + length ds ≤ length k
-  unfolding startText startPlan
-  delays-room put next before same = omega (arith, sizes, put .next, next .next)
+    module _ {k : List ℕ} {q : ℕ} (then : Put m r (cs p) q k) where
+      pub delays-room : length k ≡ length m → q + length (ds p) ≤ length k
+      delays-room kept = omega (arith, sizes, put .next, then .next)
 
-  pub all-written : {m k o : List ℕ} {r q e : ℕ} → length m ≡ length l → Put l 0 (startText (startPlan (p .n) (p .h) (p .w) (p .d) (p .end))) r m
-      → Put m r cs q k → Put k q ds e o → Put l 0 (planText p) e o
-  unfolding planText startText startPlan
-  all-written {m} {k} {o} {r} {q} {e} same a b c =
-      put-then start-room a (put-then (crashes-room same a) b c)
-
--- the P line of values that are the plan's
-pub values : (p : Plan) {n h w d end : ℕ} → n ≡ p .n → h ≡ p .h → w ≡ p .w → d ≡ p .d → end ≡ p .end
-    → startPlan n h w d end ≡ startPlan (p .n) (p .h) (p .w) (p .d) (p .end)
-values p a b c d e = rw (a, b, c, d, e)
+      pub all-written : {o : List ℕ} {e : ℕ} → Put k q (ds p) e o → Put l 0 (planText p) e o
+      unfolding planText
+      all-written last = put-text (rw same-start) (put-then start-room put (put-then crashes-room then last))

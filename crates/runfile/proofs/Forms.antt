@@ -2,18 +2,19 @@
 use Prim.Native.Nat.{ℕ}
 use native.Mathlib.Omega.{arith}
 use mathlib.Core.Path.{_≡_, refl, sym, ap, _∙_}
-use mathlib.Core.Bool.{Bool, true, false, cond}
+use mathlib.Core.Bool.{Bool, true, false, not, cond}
 use mathlib.Core.List.{List, [], _∷_}
 use mathlib.Core.Option.{Option, none, some}
 use lib.Dec.{eqb}
 use lib.ListN.{length, getD}
-use borrow.Author.Tests.{ne-eqb}
+use borrow.Author.Tests.{ne-eqb, not-true, not-false}
 use Rattle.text.specs.declared.Number.{Number}
 use Rattle.text.specs.declared.Number.the-variants.{Value, NoNumber}
 use Rattle.text.specs.Field.{ends, numberFieldAt}
 use Rattle.plans.specs.Plan.{Plan, startPlan}
 use Rattle.runfile.specs.File.{Row, start, fieldThen, pairOf, startOf, crashOf, delayOf, formOf, rowOf, firstLine, laterLine, stop}
 use Rattle.runfile.specs.Reader.{lineAnswer}
+use Rattle.runfile.specs.declared.Line.{Line}
 use Rattle.runfile.specs.declared.Line.the-variants.{Stop}
 
 -- ---- the letter
@@ -49,24 +50,29 @@ module _ (l : List ℕ) where
 
 -- ---- two numbers
 
-module _ (row : ℕ → ℕ → Row) (l : List ℕ) where
-  pub pair-none-1 : numberFieldAt l 1 ≡ NoNumber → pairOf row l ≡ none
-  unfolding pairOf fieldThen
-  pair-none-1 e = rw e
+pub pair-some : (row : ℕ → ℕ → Row) (l : List ℕ) (a i : ℕ) → numberFieldAt l 1 ≡ Value a i → (b j : ℕ) → numberFieldAt l i ≡ Value b j
+    → ends l j ≡ true → pairOf row l ≡ some (row a b)
+unfolding pairOf fieldThen
+pair-some row l a i f b j g e = rw (f, g, e)
 
-  module _ (a i : ℕ) (f : numberFieldAt l 1 ≡ Value a i) where
-    pub pair-none-2 : numberFieldAt l i ≡ NoNumber → pairOf row l ≡ none
-    unfolding pairOf fieldThen
-    pair-none-2 e = rw (f, e)
+-- read as x and y, and the line's end, tested as t: what a line after the P line answers
+module _ (row : ℕ → ℕ → Row) (l : List ℕ) (p : Plan) {x : Number} (read : x ≡ numberFieldAt l 1) where
+  pub pair-none-1 : x ≡ NoNumber → Stop 2 ≡ lineAnswer (laterLine p (pairOf row l))
+  unfolding pairOf fieldThen laterLine lineAnswer
+  pair-none-1 e = rw (← read, e)
 
-    module _ (b j : ℕ) (g : numberFieldAt l i ≡ Value b j) where
-      pub pair-none : ends l j ≡ false → pairOf row l ≡ none
-      unfolding pairOf fieldThen
-      pair-none e = rw (f, g, e)
+  module _ (a i : ℕ) {y : Number} (f : x ≡ Value a i) (read' : y ≡ numberFieldAt l i) where
+    pub pair-none-2 : y ≡ NoNumber → Stop 2 ≡ lineAnswer (laterLine p (pairOf row l))
+    unfolding pairOf fieldThen laterLine lineAnswer
+    pair-none-2 e = rw (← read, f, ← read', e)
 
-      pub pair-some : ends l j ≡ true → pairOf row l ≡ some (row a b)
-      unfolding pairOf fieldThen
-      pair-some e = rw (f, g, e)
+    module _ (b j : ℕ) {t : Bool} (g : y ≡ Value b j) (told : t ≡ ends l j) where
+      pub pair-none : not t ≡ true → Stop 2 ≡ lineAnswer (laterLine p (pairOf row l))
+      unfolding pairOf fieldThen laterLine lineAnswer
+      pair-none h = rw (← read, f, ← read', g, ← told, not-true t h)
+
+      pub pair-taken : not t ≡ false → {r : Line} → r ≡ lineAnswer (laterLine p (some (row a b))) → r ≡ lineAnswer (laterLine p (pairOf row l))
+      pair-taken h e = rw (pair-some row l a i (sym read ∙ f) b j (sym read' ∙ g) (sym told ∙ not-false t h)) e
 
 -- ---- five numbers
 

@@ -1,6 +1,5 @@
 -- `lent::messages_rest` meets its contract. Assumes nothing.
-use mathlib.Core.Bool.{and-true}
-use Rattle.fields.proofs.Answers.{fails, holds}
+use Rattle.lent.proofs.Parts.{part-fails, part-holds, last-part}
 use Rattle.store.specs.Columns.{restTest}
 use Rattle.store.specs.Store.{timeParts, routeParts}
 use borrow.Author.Needs.{needs}
@@ -9,70 +8,27 @@ use Rattle.lent.proofs.messages_rest.Tie as tie
 
 returns : tie.Need-returns
 unfolding restTest timeParts routeParts
-returns c = rw (fails (c .before .rest-zero .ensures) (c .if1 .taken))
+returns c = search (part-fails, needs)
 
 returns-2 : tie.Need-returns-2
 unfolding restTest timeParts routeParts
-returns-2 c =
-    let one = c .before .before in
-    rw (holds (one .before .rest-zero .ensures) (one .if1 .left), fails (c .before .rest-zero2 .ensures) (c .if2 .taken))
+returns-2 c = search (part-fails, part-holds, needs)
 
 returns-3 : tie.Need-returns-3
 unfolding restTest timeParts routeParts
-returns-3 c =
-    let two = c .before .before in
-    let one = two .before .before in
-    rw (
-      holds (one .before .rest-zero .ensures) (one .if1 .left),
-      holds (two .before .rest-zero2 .ensures) (two .if2 .left),
-      fails (c .before .rest-zero3 .ensures) (c .if3 .taken),
-    )
+returns-3 c = search (part-fails, part-holds, needs)
 
 returns-4 : tie.Need-returns-4
 unfolding restTest timeParts routeParts
-returns-4 c =
-    let three = c .before .before in
-    let two = three .before .before in
-    let one = two .before .before in
-    rw (
-      holds (one .before .rest-zero .ensures) (one .if1 .left),
-      holds (two .before .rest-zero2 .ensures) (two .if2 .left),
-      holds (three .before .rest-zero3 .ensures) (three .if3 .left),
-      fails (c .before .rest-zero4 .ensures) (c .if4 .taken),
-    )
+returns-4 c = search (part-fails, part-holds, needs)
 
 returns-5 : tie.Need-returns-5
 unfolding restTest timeParts routeParts
-returns-5 c =
-    let four = c .before .before in
-    let three = four .before .before in
-    let two = three .before .before in
-    let one = two .before .before in
-    rw (
-      holds (one .before .rest-zero .ensures) (one .if1 .left),
-      holds (two .before .rest-zero2 .ensures) (two .if2 .left),
-      holds (three .before .rest-zero3 .ensures) (three .if3 .left),
-      holds (four .before .rest-zero4 .ensures) (four .if4 .left),
-      fails (c .before .rest-zero5 .ensures) (c .if5 .taken),
-    )
+returns-5 c = search (part-fails, part-holds, needs)
 
 returns-6 : tie.Need-returns-6
 unfolding restTest timeParts routeParts
-returns-6 c =
-    let five = c .before in
-    let four = five .before .before in
-    let three = four .before .before in
-    let two = three .before .before in
-    let one = two .before .before in
-    rw (
-      holds (one .before .rest-zero .ensures) (one .if1 .left),
-      holds (two .before .rest-zero2 .ensures) (two .if2 .left),
-      holds (three .before .rest-zero3 .ensures) (three .if3 .left),
-      holds (four .before .rest-zero4 .ensures) (four .if4 .left),
-      holds (five .before .rest-zero5 .ensures) (five .if5 .left),
-      and-true,
-    )
-    (c .rest-zero6 .ensures)
+returns-6 c = search (part-holds, last-part, needs)
 
 pub messages-rest-spec : {M : Type 1} → statement M
 messages-rest-spec =

@@ -1,67 +1,24 @@
 -- `lent::unused_zero` meets its contract. Assumes nothing.
-use Rattle.fields.proofs.Answers.{fails, holds}
-use Rattle.lent.proofs.Whole.{unused-here}
+use Rattle.lent.proofs.Parts.{part-fails, part-holds}
+use Rattle.lent.proofs.Whole.{unused-here, nodes-fail, nodes-hold, crashes-fail, crashes-hold, delays-fail, delays-hold, messages-fail, messages-hold}
 use borrow.Author.Needs.{needs}
 use Rattle.lent.proofs.unused_zero.Statement.{statement}
 use Rattle.lent.proofs.unused_zero.Tie as tie
 
 returns : tie.Need-returns
-returns c = rw (unused-here, fails (c .before .is-zero .ensures) (c .if1 .taken))
+returns c = rw unused-here (search (part-fails, needs))
 
 returns-2 : tie.Need-returns-2
-returns-2 c =
-    let head = c .before .before .before in
-    rw (
-      unused-here,
-      ← (c .before .before .node-count .ensures),
-      holds (head .before .is-zero .ensures) (head .if1 .left),
-      fails (c .before .nodes-rest .ensures) (c .if2 .taken),
-    )
+returns-2 c = rw unused-here (search (part-holds, nodes-fail, needs))
 
 returns-3 : tie.Need-returns-3
-returns-3 c =
-    let nodes = c .before .before in
-    let head = nodes .before .before .before in
-    rw (
-      unused-here,
-      ← (nodes .before .before .node-count .ensures),
-      holds (head .before .is-zero .ensures) (head .if1 .left),
-      holds (nodes .before .nodes-rest .ensures) (nodes .if2 .left),
-      fails (c .before .is-zero2 .ensures) (c .if3 .taken),
-    )
+returns-3 c = rw unused-here (search (part-fails, part-holds, nodes-hold, needs))
 
 returns-4 : tie.Need-returns-4
-returns-4 c =
-    let spare = c .before .before .before in
-    let nodes = spare .before .before in
-    let head = nodes .before .before .before in
-    rw (
-      unused-here,
-      ← (nodes .before .before .node-count .ensures),
-      ← (c .before .before .crash-count .ensures),
-      holds (head .before .is-zero .ensures) (head .if1 .left),
-      holds (nodes .before .nodes-rest .ensures) (nodes .if2 .left),
-      holds (spare .before .is-zero2 .ensures) (spare .if3 .left),
-      fails (c .before .rows-rest .ensures) (c .if4 .taken),
-    )
+returns-4 c = rw unused-here (search (part-holds, nodes-hold, crashes-fail, needs))
 
 returns-5 : tie.Need-returns-5
-returns-5 c =
-    let crashes = c .before .before .before in
-    let spare = crashes .before .before .before in
-    let nodes = spare .before .before in
-    let head = nodes .before .before .before in
-    rw (
-      unused-here,
-      ← (nodes .before .before .node-count .ensures),
-      ← (crashes .before .before .crash-count .ensures),
-      ← (c .before .before .delay-count .ensures),
-      holds (head .before .is-zero .ensures) (head .if1 .left),
-      holds (nodes .before .nodes-rest .ensures) (nodes .if2 .left),
-      holds (spare .before .is-zero2 .ensures) (spare .if3 .left),
-      holds (crashes .before .rows-rest .ensures) (crashes .if4 .left),
-      fails (c .before .rows-rest2 .ensures) (c .if5 .taken),
-    )
+returns-5 c = rw unused-here (search (part-holds, nodes-hold, crashes-hold, delays-fail, needs) fits 20000)
 
 returns-6 : tie.Need-returns-6
 returns-6 c =
@@ -70,19 +27,12 @@ returns-6 c =
     let spare = crashes .before .before .before in
     let nodes = spare .before .before in
     let head = nodes .before .before .before in
-    rw (
-      unused-here,
-      ← (nodes .before .before .node-count .ensures),
-      ← (crashes .before .before .crash-count .ensures),
-      ← (delays .before .before .delay-count .ensures),
-      ← (c .before .before .message-count .ensures),
-      holds (head .before .is-zero .ensures) (head .if1 .left),
-      holds (nodes .before .nodes-rest .ensures) (nodes .if2 .left),
-      holds (spare .before .is-zero2 .ensures) (spare .if3 .left),
-      holds (crashes .before .rows-rest .ensures) (crashes .if4 .left),
-      holds (delays .before .rows-rest2 .ensures) (delays .if5 .left),
-      fails (c .before .messages-rest .ensures) (c .if6 .taken),
-    )
+    rw unused-here (part-holds (head .before .is-zero .ensures) (head .if1 .left)
+    (nodes-hold _ (nodes .before .nodes-rest .ensures) (nodes .before .before .node-count .ensures) (nodes .if2 .left)
+    (part-holds (spare .before .is-zero2 .ensures) (spare .if3 .left)
+    (crashes-hold _ (crashes .before .rows-rest .ensures) (crashes .before .before .crash-count .ensures) (crashes .if4 .left)
+    (delays-hold _ (delays .before .rows-rest2 .ensures) (delays .before .before .delay-count .ensures) (delays .if5 .left)
+    (messages-fail _ (c .before .messages-rest .ensures) (c .before .before .message-count .ensures) (c .if6 .taken) _))))))
 
 returns-7 : tie.Need-returns-7
 returns-7 c =
@@ -92,20 +42,13 @@ returns-7 c =
     let spare = crashes .before .before .before in
     let nodes = spare .before .before in
     let head = nodes .before .before .before in
-    rw (
-      unused-here,
-      ← (nodes .before .before .node-count .ensures),
-      ← (crashes .before .before .crash-count .ensures),
-      ← (delays .before .before .delay-count .ensures),
-      ← (messages .before .before .message-count .ensures),
-      holds (head .before .is-zero .ensures) (head .if1 .left),
-      holds (nodes .before .nodes-rest .ensures) (nodes .if2 .left),
-      holds (spare .before .is-zero2 .ensures) (spare .if3 .left),
-      holds (crashes .before .rows-rest .ensures) (crashes .if4 .left),
-      holds (delays .before .rows-rest2 .ensures) (delays .if5 .left),
-      holds (messages .before .messages-rest .ensures) (messages .if6 .left),
-    )
-    (c .is-zero3 .ensures)
+    rw unused-here (part-holds (head .before .is-zero .ensures) (head .if1 .left)
+    (nodes-hold _ (nodes .before .nodes-rest .ensures) (nodes .before .before .node-count .ensures) (nodes .if2 .left)
+    (part-holds (spare .before .is-zero2 .ensures) (spare .if3 .left)
+    (crashes-hold _ (crashes .before .rows-rest .ensures) (crashes .before .before .crash-count .ensures) (crashes .if4 .left)
+    (delays-hold _ (delays .before .rows-rest2 .ensures) (delays .before .before .delay-count .ensures) (delays .if5 .left)
+    (messages-hold _ (messages .before .messages-rest .ensures) (messages .before .before .message-count .ensures) (messages .if6 .left)
+    (c .is-zero3 .ensures)))))))
 
 pub unused-zero-spec : {M : Type 1} → statement M
 unused-zero-spec =

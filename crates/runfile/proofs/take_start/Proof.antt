@@ -51,19 +51,7 @@ returns-6 c =
     (c .if1 .taken)
 
 returns-7 : tie.Need-returns-7
-returns-7 c =
-    let end = c .before .before in
-    let d = end .before .before .before .before in
-    let w = d .before .before .before .before in
-    let h = w .before .before .before .before in
-    let n = h .before .before .before .before in
-    start-next _ _ _ _ _ _ _ _ _ _
-    (sym (n .before .before .in-range .ensures) ∙ n .n .given .1)
-    (sym (h .before .before .in-range2 .ensures) ∙ h .h .given .1)
-    (sym (w .before .before .in-range3 .ensures) ∙ w .w .given .1)
-    (sym (d .before .before .in-range4 .ensures) ∙ d .d .given .1)
-    (sym (end .before .before .in-range5 .ensures) ∙ end .end .given .1)
-    (c .if1 .left)
+returns-7 c = search (start-next, sym, _∙_, needs)
 
 pub take-start-spec : {M : Type 1} → statement M
 take-start-spec =

@@ -1,13 +1,11 @@
 -- `lent::rows::crashes_in_range` meets its contract. Assumes nothing.
 use Prim.Native.Nat.{_-_}
-use mathlib.Core.Path.{_≡_, refl, sym}
+use mathlib.Core.Path.{_≡_, refl}
 use lib.ListN.{drop}
 use Rattle.plans.specs.Plan.{crashRange, every}
 use Rattle.store.specs.Store.{planIn}
-use Rattle.fields.proofs.Answers.{fails, holds}
 use Rattle.lent.proofs.RowTests.{every-turn, every-stop, every-end}
 use borrow.Author.Needs.{needs}
-use native.Mathlib.Omega.{arith}
 use Rattle.lent.proofs.rows.crashes_in_range.Statement.{statement}
 use Rattle.lent.proofs.rows.crashes_in_range.Tie as tie
 
@@ -21,26 +19,13 @@ loop-holds : tie.Need-loop-holds Inv-loop μ-loop
 loop-holds c = refl
 
 returns : tie.Need-returns Inv-loop μ-loop
-returns c =
-    let after-crash-in-range = c .before in
-    let turn = after-crash-in-range .before .before in
-    let p = planIn (turn .before .before .before .args .s .now) in
-    let out = fails (after-crash-in-range .crash-in-range .ensures) (c .if1 .taken) in
-    sym (every-stop (crashRange p) (p .crashes) (turn .loop .i) (turn .loop .inv) _ (omega arith) out)
+returns c = search (every-stop, needs)
 
 loop-again : tie.Need-loop-again Inv-loop μ-loop
-loop-again c =
-    let after-crash-in-range = c .before in
-    let turn = after-crash-in-range .before .before in
-    let p = planIn (turn .before .before .before .args .s .now) in
-    every-turn (crashRange p) (p .crashes) (turn .loop .i) (turn .loop .inv) _ (omega arith)
-    (holds (after-crash-in-range .crash-in-range .ensures) (c .if1 .left))
+loop-again c = search (every-turn, needs)
 
 returns-2 : tie.Need-returns-2 Inv-loop μ-loop
-returns-2 c =
-    let turn = c .before in
-    let p = planIn (turn .before .before .before .args .s .now) in
-    sym (every-end (crashRange p) (p .crashes) (turn .loop .i) (turn .loop .inv) (omega arith))
+returns-2 c = search (every-end, needs)
 
 pub crashes-in-range-spec : {M : Type 1} → statement M
 crashes-in-range-spec =

@@ -31,9 +31,7 @@ loop-holds c = (refl, refl, λ first k. queued-starts first _ _ _ _ (k .ready) k
 next-requires : tie.Need-next-requires Inv-loop μ-loop
 next-requires c κs =
     let turn = c .before .before .before in
-    let at-begin = turn .before .before .before .before .before in
-    let l = turn .loop in
-    let w = l .inv .2 _ (at-begin .begin .ensures) in
+    let w = turn .loop .inv .2 _ (turn .before .before .before .before .before .begin .ensures) in
     (w .whole, w .underway)
 
 loop-again : tie.Need-loop-again Inv-loop μ-loop
@@ -47,8 +45,7 @@ loop-again c =
     let more = test .loop-test .taken in (
       omega (arith, n .kept .0, l .inv .0),
       omega (arith, n .kept .1 .0, l .inv .1),
-      λ first k. queued-did first _ _ (l .inv .2 first k .whole) (l .inv .2 first k .runs) more _ _ _
-          (n .ensures (l .inv .2 first k .whole) (l .inv .2 first k .underway)) _ _ (at-d .d .given .1),
+      λ first k. queued-did (l .inv .2 first k) more (n .ensures) (at-d .d .given .1),
     )
 
 finish-requires : tie.Need-finish-requires Inv-loop μ-loop
@@ -57,22 +54,16 @@ finish-requires c κs =
     let at-next = at-d2 .before .before .before .before .before .before in
     let test = at-next .before .before .before in
     let turn = test .before in
-    let at-begin = turn .before .before .before .before .before in
-    let l = turn .loop in
-    let o = at-begin .begin in
-    let w = l .inv .2 _ (o .ensures) in
+    let w = turn .loop .inv .2 _ (turn .before .before .before .before .before .begin .ensures) in
     let n = at-next .next in
     let more = test .loop-test .taken in
-    (_, queued-ended _ _ _ (w .whole) (w .runs) more _ _ _ (n .ensures (w .whole) (w .underway)) _ (at-d2 .d2 .given .1) .0)
+    (_, queued-ended w more (n .ensures) (at-d2 .d2 .given .1) .0)
 
 sub-t24 : tie.Need-sub-t24 Inv-loop μ-loop
 sub-t24 c =
     let above = c .before .before .before .before .before .before .before .before .before .before .before .before in
     let turn = above .before .before .before .before .before .before in
-    let at-begin = turn .before .before .before .before .before in
-    let l = turn .loop in
-    let o = at-begin .begin in
-    let w = l .inv .2 _ (o .ensures) in
+    let w = turn .loop .inv .2 _ (turn .before .before .before .before .before .begin .ensures) in
     omega (arith, w .runs .ongoing .within)
 
 same-length : tie.Need-same-length Inv-loop μ-loop
@@ -83,7 +74,6 @@ same-length c =
     let at-begin = turn .before .before .before .before .before in
     let l = turn .loop in
     let o = at-begin .begin in
-    let w = l .inv .2 _ (o .ensures) in
     let n = at-next .next in
     let f = at-finish .finish in
     omega (arith, f .kept .0, n .kept .0, l .inv .0, o .kept .0)
@@ -96,7 +86,6 @@ same-length-2 c =
     let at-begin = turn .before .before .before .before .before in
     let l = turn .loop in
     let o = at-begin .begin in
-    let w = l .inv .2 _ (o .ensures) in
     let n = at-next .next in
     let f = at-finish .finish in
     omega (arith, f .kept .1 .0, n .kept .1 .0, l .inv .1, o .kept .1 .0)
@@ -108,14 +97,11 @@ returns c =
     let at-next = at-d2 .before .before .before .before .before .before in
     let test = at-next .before .before .before in
     let turn = test .before in
-    let at-begin = turn .before .before .before .before .before in
-    let l = turn .loop in
-    let o = at-begin .begin in
-    let w = l .inv .2 _ (o .ensures) in
+    let w = turn .loop .inv .2 _ (turn .before .before .before .before .before .begin .ensures) in
     let n = at-next .next in
     let more = test .loop-test .taken in
     let told = at-d2 .d2 .given .1 in
-    let e = queued-ended _ _ _ (w .whole) (w .runs) more _ _ _ (n .ensures (w .whole) (w .underway)) _ told in
+    let e = queued-ended w more (n .ensures) told in
     e .1 _ (at-finish .finish .ensures _ (e .0))
 
 finish-requires-2 : tie.Need-finish-requires-2 Inv-loop μ-loop
@@ -124,22 +110,16 @@ finish-requires-2 c κs =
     let at-next = at-d3 .before .before .before .before .before .before in
     let test = at-next .before .before .before in
     let turn = test .before in
-    let at-begin = turn .before .before .before .before .before in
-    let l = turn .loop in
-    let o = at-begin .begin in
-    let w = l .inv .2 _ (o .ensures) in
+    let w = turn .loop .inv .2 _ (turn .before .before .before .before .before .begin .ensures) in
     let n = at-next .next in
     let more = test .loop-test .taken in
-    (_, queued-refused _ _ _ (w .whole) (w .runs) more _ _ _ (n .ensures (w .whole) (w .underway)) _ (at-d3 .d3 .given .1) .0)
+    (_, queued-refused w more (n .ensures) (at-d3 .d3 .given .1) .0)
 
 sub-t30 : tie.Need-sub-t30 Inv-loop μ-loop
 sub-t30 c =
     let above = c .before .before .before .before .before .before .before .before .before .before .before .before in
     let turn = above .before .before .before .before .before .before in
-    let at-begin = turn .before .before .before .before .before in
-    let l = turn .loop in
-    let o = at-begin .begin in
-    let w = l .inv .2 _ (o .ensures) in
+    let w = turn .loop .inv .2 _ (turn .before .before .before .before .before .begin .ensures) in
     omega (arith, w .runs .ongoing .within)
 
 same-length-3 : tie.Need-same-length-3 Inv-loop μ-loop
@@ -150,7 +130,6 @@ same-length-3 c =
     let at-begin = turn .before .before .before .before .before in
     let l = turn .loop in
     let o = at-begin .begin in
-    let w = l .inv .2 _ (o .ensures) in
     let n = at-next .next in
     let f = at-finish2 .finish2 in
     omega (arith, f .kept .0, n .kept .0, l .inv .0, o .kept .0)
@@ -163,7 +142,6 @@ same-length-4 c =
     let at-begin = turn .before .before .before .before .before in
     let l = turn .loop in
     let o = at-begin .begin in
-    let w = l .inv .2 _ (o .ensures) in
     let n = at-next .next in
     let f = at-finish2 .finish2 in
     omega (arith, f .kept .1 .0, n .kept .1 .0, l .inv .1, o .kept .1 .0)
@@ -175,34 +153,25 @@ returns-2 c =
     let at-next = at-d3 .before .before .before .before .before .before in
     let test = at-next .before .before .before in
     let turn = test .before in
-    let at-begin = turn .before .before .before .before .before in
-    let l = turn .loop in
-    let o = at-begin .begin in
-    let w = l .inv .2 _ (o .ensures) in
+    let w = turn .loop .inv .2 _ (turn .before .before .before .before .before .begin .ensures) in
     let n = at-next .next in
     let more = test .loop-test .taken in
     let told = at-d3 .d3 .given .1 in
-    let e = queued-refused _ _ _ (w .whole) (w .runs) more _ _ _ (n .ensures (w .whole) (w .underway)) _ told in
+    let e = queued-refused w more (n .ensures) told in
     e .1 _ (at-finish2 .finish2 .ensures _ (e .0))
 
 finish-requires-3 : tie.Need-finish-requires-3 Inv-loop μ-loop
 finish-requires-3 c κs =
     let turn = c .before .before .before in
-    let at-begin = turn .before .before .before .before .before in
-    let l = turn .loop in
-    let o = at-begin .begin in
-    let w = l .inv .2 _ (o .ensures) in
+    let w = turn .loop .inv .2 _ (turn .before .before .before .before .before .begin .ensures) in
     (w .whole, w .underway)
 
 next-event-requires : tie.Need-next-event-requires Inv-loop μ-loop
 next-event-requires c κs =
     let at-finish3 = c .before .before .before .before .before in
     let turn = at-finish3 .before .before .before .before in
-    let at-begin = turn .before .before .before .before .before in
-    let l = turn .loop in
-    let o = at-begin .begin in
-    let w = l .inv .2 _ (o .ensures) in
-    queued-back _ _ _ (w .whole) _ (w .runs) (at-finish3 .finish3 .ensures (w .whole) (w .underway)) .ready
+    let w = turn .loop .inv .2 _ (turn .before .before .before .before .before .begin .ensures) in
+    queued-back w (at-finish3 .finish3 .ensures) .ready
 
 enum-told : tie.Need-enum-told Inv-loop μ-loop
 enum-told c = search needs
@@ -214,7 +183,6 @@ same-length-5 c =
     let at-begin = turn .before .before .before .before .before in
     let l = turn .loop in
     let o = at-begin .begin in
-    let w = l .inv .2 _ (o .ensures) in
     let f = at-finish3 .finish3 in
     omega (arith, f .kept .0, l .inv .0, o .kept .0)
 
@@ -225,7 +193,6 @@ same-length-6 c =
     let at-begin = turn .before .before .before .before .before in
     let l = turn .loop in
     let o = at-begin .begin in
-    let w = l .inv .2 _ (o .ensures) in
     let f = at-finish3 .finish3 in
     omega (arith, f .kept .1 .0, l .inv .1, o .kept .1 .0)
 
@@ -235,12 +202,10 @@ returns-3 c =
     let at-finish3 = at-next-event .before .before .before .before .before .before in
     let test = at-finish3 .before .before .before in
     let turn = test .before in
-    let at-begin = turn .before .before .before .before .before in
     let l = turn .loop in
-    let o = at-begin .begin in
-    let w = l .inv .2 _ (o .ensures) in
+    let w = l .inv .2 _ (turn .before .before .before .before .before .begin .ensures) in
     let f = at-finish3 .finish3 in
-    let h = queued-back _ _ _ (w .whole) _ (w .runs) (f .ensures (w .whole) (w .underway)) in
+    let h = queued-back w (f .ensures) in
     let none = sym (c .enum-told .given .1) ∙ at-next-event .next-event .ensures in
     let used = test .loop-test .left in
     run-used-done _ _ (l .left) _ h (omega (arith, used)) none
@@ -252,7 +217,6 @@ same-length-7 c =
     let at-begin = turn .before .before .before .before .before in
     let l = turn .loop in
     let o = at-begin .begin in
-    let w = l .inv .2 _ (o .ensures) in
     let f = at-finish3 .finish3 in
     omega (arith, f .kept .0, l .inv .0, o .kept .0)
 
@@ -263,7 +227,6 @@ same-length-8 c =
     let at-begin = turn .before .before .before .before .before in
     let l = turn .loop in
     let o = at-begin .begin in
-    let w = l .inv .2 _ (o .ensures) in
     let f = at-finish3 .finish3 in
     omega (arith, f .kept .1 .0, l .inv .1, o .kept .1 .0)
 
@@ -273,11 +236,9 @@ returns-4 c =
     let at-finish3 = at-next-event .before .before .before .before .before .before in
     let test = at-finish3 .before .before .before in
     let turn = test .before in
-    let at-begin = turn .before .before .before .before .before in
     let l = turn .loop in
-    let o = at-begin .begin in
-    let w = l .inv .2 _ (o .ensures) in
-    let h = queued-back _ _ _ (w .whole) _ (w .runs) (at-finish3 .finish3 .ensures (w .whole) (w .underway)) in
+    let w = l .inv .2 _ (turn .before .before .before .before .before .begin .ensures) in
+    let h = queued-back w (at-finish3 .finish3 .ensures) in
     let used = test .loop-test .left in
     run-used-spent _ _ (l .left) _ h (omega (arith, used)) (at-next-event .next-event .ensures)
     (λ e. miss (0 ∷ 1 ∷ 2 ∷ 3 ∷ []) 4 tt (rw e at (c .match2 .keys2)))

@@ -1,15 +1,14 @@
 -- `platform::fill::add_crashes` meets its contract. Assumes nothing.
 use mathlib.Core.Path.{_≡_, _∙_}
-use Prim.Native.Nat.{_-_, _<_, _≤_}
+use Prim.Native.Nat.{_-_, _≤_}
 use lib.ListN.{length}
 use Rattle.plans.specs.Plan.{Plan}
 use Rattle.runfile.specs.Reader.{crashPlace}
 use Rattle.limits.specs.Limits.{storeSize}
 use Rattle.platform.specs.Accepts.{planOf}
 use Rattle.store.specs.Filling.{filled}
-use Rattle.platform.proofs.Opening.{crashes-fit, crash-turn, at-end}
+use Rattle.platform.proofs.Opening.{crash-fits, crash-next, crash-put, at-end}
 use borrow.Author.Needs.{needs}
-use native.Mathlib.Omega.{arith}
 use Rattle.platform.proofs.fill.add_crashes.Statement.{statement}
 use Rattle.platform.proofs.fill.add_crashes.Tie as tie
 
@@ -20,28 +19,11 @@ Inv-loop s₀ file first count at₀ i₀ s at i =
 abbrev μ-loop : tie.MeasureT-loop
 μ-loop s₀ file first count at₀ i₀ s at i = count - i
 
-loop-holds : tie.Need-loop-holds Inv-loop μ-loop
-loop-holds c = let q = c .before .before .pre in (q .1 .0 .0, omega arith, q .1 .1 .0, q .1 .1 .1)
-
 put-crash-requires : tie.Need-put-crash-requires Inv-loop μ-loop
-put-crash-requires c κs =
-    let tested = c .before .before in
-    let turn = tested .before in
-    let start = turn .before .before .before in
-    (omega (arith, tested .loop-test .taken, start .pre .1 .0 .1, crashes-fit (start .args .file .now) (start .pre .0)), turn .loop .inv .3)
+put-crash-requires c κs = search (crash-fits, needs)
 
 loop-again : tie.Need-loop-again Inv-loop μ-loop
-loop-again c =
-    let after-put = c .before .before .put-crash in
-    let after-row = c .before .before .before .before in
-    let tested = after-row .before in
-    let turn = tested .before in
-    let start = turn .before .before .before in
-    let file = start .args .file .now in
-    let v = turn .loop .inv in
-    let less : turn .loop .i < length (planOf file .crashes) = omega (arith, tested .loop-test .taken, start .pre .1 .0 .1) in
-    let t = crash-turn file (start .pre .0) (turn .loop .i) less (v .0) (v .2) (after-row .row-at .ensures) (after-put .ensures) in
-    (t .0, omega (arith, tested .loop-test .taken), t .1, after-put .kept .0 ∙ v .3)
+loop-again c = (search (crash-next, needs), search needs, search (crash-put, needs), search (_∙_, needs))
 
 returns : tie.Need-returns Inv-loop μ-loop
 returns c =
@@ -51,5 +33,5 @@ returns c =
 
 pub add-crashes-spec : {M : Type 1} → statement M
 add-crashes-spec =
-    tie.close (tie.spec Inv-loop μ-loop loop-holds (λ c κs. search needs) put-crash-requires (λ c. search needs) (λ c. search needs) loop-again
-    (λ c. search needs) returns)
+    tie.close (tie.spec Inv-loop μ-loop (λ c. search needs) (λ c κs. search needs) put-crash-requires (λ c. search needs) (λ c. search needs)
+    loop-again (λ c. search needs) returns)
