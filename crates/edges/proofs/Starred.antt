@@ -8,10 +8,11 @@ use Rattle.text.specs.Field.{ends, onto, numberFieldAt}
 use Rattle.runfile.specs.File.{lines, fieldThen, pairOf, crashOf, delayOf, startOf, formOf, rowOf, orElse, startLine, early, crashLine, delayLine, firstLine}
 use Rattle.runfile.specs.File.{laterLine, stepThen, laterLines, allLines, fileOf}
 use Rattle.plans.specs.Plan.{within, startRanges, longEnough, crashRange, delayRange, risingFrom, rising, later, hits, noneTwice, crashOrder, above}
+use Rattle.plans.specs.Plan.{withCrashed}
 use Rattle.plans.specs.Plan.{delayOrder}
 use Rattle.plans.specs.Plan.{fewDelays, startPlan, withCrash, withDelay}
 use Rattle.logline.specs.Line.{lineText}
-use Rattle.model.specs.Platform.{alive, survivors, withCrashed, crashedList, start, crashEntries, messageEntries, timerEntry, timerEntries, pending, earlier}
+use Rattle.model.specs.Platform.{alive, survivors, crashedList, start, crashEntries, messageEntries, timerEntry, timerEntries, pending, earlier}
 use Rattle.model.specs.Platform.{first, upTo, nextEvent, delayIn, numbered, taken, without, received, apply, fits, tried, try, delayOf as messageDelay}
 use Rattle.model.specs.Lines.{otherOf, lastLine, linesFrom, log, messageDeed, deedOf, deedLines}
 use Rattle.edges.specs.Edges.{dead, targetsOf, backFrom, bytes, judged, logText, written, logOf, workedLog, Edges}

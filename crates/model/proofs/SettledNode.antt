@@ -10,39 +10,20 @@ use lib.ListN.{length, getD, take, length-take}
 use lib.Seq.{getD-take}
 use lib.Dec.{eqb}
 use lib.Pow.{pow-pos}
+use Rattle.plans.proofs.Listed.{listed-hits, with-small}
 use Rattle.ring.specs.Ring.{keep, none, listed, listing, round, place, InOrder}
 use Rattle.ring.proofs.Unlisted.{countBy, backBy, nextBy, nextBy-back, countBy-some}
 use Rattle.ring.proofs.GoingBack.{backBy-only}
 use Rattle.ring.proofs.Laws.{keep-ext}
 use Rattle.ring.proofs.Lists.{listed-listing, listing-lt, listed-none, listed-ext}
 use Rattle.plans.specs.Plan.{Plan, Crash, hits}
-use Rattle.model.specs.Platform.{State, alive, nextSurvivor, survivorBefore, withCrashed, crashedList, nodeOf}
+use Rattle.model.specs.Platform.{State, alive, nextSurvivor, survivorBefore, crashedList, nodeOf}
 use Rattle.plans.specs.Plain.{noCrash}
 use Rattle.model.specs.Range.{Accepted, Sound}
 use Rattle.model.specs.Claims.{SettledAt}
 use Rattle.model.proofs.Phases.{crashedIn}
 use Rattle.model.proofs.SpacedRuns.{SettledIn}
 use Rattle.model.proofs.Viewed.{P, view}
-
-marks-listed : (rows : List Crash) (d k : ℕ) → listed (withCrashed d rows) k ≡ (listed d k || hits rows k)
-unfolding withCrashed hits
-marks-listed [] d k = sym (or-false (listed d k))
-  where
-    or-false : (b : Bool) → (b || false) ≡ b
-    or-false true = refl
-    or-false false = refl
-marks-listed (r ∷ rs) d k = marks-listed rs (listing d (r .node)) k ∙ rw (listed-listing d (r .node) k) (go (eqb (r .node) k) (listed d k) (hits rs k))
-  where
-    go : (a b c : Bool) → ((a || b) || c) ≡ (b || (a || c))
-    go true true c = refl
-    go true false c = refl
-    go false b c = refl
-
-marks-lt : (n : ℕ) (rows : List Crash) (d : ℕ) → d < 2 ^ n → ((i : ℕ) → i < length rows → (getD rows i noCrash) .node < n)
-    → withCrashed d rows < 2 ^ n
-unfolding withCrashed
-marks-lt n [] d h f = h
-marks-lt n (r ∷ rs) d h f = marks-lt n rs (listing d (r .node)) (listing-lt n d (r .node) h (f 0 (omega arith))) (λ i a. f (suc i) (omega arith))
 
 module _ (p : Plan) (ac : Accepted p) where
   abbrev io' : InOrder (p .n) (p .order)
@@ -51,11 +32,11 @@ module _ (p : Plan) (ac : Accepted p) where
   -- the crashed list holds the crashed nodes
   pub crashed-listed : (n k : ℕ) → listed (crashedList p n) k ≡ not (alive p n k)
   unfolding crashedList alive
-  crashed-listed n k = marks-listed (take n (p .crashes)) 0 k ∙ rw (listed-none k) (sym (Bool·not-not (hits (take n (p .crashes)) k)))
+  crashed-listed n k = listed-hits (take n (p .crashes)) k ∙ sym (Bool·not-not (hits (take n (p .crashes)) k))
 
   pub crashed-lt : (n : ℕ) → crashedList p n < 2 ^ p .n
   unfolding crashedList
-  crashed-lt n = marks-lt (p .n) (take n (p .crashes)) 0 (pow-pos (p .n)) below
+  crashed-lt n = with-small (p .n) (take n (p .crashes)) 0 (pow-pos (p .n)) below
     where
       below : (i : ℕ) → i < length (take n (p .crashes)) → (getD (take n (p .crashes)) i noCrash) .node < p .n
       below i h =

@@ -6,11 +6,11 @@ use mathlib.Core.Option.{Option, none, some}
 use Prim.Native.Nat.{ℕ, zero, suc, _+_}
 use lib.Dec.{eqb, leb, ltb}
 use lib.ListN.{length, getD, take, drop, set}
-use Rattle.ring.specs.Ring.{keep, numbers, listing, round, place, none as nobody}
+use Rattle.ring.specs.Ring.{keep, numbers, round, place, none as nobody}
 use Rattle.node.specs.declared.Node.{Node}
 use Rattle.node.specs.declared.Message.{Message}
 use Rattle.node.specs.Node.{Turn, silent, alone, opening, onMessage, onWatchDue, onHeartbeatDue}
-use Rattle.plans.specs.Plan.{Crash, Delay, Plan, hits}
+use Rattle.plans.specs.Plan.{Crash, Delay, Plan, hits, withCrashed}
 use Rattle.limits.specs.Limits.{mostInFlight, lineRoom}
 
 -- ---- the state
@@ -61,11 +61,6 @@ nextSurvivor p done j = getD (keep (alive p done) (round (p .order) (suc (place 
 -- the survivor before is the first one going back
 unfoldable pub survivorBefore : Plan → ℕ → ℕ → ℕ
 survivorBefore p done j = getD (keep (alive p done) (reverse (round (p .order) (place (p .order) j)))) 0 nobody
-
--- a dead list with the nodes of some C lines added
-unfoldable pub withCrashed : ℕ → List Crash → ℕ
-withCrashed d [] = d
-withCrashed d (r ∷ rs) = withCrashed (listing d (r .node)) rs
 
 -- the crashed nodes as a dead list
 unfoldable pub crashedList : Plan → ℕ → ℕ

@@ -7,18 +7,12 @@ use native.Mathlib.Omega.{arith}
 use lib.ListN.{length, getD, take, drop, set, replicate, length-append, length-map, length-replicate, drop-of-length-le, replicate-append-replicate}
 use lib.Seq.{sets, sets-eq, drop-cons, take-at, getD-take, length-take-le, drop-append-add, drop-at}
 use Rattle.ring.specs.Ring.{place, targets, row, jumps, count}
-use Rattle.ring.proofs.Counts.{length-targets, jumps-count-le}
+use Rattle.ring.proofs.Counts.{length-targets, jumps-count-le, take-row}
 use Rattle.node.specs.declared.Message.{Message}
 use Rattle.node.specs.declared.Node.{Node}
 use Rattle.node.specs.declared.Turned.{Turned}
 use Rattle.node.specs.Node.{Turn, R, message, reports, sending, places, turned, relayed}
 use Rattle.limits.specs.Limits.{mostSent}
-
--- ---- the targets of a row
-
-pub take-row : (order : List ℕ) (d p : ℕ) → take (jumps (count (length order) d)) (row (targets order d p)) ≡ targets order d p
-unfolding row
-take-row order d p = take-at (targets order d p) _ (jumps (count (length order) d)) (length-targets order d p)
 
 -- ---- a loop that puts reports
 
@@ -95,7 +89,7 @@ unfolding relayed
 relayed-put order me subject t p m k to sent pq tq mq kq sq =
     let d : ℕ = t .node .list in
     let e : take k to ≡ targets order d (place order me) =
-    rw (tq, pq, kq, mq) (take-row order d (place order me)) in
+    rw (tq, pq, kq, mq) (take-row order d (place order me) _ refl) in
     let l : length (reports subject (targets order d (place order me))) ≡ k =
     length-reports subject (targets order d (place order me)) ∙ length-targets order d (place order me) ∙ sym (kq ∙ ap jumps mq) in
     rw (l, sq, e)

@@ -37,12 +37,6 @@ every-weaker test weaker h (r ∷ rs) e =
     rw (h r (and-elim-left (test r) (every test rs) e)) (every-weaker test weaker h rs (and-elim-right (test r) (every test rs) e))
 
 -- rows at the start of others that pass
-pub every-start : {A : Type 0} (test : A → Bool) (xs ys : List A) → every test (xs ++ ys) ≡ true → every test xs ≡ true
-unfolding every
-every-start test [] ys e = refl
-every-start test (x ∷ xs) ys e =
-    rw (and-elim-left (test x) (every test (xs ++ ys)) e) (every-start test xs ys (and-elim-right (test x) (every test (xs ++ ys)) e))
-
 pub every-there : {A : Type 0} (test : A → Bool) (xs : List A) (r : A) (ys : List A) → every test (xs ++ (r ∷ ys)) ≡ true → test r ≡ true
 unfolding every
 every-there test [] r ys e = and-elim-left (test r) (every test ys) e

@@ -4,7 +4,7 @@ use mathlib.Core.List.{List, [], _∷_, _++_}
 use Prim.Native.Nat.{ℕ, _+_}
 use lib.Dec.{eqb, leb, ltb}
 use lib.ListN.{length}
-use Rattle.ring.specs.Ring.{numbers}
+use Rattle.ring.specs.Ring.{numbers, listing}
 use Rattle.limits.specs.Limits.{mostNodes, mostH, mostW, mostD, mostTick, mostNumber, mostDelays}
 
 -- a line C: node `node` crashes at tick `tick`
@@ -112,6 +112,11 @@ later a b = ltb (a .tick) (b .tick) || (eqb (a .tick) (b .tick) && ltb (a .node)
 unfoldable pub hits : List Crash → ℕ → Bool
 hits [] k = false
 hits (r ∷ rs) k = eqb (r .node) k || hits rs k
+
+-- a dead list with the nodes of some C lines added
+unfoldable pub withCrashed : ℕ → List Crash → ℕ
+withCrashed d [] = d
+withCrashed d (r ∷ rs) = withCrashed (listing d (r .node)) rs
 
 -- 'no node twice'
 unfoldable pub noneTwice : List Crash → Bool

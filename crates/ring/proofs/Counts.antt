@@ -169,7 +169,7 @@ unlisted-mask w n d h g =
     let e : w - n + n ≡ w = omega arith in
     ap (λ (x : ℕ). bitAnd ((2 ^ x - 1) - d) (2 ^ n - 1)) (sym e) ∙ not-mask (w - n) n d (rw e g)
 
-length-keep : (p : ℕ → Bool) (xs : List ℕ) → length (keep p xs) ≤ length xs
+pub length-keep : (p : ℕ → Bool) (xs : List ℕ) → length (keep p xs) ≤ length xs
 unfolding keep
 length-keep p [] = omega arith
 length-keep p (x ∷ xs) = go (p x) (length-keep p xs)

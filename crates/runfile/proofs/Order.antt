@@ -13,7 +13,7 @@ use Rattle.ring.proofs.Laws.{listed-beyond}
 use Rattle.plans.specs.Plan.{Crash, Delay, risingFrom, rising, later, hits, noneTwice, crashOrder, above, delayOrder}
 use mathlib.Mathlib.Data.Bool.Basic.{and-elim-left, and-elim-right}
 use Rattle.plans.proofs.Rows.{twice-snoc}
-use Rattle.runfile.specs.Reader.{last, crashFloor, delayFloor, follows, seenFrom}
+use Rattle.runfile.specs.Reader.{last, crashFloor, delayFloor, follows}
 
 -- ---- rows that rise
 
@@ -62,27 +62,6 @@ pub crash-floor-snoc : (rs : List Crash) (t k : ℕ) → crashFloor (rs ++ (reco
 unfolding crashFloor last
 crash-floor-snoc [] t k = refl
 crash-floor-snoc (x ∷ xs) t k = rw (last-snoc x xs (record { tick = t; node = k }))
-
-pub seen-snoc : (seen : ℕ) (rs : List Crash) (r : Crash) → seenFrom seen (rs ++ (r ∷ [])) ≡ listing (seenFrom seen rs) (r .node)
-unfolding seenFrom
-seen-snoc seen [] r = refl
-seen-snoc seen (x ∷ xs) r = seen-snoc (listing seen (x .node)) xs r
-
-or-turn : (a b c : Bool) → ((a || b) || c) ≡ (b || (a || c))
-or-turn true true c = refl
-or-turn true false c = refl
-or-turn false b c = refl
-
-seen-from : (seen : ℕ) (rs : List Crash) (k : ℕ) → listed (seenFrom seen rs) k ≡ (listed seen k || hits rs k)
-unfolding seenFrom hits
-seen-from seen [] k = sym (or-false (listed seen k))
-seen-from seen (x ∷ xs) k =
-    seen-from (listing seen (x .node)) xs k
-    ∙ rw (listed-listing seen (x .node) k) (or-turn (eqb (x .node) k) (listed seen k) (hits xs k))
-
--- the nodes seen are those that rows hit
-pub seen-hits : (rs : List Crash) (k : ℕ) → listed (seenFrom 0 rs) k ≡ hits rs k
-seen-hits rs k = seen-from 0 rs k ∙ rw (listed-beyond 0 0 k (omega arith) zero-le)
 
 -- ---- delay rows
 

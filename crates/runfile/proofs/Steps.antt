@@ -8,19 +8,21 @@ use mathlib.Core.List.{[], _∷_, _++_}
 use lib.Dec.{leb, ltb}
 use lib.ListN.{length}
 use borrow.Author.Tests.{eq-eqb, ne-eqb, le-leb, lt-leb, lt-ltb, le-ltb, leb-true, leb-false}
+use Rattle.plans.proofs.Listed.{listed-hits, with-snoc}
 use Rattle.ring.specs.Ring.{listed, listing}
 use Rattle.text.specs.declared.Ranged.the-variants.{Within, Outside}
 use Rattle.text.specs.Field.{rangedOf}
 use Rattle.text.proofs.FieldLaws.{range-bound}
 use Rattle.plans.specs.Plan.{Crash, Delay, Plan, within, startRanges, longEnough, crashRange, delayRange, crashOrder, delayOrder, fewDelays, planTest}
+use Rattle.plans.specs.Plan.{withCrashed}
 use Rattle.plans.specs.Plan.{startPlan, withCrash, withDelay}
 use Rattle.runfile.specs.File.{orElse, startLine, early, crashLine, delayLine}
-use Rattle.runfile.specs.Reader.{sofarOf, Kept, lineAnswer, follows, crashFloor, delayFloor, seenFrom}
+use Rattle.runfile.specs.Reader.{sofarOf, Kept, lineAnswer, follows, crashFloor, delayFloor}
 use Rattle.runfile.specs.declared.Sofar.{Sofar}
 use Rattle.runfile.specs.declared.Line.the-variants.{Next, Stop}
 use Rattle.plans.proofs.Bools.{and-left, and-right}
 use mathlib.Mathlib.Data.Bool.Basic.{and-intro}
-use Rattle.runfile.proofs.Order.{crash-order-snoc, crash-floor-snoc, seen-snoc, seen-hits, delay-order-snoc, delay-floor-snoc, snoc-length}
+use Rattle.runfile.proofs.Order.{crash-order-snoc, crash-floor-snoc, delay-order-snoc, delay-floor-snoc, snoc-length}
 use Rattle.plans.proofs.Rows.{few-snoc}
 use Rattle.plans.proofs.Tests.{tests-of, delays-rise}
 
@@ -92,7 +94,7 @@ module _ (n h w d end : ℕ) where
     pub start-next : h' + d' ≤ w'
         → Next (record { n = n'; h = h'; w = w'; d = d'; end = end'; crashes = 0; delays = 0; tick = 0; node = 0; seen = 0; number = 0 })
         ≡ lineAnswer (startLine (startPlan n h w d end))
-    unfolding startLine orElse lineAnswer longEnough startPlan sofarOf crashFloor delayFloor seenFrom
+    unfolding startLine orElse lineAnswer longEnough startPlan sofarOf crashFloor delayFloor withCrashed
     start-next k =
         let long : h + d ≤ w = omega (arith, range-bound h 1 1000 h' rh .0, range-bound w 1 65535 w' rw' .0, range-bound d 1 255 d' rd .0) in
         rw (
@@ -164,7 +166,7 @@ module _ (p : Plan) (st : Sofar) (kept : Kept p st) (tick node : ℕ) where
         unfolding sofarOf
         crash-order =
             crash-order-snoc (p .crashes) tick node (crashes-ordered p (kept .good))
-            ∙ rw (kept .same, ← range-bound tick 0 (st .end) t rt .0, ← range-bound node 0 (st .n - 1) k rk .0, seen-hits (p .crashes) node)
+            ∙ rw (kept .same, ← range-bound tick 0 (st .end) t rt .0, ← range-bound node 0 (st .n - 1) k rk .0, listed-hits (p .crashes) node)
 
         crash-unordered : follows (st .tick) (st .node) t k && not (listed (st .seen) k) ≡ false → Stop 5 ≡ lineAnswer (crashLine p row)
         unfolding crashLine withCrash orElse lineAnswer
@@ -202,7 +204,7 @@ module _ (p : Plan) (st : Sofar) (kept : Kept p st) (tick node : ℕ) where
               kept .same,
               snoc-length (p .crashes) row,
               crash-floor-snoc (p .crashes) tick node,
-              seen-snoc 0 (p .crashes) row,
+              with-snoc (p .crashes) 0 row,
               range-bound tick 0 (st .end) t rt .0,
               range-bound node 0 (st .n - 1) k rk .0,
               add-one k,

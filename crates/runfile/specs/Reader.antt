@@ -5,11 +5,10 @@ use mathlib.Core.List.{List, [], _∷_, _++_}
 use Prim.Native.Nat.{ℕ, suc, _+_, _≤_}
 use lib.Dec.{eqb, leb, ltb}
 use lib.ListN.{length, take, drop}
-use Rattle.ring.specs.Ring.{listing}
 use Rattle.text.specs.declared.Number.{Number}
 use Rattle.text.specs.declared.Number.the-variants.{Value, NoNumber}
 use Rattle.text.specs.Field.{lineFeed, numberFieldAt}
-use Rattle.plans.specs.Plan.{Crash, Delay, Plan, planTest}
+use Rattle.plans.specs.Plan.{Crash, Delay, Plan, planTest, withCrashed}
 use Rattle.runfile.specs.Text.{startText, crashText, delayText, rowsText}
 use Rattle.runfile.specs.File.{FileAnswer, accepted, turnedDown, Step, next, stop, lines, laterLines, allLines}
 use Rattle.runfile.specs.declared.Outline.{Outline}
@@ -60,11 +59,6 @@ delayFloor (r ∷ rs) = suc (last r rs .number)
 unfoldable pub follows : ℕ → ℕ → ℕ → ℕ → Bool
 follows floorTick floorNode tick node = ltb floorTick tick || (eqb floorTick tick && leb floorNode node)
 
--- the nodes of rows as a list of nodes, added to one
-unfoldable pub seenFrom : ℕ → List Crash → ℕ
-seenFrom seen [] = seen
-seenFrom seen (r ∷ rs) = seenFrom (listing seen (r .node)) rs
-
 unfoldable pub sofarOf : Plan → Sofar
 sofarOf p = record {
   n = p .n;
@@ -76,7 +70,7 @@ sofarOf p = record {
   delays = length (p .delays);
   tick = crashFloor (p .crashes) .tick;
   node = crashFloor (p .crashes) .node;
-  seen = seenFrom 0 (p .crashes);
+  seen = withCrashed 0 (p .crashes);
   number = delayFloor (p .delays);
 }
 

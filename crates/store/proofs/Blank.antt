@@ -9,6 +9,7 @@ use borrow.Author.Tests.{eqb-true}
 use lib.Dec.{eqb}
 use lib.ListN.{length, replicate, length-append, length-replicate}
 use lib.Seq.{slice, slice-empty, take-at, drop-at}
+use Rattle.fields.proofs.Zeros.{zeros-replicate}
 use Rattle.fields.specs.Fields.{zeros}
 use Rattle.plans.specs.Plan.{Plan}
 use Rattle.model.specs.Platform.{State}
@@ -21,11 +22,6 @@ use Rattle.store.proofs.Groups.{unused-append, rests-test}
 use Rattle.store.proofs.Store.{laid, head-places}
 
 -- ---- what was encoded
-
-zeros-all : (n : ℕ) → zeros (replicate n 0) ≡ true
-unfolding zeros
-zeros-all zero = refl
-zeros-all (suc n) = zeros-all n
 
 -- the unused bytes of a column that stands after a and before z
 unused-column : (a z : List ℕ) (c : Column) → length a ≡ c .field .at → length (c .values) ≤ c .field .places
@@ -41,7 +37,7 @@ unused-column a z c starts room =
     let before : length front ≡ c .field .at + used c = length-append a (packs w (c .values)) ∙ rw (starts, length-packs w (c .values)) in
     let whole : length (front ++ blank) ≡ c .field .at + size (c .field) =
     length-append front blank ∙ rw (before, length-replicate {A = ℕ} k 0) (omega arith) in
-    rw (split, take-at (front ++ blank) z (c .field .at + size (c .field)) whole, drop-at front blank (c .field .at + used c) before) (zeros-all k)
+    rw (split, take-at (front ++ blank) z (c .field .at + size (c .field)) whole, drop-at front blank (c .field .at + used c) before) (zeros-replicate k)
 
 -- columns one after another, after bytes that end at o
 unused-from : (a : List ℕ) (cs : List Column) (o : ℕ) → length a ≡ o → Laid o cs → unusedTest (a ++ bytesOf cs) cs ≡ true

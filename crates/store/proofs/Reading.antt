@@ -9,6 +9,7 @@ use borrow.Author.Tests.{eqb-true, leb-true}
 use lib.Dec.{eqb, leb}
 use lib.ListN.{length, take, drop, getD, replicate, length-append, length-drop, length-map, take-append-drop}
 use lib.Seq.{slice, take-add, drop-drop, drop-at, length-take-le, drop-length}
+use Rattle.ring.proofs.Orders.{getD-numbers}
 use Rattle.ring.specs.Ring.{numbers}
 use Rattle.ring.proofs.Rows.{length-numbers}
 use Rattle.fields.specs.Fields.{zeros}
@@ -20,12 +21,6 @@ use Rattle.store.proofs.Columns.{Laid, length-column}
 use Rattle.store.proofs.Groups.{getD-part, row-read, fit-at, fit-each}
 
 -- ---- rows by their numbers
-
-pub getD-numbers : (n j i d : ℕ) → i < n → getD (numbers j n) i d ≡ j + i
-unfolding numbers
-getD-numbers zero j i d h = absurd (omega arith)
-getD-numbers (suc n) j zero d h = sym (add-zero j)
-getD-numbers (suc n) j (suc i) d h = getD-numbers n (suc j) i d (omega arith) ∙ omega arith
 
 -- row i of those made of the numbers below n
 pub row-made : {A : Type 0} (f : ℕ → A) (n i : ℕ) (d : A) → i < n → getD (map f (numbers 0 n)) i d ≡ f i

@@ -1,8 +1,9 @@
 -- `store::plan::crashed_list` meets its contract. The loop's invariant: the list has the nodes of the rows before i. Assumes nothing.
+use Rattle.plans.specs.Plan.{withCrashed}
 use Rattle.model.proofs.Plans.{plan-accepted}
 use Prim.Native.Nat.{_-_, _≤_}
 use mathlib.Core.Path.{_≡_, refl, sym, ap, _∙_}
-use Rattle.model.specs.Platform.{withCrashed, crashedList}
+use Rattle.model.specs.Platform.{crashedList}
 use Rattle.store.specs.Store.{planIn, stateIn}
 use Rattle.store.proofs.Crashes.{crashed-next}
 use borrow.Author.Needs.{needs}
