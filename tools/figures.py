@@ -2,7 +2,7 @@
 """The tables of docs/FIGURES.md that are counted or measured.
 
     python3 tools/figures.py --sizes   writes the table of tools/sizes.sh into docs/FIGURES.md
-    python3 tools/figures.py --times   after a whole gate, writes the time of each crate and of its edits there, from target/
+    python3 tools/figures.py --times   after a whole gate, writes the time of each crate and of its edits there, from target/gate.log
 
 tests/docs.py holds the sizes, and the counts of edits beside the times, against those counted."""
 import glob
@@ -34,13 +34,16 @@ def table(lines, header):
 
 
 def times():
-    """The table of times, from what a whole gate leaves in target/."""
+    """The table of times, from what `rt ci` said in the last gate."""
+    if not os.path.exists("target/gate.log"):
+        sys.exit("figures: there is no target/gate.log: run .ci/run first")
+    said = read("target/gate.log")
     rows = [TIMES, "|---|---|---|---|"]
     for crate in re.findall(r"^(\w+):", read("crates.txt"), re.M):
-        took = re.findall(r" proved \((\d+) s\)", read(f"target/log/{crate}.out"))
-        edits = [int(re.findall(r"(\d+) s\)", read(f))[-1]) for f in glob.glob(f"target/must-fail/{crate}/*.out")]
+        took = re.findall(rf"^rt: {crate} proved \((\d+) s\)", said, re.M)
+        edits = [int(s) for s in re.findall(rf"^rt: must-fail {crate}/.*?(\d+) s\)$", said, re.M)]
         if not took or len(edits) != len(glob.glob(f"crates/{crate}/must-fail/*.edit")):
-            sys.exit(f"figures: target/ has not the times of {crate}: run .ci/run first")
+            sys.exit(f"figures: target/gate.log has not the times of {crate}: run .ci/run first")
         rows.append(f"| {crate} | {took[-1]} s | {len(edits)} | {sum(edits)} s |")
     return rows
 
