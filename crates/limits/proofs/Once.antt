@@ -12,7 +12,8 @@ risesFrom x [] = true
 risesFrom x (y ∷ ys) = ltb x y && risesFrom y ys
 
 pub refusals-differ : risesFrom accepted
-    (badLength ∷ badForm ∷ outOfRange ∷ shortTimeOut ∷ notRising ∷ manyDelays ∷ badStore ∷ tooMany ∷ shortPart ∷ badRecord ∷ badMessage ∷ badTick ∷ [])
+    (badLength ∷ badForm ∷ outOfRange ∷ shortTimeOut ∷ notRising ∷ manyDelays ∷ badStore ∷ tooMany ∷ shortPart ∷ badRecord
+    ∷ badMessage ∷ badTick ∷ [])
     ≡ true
 unfolding risesFrom
 refusals-differ = refl
