@@ -8,7 +8,7 @@ use Prim.Native.Nat.{ℕ, _≤_}
 use native.Mathlib.Omega.{arith}
 use lib.ListN.{length, replicate}
 use Rattle.fields.specs.Fields.{bytes, value, fieldAt, zeros}
-use Rattle.ring.specs.Ring.{keep, numbers, listed, listing, unlisted, round, place, ahead, back, next, count, powers, jumps, targets}
+use Rattle.ring.specs.Ring.{keep, numbers, among, eachOnce, listed, listing, unlisted, round, place, ahead, back, next, count, powers, jumps, targets}
 use Rattle.node.specs.declared.Node.{Node}
 use Rattle.node.specs.Node.{reports, opening, onHeartbeat, onObserver, onReport, onHeartbeatDue, onMessage, leaving}
 use Rattle.node.specs.Range.{nodeTest, apart, liveTest}
@@ -31,7 +31,7 @@ unfoldable pub two : Plan
 two = record { n = 2; h = 1; w = 2; d = 1; end = 20; order = numbers 0 2; crashes = []; delays = [] }
 
 pub is-accepted : fileOf (planText two) ≡ accepted two
-unfolding two planTest startTest startRanges within longEnough orderTest sameNumbers numbers crashTest every crashOrder rising noneTwice
+unfolding two planTest startTest startRanges within longEnough orderTest sameNumbers numbers crashTest every crashOrder rising noneTwice eachOnce
     delayTest delayOrder fewDelays
 is-accepted = read-back two refl
 
@@ -43,7 +43,7 @@ pub ninth : (nodeOf (after two 8) 0 ≡ node)
     × (nextEvent two (after two 8) ≡ some (record { tick = 3; event = heartbeat 0 }))
     × (lastTick two 0 8 ≡ 3)
 unfolding two node keep numbers listed listing unlisted round place ahead back next count powers jumps targets reports opening
-    onHeartbeat onObserver onReport onHeartbeatDue leaving onMessage hits alive start crashEntries messageEntries timerEntry
+    onHeartbeat onObserver onReport onHeartbeatDue leaving onMessage hits among alive start crashEntries messageEntries timerEntry
     timerEntries pending earlier first upTo nextEvent delayIn delayOf numbered turned without received apply fits tried try left steps after
     callTo tickOr ticked lastTick
 ninth = (refl, refl, refl)

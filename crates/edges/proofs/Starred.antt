@@ -1,5 +1,6 @@
 -- Document 01's starred edges hold: each definition computes to what the table says. Assumes nothing.
 use mathlib.Core.Path.{refl}
+use Rattle.ring.specs.Ring.{among, eachOnce, listingAll}
 use Rattle.ring.specs.Ring.{keep, numbers, listed, listing, unlisted, place, round, ahead, back, next, count, powers, jumps, targets}
 use Rattle.node.specs.Node.{reports, opening as nodeOpening, onHeartbeat, onObserver, onReport, onHeartbeatDue, leaving, onMessage}
 use Rattle.text.specs.Number.{digit, decimal}
@@ -18,13 +19,13 @@ use Rattle.model.specs.Lines.{otherOf, lastLine, linesFrom, log, messageDeed, d
 use Rattle.edges.specs.Edges.{dead, targetsOf, backFrom, bytes, judged, logText, written, logOf, workedLog, Edges}
 
 pub edges : Edges
-unfolding keep numbers listed listing unlisted place round ahead back next count powers jumps targets dead targetsOf backFrom reports nodeOpening
-    onHeartbeat onObserver onReport onHeartbeatDue leaving onMessage digit decimal hexByte numberFieldAt ends within startRanges longEnough crashRange
-    delayRange risingFrom rising later hits noneTwice crashOrder above delayOrder fewDelays onto lines startPlan fieldThen pairOf crashOf delayOf
-    startOf formOf rowOf orElse withCrash withDelay startLine early crashLine delayLine firstLine laterLine stepThen laterLines allLines fileOf
-    lineText alive survivors withCrashed crashedList start crashEntries messageEntries timerEntry timerEntries pending earlier first upTo nextEvent
-    delayIn messageDelay numbered taken without received apply fits tried try otherOf lastLine linesFrom log bytes judged logText written logOf
-    workedLog messageDeed deedOf deedLines
+unfolding among eachOnce listingAll keep numbers listed listing unlisted place round ahead back next count powers jumps targets dead targetsOf
+    backFrom reports nodeOpening onHeartbeat onObserver onReport onHeartbeatDue leaving onMessage digit decimal hexByte numberFieldAt ends within
+    startRanges longEnough crashRange delayRange risingFrom rising later hits noneTwice crashOrder above delayOrder fewDelays onto lines startPlan
+    fieldThen pairOf crashOf delayOf startOf formOf rowOf orElse withCrash withDelay startLine early crashLine delayLine firstLine laterLine
+    stepThen laterLines allLines fileOf lineText alive survivors withCrashed crashedList start crashEntries messageEntries timerEntry timerEntries
+    pending earlier first upTo nextEvent delayIn messageDelay numbered taken without received apply fits tried try otherOf lastLine linesFrom log
+    bytes judged logText written logOf workedLog messageDeed deedOf deedLines
 edges = record {
   worked-log = refl;
   lone-log = refl;

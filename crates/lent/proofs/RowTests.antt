@@ -14,6 +14,7 @@ use Rattle.limits.specs.Limits.{mostNodes, mostH, mostW, mostD, mostTick, mostN
 use Rattle.plans.specs.Plan.{Plan, Crash, Delay, within, startRanges, crashRange, delayRange, risingFrom, rising, later, hits, noneTwice, above, delayOrder}
 use Rattle.plans.specs.Plan.{fewDelays, every, orderTest, delayTest}
 use Rattle.plans.proofs.Orders.{number-order-taken}
+use Rattle.ring.specs.Ring.{among, eachOnce}
 use Rattle.plans.specs.Plain.{noCrash}
 use Rattle.store.specs.declared.CrashRow.{CrashRow}
 use Rattle.store.specs.declared.DelayRow.{DelayRow}
@@ -124,21 +125,21 @@ module _ (a b : Crash) {row next : CrashRow} (got : row ≡ crashRow a) (got-nex
 -- rows of node k, from the place first on
 module _ (rows : List Crash) (first k i : ℕ) (so-far : hits (drop first rows) k ≡ hits (drop i rows) k) where
   pub hit-none : length rows ≤ i → hits (drop first rows) k ≡ false
-  unfolding hits
+  unfolding hits among
   hit-none h = so-far ∙ rw (drop-of-length-le rows h)
 
   module _ {row : CrashRow} (got : row ≡ crashRow (getD rows i noCrash)) (inside : i < length rows) where
     pub hit-found : row .node ≡ k → hits (drop first rows) k ≡ true
-    unfolding hits
+    unfolding hits among
     hit-found e = so-far ∙ rw (from-place rows i noCrash inside, eq-eqb (getD rows i noCrash .node) k (sym (crash-node got) ∙ e))
 
     pub hit-turn : (row .node ≡ k → ⊥) → hits (drop first rows) k ≡ hits (drop (i + 1) rows) k
-    unfolding hits
+    unfolding hits among
     hit-turn d = so-far ∙ rw (from-place rows i noCrash inside, ne-eqb (getD rows i noCrash .node) k (λ e. d (crash-node got ∙ e)))
 
 module _ (rows : List Crash) (i : ℕ) (so-far : noneTwice rows ≡ noneTwice (drop i rows)) where
   pub once-end : length rows ≤ i → noneTwice rows ≡ true
-  unfolding noneTwice
+  unfolding noneTwice hits eachOnce
   once-end h = so-far ∙ rw (drop-of-length-le rows h)
 
   module _ {row : CrashRow} {hit : Bool} (got : row ≡ crashRow (getD rows i noCrash)) (told : hit ≡ hits (drop (i + 1) rows) (row .node))
@@ -147,11 +148,11 @@ module _ (rows : List Crash) (i : ℕ) (so-far : noneTwice rows ≡ noneTwice (d
     told-row = ap (hits (drop (i + 1) rows)) (sym (crash-node got)) ∙ sym told
 
     pub once-stop : hit ≡ true → noneTwice rows ≡ false
-    unfolding noneTwice
+    unfolding noneTwice hits eachOnce
     once-stop e = so-far ∙ rw (from-place rows i noCrash inside, told-row, e)
 
     pub once-turn : hit ≡ false → noneTwice rows ≡ noneTwice (drop (i + 1) rows)
-    unfolding noneTwice
+    unfolding noneTwice hits eachOnce
     once-turn e = so-far ∙ rw (from-place rows i noCrash inside, told-row, e)
 
 -- ---- L rows

@@ -13,9 +13,9 @@ use Rattle.model.specs.Platform.{State, Event, Entry, crash, message, wa
 use Rattle.model.specs.Platform.{entry, crashEntry, ended, refused, try, left, steps, eventsFrom, firstEvents, after}
 use Rattle.plans.specs.Plain.{noCrash, rowAt, Plain}
 use Rattle.model.specs.Range.{Sound}
-use Rattle.model.specs.Claims.{CrashedAmong, CrashedAre}
-use Rattle.model.proofs.NextEvent.{Chosen, hit-where}
-use Rattle.plans.proofs.Rows.{hit-of}
+use Rattle.model.specs.Claims.{CrashedAre}
+use Rattle.model.proofs.NextEvent.{Chosen}
+use Rattle.plans.proofs.Rows.{hit-of, hit-where}
 use Rattle.model.proofs.Calls.{stuck}
 use Rattle.model.proofs.RangesKept.{at-in, start-range, Tried, happened, none-left, too-many, try-ok, left-range, after-range}
 

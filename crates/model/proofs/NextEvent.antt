@@ -10,7 +10,7 @@ use Prim.Native.Nat.{ℕ, zero, suc, _+_, _≤_, _<_}
 use native.Mathlib.Nat.{add-zero}
 use native.Mathlib.Omega.{arith}
 use native.Mathlib.Decide.{ℕ-discrete, decLt}
-use borrow.Author.Tests.{eq-eqb, ne-eqb, eqb-true, leb-true, leb-false, le-leb}
+use borrow.Author.Tests.{eq-eqb, ne-eqb, leb-true, leb-false, le-leb}
 use lib.Dec.{eqb, leb}
 use lib.ListN.{length, getD, take, drop, length-drop, length-take, drop-of-length-le, List·getD-eq-default}
 use lib.Seq.{drop-cons, take-suc, getD-take, getD-drop}
@@ -19,7 +19,7 @@ use Rattle.node.specs.Node.{alone}
 use Rattle.model.specs.Platform.{InFlight, State, Event, Entry, entry, crashEntry, crash, message, watch, heartbeat, alive, crashEntries}
 use Rattle.model.specs.Platform.{messageEntries, timerEntry, timerEntries, pending, earlier, first, upTo, nextEvent, nodeOf, noMessage, messageAt}
 use Rattle.plans.specs.Plain.{noCrash, rowAt, Plain}
-use Rattle.plans.proofs.Rows.{hit-of}
+use Rattle.plans.proofs.Rows.{hit-of, hit-where, hits-snoc}
 use Rattle.model.specs.Range.{NotBefore}
 use Rattle.plans.specs.Plan.{Crash, Plan, hits}
 use Rattle.model.specs.Claims.{NoneLeftBefore}
@@ -153,17 +153,6 @@ next-among (r ∷ rs) e m = List·Memᴰ·head (List·Memᴰ·eq-of-singleton m)
 
 -- ---- rows
 
-pub hit-where : (rows : List Crash) (z : Crash) (k : ℕ) → hits rows k ≡ true → (i : ℕ) × (i < length rows) × ((getD rows i z) .node ≡ k)
-unfolding hits
-hit-where [] z k h = absurd (true≢false (sym h))
-hit-where (r ∷ rs) z k h = go (eqb (r .node) k) refl h (hit-where rs z k)
-  where
-    go : (b : Bool) → eqb (r .node) k ≡ b → (b || hits rs k) ≡ true
-        → (hits rs k ≡ true → (i : ℕ) × (i < length rs) × ((getD rs i z) .node ≡ k))
-        → (i : ℕ) × (i < length (r ∷ rs)) × ((getD (r ∷ rs) i z) .node ≡ k)
-    go true e h ih = (0, omega arith, eqb-true (r .node) k e)
-    go false e h ih = let q : (i : ℕ) × (i < length rs) × ((getD rs i z) .node ≡ k) = ih h in (suc (q .0), omega (arith, q .1), q .2)
-
 module _ (p : Plan) (pl : Plain p) where
   -- a live node's row is not done
   pub undone : (done i : ℕ) → i < length (p .crashes) → alive p done ((rowAt p i) .node) ≡ true → done ≤ i
@@ -190,26 +179,11 @@ module _ (p : Plan) (pl : Plain p) where
           let i< : w .0 < done = omega (arith, w .1, length-take done (p .crashes)) in
           absurd (pl .once (w .0) done i< h (sym (ap (λ (r : Crash). r .node) (getD-take done (p .crashes) (w .0) noCrash i<)) ∙ w .2))
 
-  hits-append : (xs ys : List Crash) (k : ℕ) → hits (xs ++ ys) k ≡ (hits xs k || hits ys k)
-  unfolding hits
-  hits-append [] ys k = refl
-  hits-append (x ∷ xs) ys k = go (eqb (x .node) k) (hits-append xs ys k)
-    where
-      go : (b : Bool) → hits (xs ++ ys) k ≡ (hits xs k || hits ys k) → (b || hits (xs ++ ys) k) ≡ ((b || hits xs k) || hits ys k)
-      go true e = refl
-      go false e = e
-
   -- one row more
   alive-suc : (done k : ℕ) → done < length (p .crashes) → alive p (suc done) k ≡ not (hits (take done (p .crashes)) k || eqb ((rowAt p done) .node) k)
-  unfolding alive hits
+  unfolding alive
   alive-suc done k h =
-      ap not (ap (λ (l : List Crash). hits l k) (take-suc (p .crashes) done noCrash h) ∙ hits-append (take done (p .crashes)) (rowAt p done ∷ []) k
-      ∙ go (hits (take done (p .crashes)) k) (eqb ((rowAt p done) .node) k))
-    where
-      go : (a b : Bool) → (a || (b || false)) ≡ (a || b)
-      go true b = refl
-      go false true = refl
-      go false false = refl
+      ap not (ap (λ (l : List Crash). hits l k) (take-suc (p .crashes) done noCrash h) ∙ hits-snoc (take done (p .crashes)) (rowAt p done) k)
 
   pub alive-hit : (done : ℕ) → done < length (p .crashes) → alive p (suc done) ((rowAt p done) .node) ≡ false
   alive-hit done h =

@@ -6,7 +6,7 @@ use mathlib.Core.List.{[]}
 use Prim.Native.Nat.{ℕ, _≤_, _<_}
 use native.Mathlib.Omega.{arith}
 use native.Mathlib.Decide.{decLt}
-use Rattle.ring.specs.Ring.{listed, place, back, next, InOrder}
+use Rattle.ring.specs.Ring.{among, listed, place, back, next, InOrder}
 use Rattle.node.specs.declared.Node.{Node}
 use Rattle.node.specs.Node.{ringed}
 use Rattle.plans.specs.Plan.{Plan, hits}
@@ -29,7 +29,7 @@ unfolding start
 start-msgs p = refl
 
 start-live : (p : Plan) (j : ℕ) → alive p ((start p) .done) j ≡ true
-unfolding start alive hits
+unfolding start alive hits among
 start-live p j = refl
 
 module _ (p : Plan) (ac : Accepted p) where

@@ -10,7 +10,7 @@ use borrow.Author.Tests.{eq-eqb, ne-eqb}
 use lib.Dec.{eqb}
 use lib.ListN.{length, getD}
 use Rattle.ring.specs.Ring.{jumps, listed, unlisted, listing, place, ahead, count, targets, InOrder}
-use Rattle.ring.proofs.Counts.{jumps-covers, jumps-above}
+use Rattle.ring.proofs.Counts.{jumps-covers}
 use Rattle.ring.proofs.Targets.{ahead-target, target-below}
 use Rattle.node.specs.declared.Node.{Node}
 use Rattle.node.specs.declared.Message.{Message}
@@ -25,7 +25,8 @@ use Rattle.ring.proofs.GoingBack.{hops, ahead-iter}
 use Rattle.ring.proofs.Lists.{listing-keeps, listing-lists, listing-only}
 use Rattle.ring.proofs.Gaps.{gap, gap-inj, gap-cyc, gap-add}
 use Rattle.model.proofs.Events.{View, Params, Frame, Least, Sent, Reports, Adds, crash, sends, Seen}
-use Rattle.model.proofs.NextEvent.{hit-where, undone}
+use Rattle.model.proofs.NextEvent.{undone}
+use Rattle.plans.proofs.Rows.{hit-where}
 use Rattle.model.proofs.RangesKept.{delay-ok, Given, numbered-in, numbered-has, here, other}
 
 -- ---- rows as a function of the node

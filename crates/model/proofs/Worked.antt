@@ -6,7 +6,7 @@ use mathlib.Core.List.{List, [], _∷_}
 use mathlib.Core.Option.{none}
 use Prim.Native.Nat.{ℕ, _<_}
 use native.Mathlib.Omega.{arith}
-use Rattle.ring.specs.Ring.{keep, numbers, listed, listing, unlisted, round, place, ahead, back, next, count, powers, jumps, targets}
+use Rattle.ring.specs.Ring.{keep, numbers, among, eachOnce, listed, listing, unlisted, round, place, ahead, back, next, count, powers, jumps, targets}
 use Rattle.node.specs.declared.Node.{Node}
 use Rattle.node.specs.Node.{reports, opening, onHeartbeat, onObserver, onReport, onHeartbeatDue, onMessage, leaving}
 use Rattle.model.specs.Platform.{alive, survivors, start, crashEntries, messageEntries, timerEntry, timerEntries, pending, earlier, first, upTo}
@@ -26,7 +26,7 @@ unfoldable pub wide : Plan
 wide = record { n = 64; h = 1; w = 100; d = 5; end = 10; order = numbers 0 64; crashes = record { tick = 1; node = 9 } ∷ []; delays = [] }
 
 pub wide-S : S wide (survivors wide 1) ≡ 140
-unfolding wide keep numbers powers jumps hits alive survivors S
+unfolding wide keep numbers powers jumps hits among alive survivors S
 wide-S = refl
 
 -- ---- a file that settles: P,4,2,4,2,16 and C,5,2. S is 4 + (2 + 2) × 2 = 12, and all that is due before 17 is done
@@ -45,13 +45,13 @@ pub four-state : (fields (nodeOf (after four 200) 0) ≡ 3 ∷ 1 ∷ 4 ∷ [])
     × (settledBy four 0 ≡ 17)
     × (nextEvent four (after four 200) ≡ none)
 unfolding four fields keep numbers listed listing unlisted round place ahead back next count powers jumps targets reports opening onHeartbeat
-    onObserver onReport onHeartbeatDue leaving onMessage hits alive survivors start crashEntries messageEntries timerEntry timerEntries pending
+    onObserver onReport onHeartbeatDue leaving onMessage hits among alive survivors start crashEntries messageEntries timerEntry timerEntries pending
     earlier first upTo nextEvent delayIn delayOf numbered taken without received apply fits tried try left steps after S settledBy
 four-state = (refl, refl, refl, refl, refl, refl)
 
 pub four-accepted : Accepted four
 unfolding four planTest startTest startRanges within longEnough orderTest sameNumbers numbers crashTest every crashRange crashOrder rising risingFrom
-    noneTwice hits delayTest delayOrder fewDelays
+    noneTwice eachOnce hits among delayTest delayOrder fewDelays
 four-accepted = plan-accepted four refl
 
 four-left : NotBefore four (after four 200) 17 17 17

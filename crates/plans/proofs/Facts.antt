@@ -1,18 +1,18 @@
 -- A plan that passes the run file's test has its lines in range: the test as facts. Assumes nothing.
-use mathlib.Core.Path.{_≡_, refl, sym, _∙_}
+use mathlib.Core.Path.{_≡_, refl, sym}
 use mathlib.Core.Logic.{_⊎_, inl, inr, _≢_}
 use mathlib.Core.Bool.{Bool, true, false, not, _&&_, _||_, true≢false}
 use mathlib.Core.List.{List, [], _∷_, List·Memᴰ, List·Memᴰ·not-nil, List·Memᴰ·cases-cons}
 use mathlib.Mathlib.Data.Bool.Basic.{and-elim-left, and-elim-right}
 use Prim.Native.Nat.{ℕ, zero, suc, _≤_, _<_}
 use native.Mathlib.Omega.{arith}
-use borrow.Author.Tests.{eqb-true, ltb-true, not-true}
+use borrow.Author.Tests.{eqb-true, ltb-true}
 use lib.Dec.{eqb, ltb}
 use lib.ListN.{length, getD}
-use Rattle.plans.specs.Plan.{Crash, Plan, crashRange, delayRange, risingFrom, rising, later, hits, noneTwice, crashOrder, every, planTest}
+use Rattle.plans.specs.Plan.{Crash, Plan, crashRange, delayRange, risingFrom, rising, later, noneTwice, crashOrder, every, planTest}
 use Rattle.plans.specs.Plain.{noCrash, Plain}
-use Rattle.plans.proofs.Rows.{every-at, hit-of, crash-row, delay-row}
-use Rattle.plans.proofs.Tests.{tests-of, ranges, long-enough, in-order}
+use Rattle.plans.proofs.Rows.{every-at, crash-row, delay-row, rows-once}
+use Rattle.plans.proofs.Tests.{tests-of, ranges, in-order}
 
 -- ---- C lines
 
@@ -49,17 +49,6 @@ rows-rise (r ∷ rs) h i zero a l = absurd (omega arith)
 rows-rise (r ∷ rs) h (suc i) (suc j) a l = rows-rise rs (rising-rest r rs h) i j (omega arith) (omega arith)
 rows-rise (r ∷ rs) h zero (suc j) a l = rows-after rs r h j (omega arith)
 
-rows-once : (rs : List Crash) → noneTwice rs ≡ true → (i j : ℕ) → i < j → j < length rs
-    → (getD rs i noCrash) .node ≢ (getD rs j noCrash) .node
-unfolding noneTwice
-rows-once [] h i j a l = absurd (omega arith)
-rows-once (r ∷ rs) h i zero a l = absurd (omega arith)
-rows-once (r ∷ rs) h (suc i) (suc j) a l =
-    rows-once rs (and-elim-right (not (hits rs (r .node))) (noneTwice rs) h) i j (omega arith) (omega arith)
-rows-once (r ∷ rs) h zero (suc j) a l = λ e.
-    let other : hits rs (r .node) ≡ false = not-true _ (and-elim-left (not (hits rs (r .node))) (noneTwice rs) h) in
-    true≢false (sym (hit-of rs noCrash j (r .node) (omega arith) (sym e)) ∙ other)
-
 -- ---- L lines
 
 -- a row that is among others which all pass a test passes it
@@ -93,6 +82,6 @@ plan-plain p good =
       node = λ i l. (row i l) .1;
       tick = λ i l. (row i l) .0;
       rising = rows-rise (p .crashes) (and-elim-left _ (noneTwice (p .crashes)) (t .crash-order));
-      once = rows-once (p .crashes) (and-elim-right (rising later (p .crashes)) _ (t .crash-order));
+      once = rows-once (p .crashes) noCrash (and-elim-right (rising later (p .crashes)) _ (t .crash-order));
       delay = λ x m. let f = delay-row p x (every-member (delayRange p) (p .delays) (t .delays) x m) in (f .low, f .high);
     }

@@ -1,17 +1,19 @@
 -- Tests of rows: of one among others, of those at the start, of one more at the end. Assumes nothing.
 use Prim.Native.Nat.{ℕ, zero, suc, _+_, _≤_, _<_}
 use native.Mathlib.Omega.{arith}
-use native.Mathlib.Decide.{ℕ-discrete}
 use mathlib.Core.Path.{_≡_, refl, sym, ap, _∙_}
-use mathlib.Core.Bool.{Bool, true, false, not, _&&_, _||_, or-false, or-assoc}
-use mathlib.Core.List.{List, [], _∷_, _++_}
+use mathlib.Core.Logic.{_≢_}
+use mathlib.Core.Bool.{Bool, true, not, _&&_, _||_}
+use mathlib.Core.List.{List, [], _∷_, _++_, map-append}
 use mathlib.Mathlib.Data.Bool.Basic.{and-elim-left, and-elim-right}
-use borrow.Author.Tests.{eq-eqb, ne-eqb, le-leb, leb-true, ltb-true, not-true}
+use borrow.Author.Tests.{le-leb, leb-true, ltb-true}
 use lib.Dec.{eqb, leb, ltb}
-use lib.ListN.{length, getD, length-append}
+use lib.ListN.{length, getD, length-append, length-map}
 use Rattle.limits.specs.Limits.{mostNumber, mostDelays}
 use Rattle.plans.specs.Plan.{Crash, Delay, Plan, within, crashRange, delayRange, risingFrom, rising, later, hits, noneTwice, crashOrder, above}
-use Rattle.plans.specs.Plan.{delayOrder, fewDelays, every}
+use Rattle.plans.specs.Plan.{nodesOf, delayOrder, fewDelays, every}
+use Rattle.ring.specs.Ring.{place, among, eachOnce}
+use Rattle.ring.proofs.Once.{among-at, among-snoc, found, once-snoc, once-start, once-apart}
 
 -- ---- a test that every row passes
 
@@ -59,59 +61,51 @@ rising-start after (x ∷ xs) ys e = rising-from-start after x xs ys e
 
 -- ---- rows of a node
 
+pub length-nodes : (rows : List Crash) → length (nodesOf rows) ≡ length rows
+length-nodes rows = length-map rows (λ (r : Crash). r .node)
+
+node-at : (rows : List Crash) (z : Crash) (i : ℕ) → i < length rows → getD (nodesOf rows) i 0 ≡ (getD rows i z) .node
+node-at [] z i h = absurd (omega arith)
+node-at (r ∷ rs) z zero h = refl
+node-at (r ∷ rs) z (suc i) h = node-at rs z i (omega arith)
+
+pub nodes-below : (n : ℕ) (rows : List Crash) (z : Crash) → ((i : ℕ) → i < length rows → (getD rows i z) .node < n)
+    → (i : ℕ) → i < length (nodesOf rows) → getD (nodesOf rows) i 0 < n
+nodes-below n rows z f i h =
+    let inside : i < length rows = rw (← length-nodes rows) h in
+    rw (node-at rows z i inside) (f i inside)
+
 -- the row at a place hits its node
 pub hit-of : (rows : List Crash) (z : Crash) (i k : ℕ) → i < length rows → (getD rows i z) .node ≡ k → hits rows k ≡ true
 unfolding hits
-hit-of [] z i k h e = absurd (omega arith)
-hit-of (r ∷ rs) z zero k h e = rw (eq-eqb (r .node) k e)
-hit-of (r ∷ rs) z (suc i) k h e = go (eqb (r .node) k) (hit-of rs z i k (omega arith) e)
-  where
-    go : (b : Bool) → hits rs k ≡ true → (b || hits rs k) ≡ true
-    go true q = refl
-    go false q = q
+hit-of rows z i k h e = among-at (nodesOf rows) i k (rw (length-nodes rows) h) (node-at rows z i h ∙ e)
 
-hits-snoc : (rs : List Crash) (r : Crash) (k : ℕ) → hits (rs ++ (r ∷ [])) k ≡ (hits rs k || eqb (r .node) k)
+-- and a node that rows hit has a row
+pub hit-where : (rows : List Crash) (z : Crash) (k : ℕ) → hits rows k ≡ true → (i : ℕ) × (i < length rows) × ((getD rows i z) .node ≡ k)
 unfolding hits
-hits-snoc [] r k = or-false (eqb (r .node) k)
-hits-snoc (x ∷ xs) r k =
-    ap (λ (t : Bool). eqb (x .node) k || t) (hits-snoc xs r k)
-    ∙ sym (or-assoc (eqb (x .node) k) (hits xs k) (eqb (r .node) k))
+hit-where rows z k h =
+    let f = found (nodesOf rows) k h in
+    let inside : place (nodesOf rows) k < length rows = rw (← length-nodes rows) (f .inside) in
+    (place (nodesOf rows) k, inside, sym (node-at rows z (place (nodesOf rows) k) inside) ∙ f .there)
 
-hits-start : (xs ys : List Crash) (k : ℕ) → hits (xs ++ ys) k ≡ false → hits xs k ≡ false
+pub hits-snoc : (rows : List Crash) (r : Crash) (k : ℕ) → hits (rows ++ (r ∷ [])) k ≡ (hits rows k || eqb (r .node) k)
 unfolding hits
-hits-start [] ys k e = refl
-hits-start (x ∷ xs) ys k e = by (eqb (x .node) k) e (hits-start xs ys k)
-  where
-    by : (t : Bool) → (t || hits (xs ++ ys) k) ≡ false → (hits (xs ++ ys) k ≡ false → hits xs k ≡ false) → (t || hits xs k) ≡ false
-    by true e ih = e
-    by false e ih = ih e
+hits-snoc rows r k = ap (λ (l : List ℕ). among l k) (map-append (λ (c : Crash). c .node) rows (r ∷ [])) ∙ among-snoc (nodesOf rows) (r .node) k
 
-eqb-comm : (a b : ℕ) → eqb a b ≡ eqb b a
-eqb-comm a b = elim (ℕ-discrete a b) [
-  | yes e ↦ eq-eqb a b e ∙ sym (eq-eqb b a (sym e))
-  | no n ↦ ne-eqb a b n ∙ sym (ne-eqb b a (λ e. n (sym e)))
-]
-
-twice-tests : (a e b c : Bool) → (not (a || e) && (b && not c)) ≡ ((not a && b) && not (e || c))
-twice-tests true e b c = refl
-twice-tests false true true c = refl
-twice-tests false true false c = refl
-twice-tests false false b c = refl
+-- rows of which no two are of one node, at two places
+pub rows-once : (rows : List Crash) (z : Crash) → noneTwice rows ≡ true → (i j : ℕ) → i < j → j < length rows
+    → (getD rows i z) .node ≢ (getD rows j z) .node
+unfolding noneTwice
+rows-once rows z h i j a l = λ e.
+    once-apart (nodesOf rows) h i j a (rw (length-nodes rows) l) (node-at rows z i (omega arith) ∙ e ∙ sym (node-at rows z j l))
 
 pub twice-snoc : (rs : List Crash) (r : Crash) → noneTwice (rs ++ (r ∷ [])) ≡ (noneTwice rs && not (hits rs (r .node)))
 unfolding noneTwice hits
-twice-snoc [] r = refl
-twice-snoc (x ∷ xs) r =
-    rw (hits-snoc xs r (x .node), twice-snoc xs r, eqb-comm (r .node) (x .node))
-    (twice-tests (hits xs (x .node)) (eqb (x .node) (r .node)) (noneTwice xs) (hits xs (r .node)))
+twice-snoc rs r = ap eachOnce (map-append (λ (c : Crash). c .node) rs (r ∷ [])) ∙ once-snoc (nodesOf rs) (r .node)
 
 twice-start : (xs ys : List Crash) → noneTwice (xs ++ ys) ≡ true → noneTwice xs ≡ true
 unfolding noneTwice
-twice-start [] ys e = refl
-twice-start (x ∷ xs) ys e =
-    let first = and-elim-left (not (hits (xs ++ ys) (x .node))) (noneTwice (xs ++ ys)) e in
-    let rest = and-elim-right (not (hits (xs ++ ys) (x .node))) (noneTwice (xs ++ ys)) e in
-    rw (hits-start xs ys (x .node) (not-true _ first)) (twice-start xs ys rest)
+twice-start xs ys e = once-start (nodesOf xs) (nodesOf ys) (ap eachOnce (sym (map-append (λ (c : Crash). c .node) xs ys)) ∙ e)
 
 -- ---- the orders of C lines and of L lines, and how many L lines
 

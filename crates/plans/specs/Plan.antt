@@ -1,10 +1,10 @@
 -- What a run file plans, and which plans a run file may hold: document 01's 'Run file and log'. Assumes nothing.
-use mathlib.Core.Bool.{Bool, true, false, not, _&&_, _||_}
-use mathlib.Core.List.{List, [], _∷_, _++_}
+use mathlib.Core.Bool.{Bool, true, false, _&&_, _||_}
+use mathlib.Core.List.{List, [], _∷_, _++_, map}
 use Prim.Native.Nat.{ℕ, _+_}
 use lib.Dec.{eqb, leb, ltb}
 use lib.ListN.{length}
-use Rattle.ring.specs.Ring.{numbers, listing}
+use Rattle.ring.specs.Ring.{numbers, among, eachOnce, listingAll}
 use Rattle.limits.specs.Limits.{mostNodes, mostH, mostW, mostD, mostTick, mostNumber, mostDelays}
 
 -- a line C: node `node` crashes at tick `tick`
@@ -108,20 +108,21 @@ rising after (x ∷ xs) = risingFrom after x xs
 unfoldable pub later : Crash → Crash → Bool
 later a b = ltb (a .tick) (b .tick) || (eqb (a .tick) (b .tick) && ltb (a .node) (b .node))
 
+-- the nodes of C lines
+abbrev pub nodesOf : List Crash → List ℕ
+nodesOf rs = map (λ (r : Crash). r .node) rs
+
 -- a row is of node k
 unfoldable pub hits : List Crash → ℕ → Bool
-hits [] k = false
-hits (r ∷ rs) k = eqb (r .node) k || hits rs k
+hits rs k = among (nodesOf rs) k
 
 -- a dead list with the nodes of some C lines added
 unfoldable pub withCrashed : ℕ → List Crash → ℕ
-withCrashed d [] = d
-withCrashed d (r ∷ rs) = withCrashed (listing d (r .node)) rs
+withCrashed d rs = listingAll d (nodesOf rs)
 
 -- 'no node twice'
 unfoldable pub noneTwice : List Crash → Bool
-noneTwice [] = true
-noneTwice (r ∷ rs) = not (hits rs (r .node)) && noneTwice rs
+noneTwice rs = eachOnce (nodesOf rs)
 
 -- the order of C lines
 unfoldable pub crashOrder : List Crash → Bool

@@ -18,6 +18,8 @@ pub mod TableLaws
 
 -- each node once: a test keeps as many of any order
 pub mod Orders
+-- numbers of which none stands twice: at most n below n, and an order of the ring where there are n; as a dead list
+pub mod Once
 -- the unlisted nodes as a ring of their own, for any test of who is listed
 pub mod Unlisted
 -- steps back from node to node

@@ -2,7 +2,7 @@
 -- A node is a number. The ring is given by its order, a list that has each node below n once, and a place is a position
 -- in that list: 01's ring is number order, `numbers 0 n`, one instance. Assumes nothing.
 use mathlib.Core.Path.{_≡_}
-use mathlib.Core.Bool.{Bool, cond, not, _&&_}
+use mathlib.Core.Bool.{Bool, true, false, cond, not, _&&_, _||_}
 use mathlib.Core.List.{List, [], _∷_, _++_, map, reverse}
 use Prim.Native.Nat.{ℕ, zero, suc, _-_, _/_, _%_, _^_, _<_}
 use lib.Bits.{bitOr}
@@ -33,6 +33,16 @@ unfoldable pub numbers : ℕ → ℕ → List ℕ
 numbers i zero = []
 numbers i (suc n) = i ∷ numbers (suc i) n
 
+-- a number is among others
+unfoldable pub among : List ℕ → ℕ → Bool
+among [] k = false
+among (x ∷ xs) k = eqb x k || among xs k
+
+-- no number stands twice
+unfoldable pub eachOnce : List ℕ → Bool
+eachOnce [] = true
+eachOnce (x ∷ xs) = not (among xs x) && eachOnce xs
+
 -- ---- "a dead list, a 64-bit number whose bit i stands for node i"
 
 -- d lists node i
@@ -42,6 +52,11 @@ listed d i = eqb (d / 2 ^ i % 2) 1
 -- d with node i listed
 unfoldable pub listing : ℕ → ℕ → ℕ
 listing d i = bitOr d (2 ^ i)
+
+-- d with all nodes of a list listed
+unfoldable pub listingAll : ℕ → List ℕ → ℕ
+listingAll d [] = d
+listingAll d (x ∷ xs) = listingAll (listing d x) xs
 
 -- the nodes of a list that d does not list
 unfoldable pub unlisted : ℕ → List ℕ → List ℕ

@@ -9,6 +9,7 @@ use lib.Dec.{eqb}
 use lib.ListN.{length, length-append}
 use borrow.Author.Tests.{eqb-true}
 use Rattle.plans.specs.Plan.{Crash, Delay, Plan, startRanges, longEnough, crashRange, delayRange, crashOrder, delayOrder, fewDelays, every, startTest}
+use Rattle.ring.specs.Ring.{eachOnce}
 use Rattle.plans.specs.Plan.{crashTest, delayTest, planTest, rising, noneTwice, withCrash, withDelay}
 use Rattle.runfile.specs.Text.{startText}
 use Rattle.runfile.specs.File.{Row, start, crash, delay, rowOf, Step, next, orElse, startLine, early, crashLine, delayLine, firstLine, laterLine}
@@ -48,7 +49,7 @@ opened-text l q o =
 
 -- a P line opens a plan that a file may hold
 pub opened-good : (l : List ℕ) (q : Plan) → Opened (rowOf l) q → planTest q ≡ true
-unfolding planTest startTest crashTest delayTest crashOrder delayOrder fewDelays every rising noneTwice
+unfolding planTest startTest crashTest delayTest crashOrder delayOrder fewDelays every rising noneTwice eachOnce
 opened-good l q o =
     let r = start-rows l q (o .row) in
     rw (o .ranges, o .long, number-order-taken q (r .2), r .0, r .1)

@@ -9,7 +9,7 @@ use lib.Dec.{leb, ltb}
 use lib.ListN.{length}
 use borrow.Author.Tests.{eq-eqb, ne-eqb, le-leb, lt-leb, lt-ltb, le-ltb, leb-true, leb-false}
 use Rattle.plans.proofs.Listed.{listed-hits, with-snoc}
-use Rattle.ring.specs.Ring.{listed, listing}
+use Rattle.ring.specs.Ring.{listed, listing, listingAll}
 use Rattle.text.specs.declared.Ranged.the-variants.{Within, Outside}
 use Rattle.text.specs.Field.{rangedOf}
 use Rattle.text.proofs.FieldLaws.{range-bound}
@@ -94,7 +94,7 @@ module _ (n h w d end : ℕ) where
     pub start-next : h' + d' ≤ w'
         → Next (record { n = n'; h = h'; w = w'; d = d'; end = end'; crashes = 0; delays = 0; tick = 0; node = 0; seen = 0; number = 0 })
         ≡ lineAnswer (startLine (startPlan n h w d end))
-    unfolding startLine orElse lineAnswer longEnough startPlan sofarOf crashFloor delayFloor withCrashed
+    unfolding startLine orElse lineAnswer longEnough startPlan sofarOf crashFloor delayFloor withCrashed listingAll
     start-next k =
         let long : h + d ≤ w = omega (arith, range-bound h 1 1000 h' rh .0, range-bound w 1 65535 w' rw' .0, range-bound d 1 255 d' rd .0) in
         rw (

@@ -1,4 +1,5 @@
 -- `store::plan::crashed_list` meets its contract. The loop's invariant: the list has the nodes of the rows before i. Assumes nothing.
+use Rattle.ring.specs.Ring.{listingAll}
 use Rattle.plans.specs.Plan.{withCrashed}
 use Rattle.model.proofs.Plans.{plan-accepted}
 use Prim.Native.Nat.{_-_, _≤_}
@@ -18,7 +19,7 @@ abbrev μ-loop : tie.MeasureT-loop
 μ-loop s done dead₀ i₀ dead i = done - i
 
 loop-holds : tie.Need-loop-holds Inv-loop μ-loop
-unfolding crashedList withCrashed
+unfolding crashedList withCrashed listingAll
 loop-holds c = (c .crashes-done .ensures, search needs, refl)
 
 with-listed-requires : tie.Need-with-listed-requires Inv-loop μ-loop
