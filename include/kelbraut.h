@@ -6,8 +6,8 @@
  *
  * Up to 64 nodes stand in a ring. Each sends heartbeats to the node after it, its observer, and watches the node before
  * it, its emitter. A node that hears nothing from its emitter for the time-out puts it on its dead list, watches the next
- * node back, and tells the others by reports. A rehearsed node does what a node in the field does. Time is counted in
- * ticks.
+ * node back, and tells the others by reports. A node that is rehearsed in a ring in number order does what a node in the
+ * field does. Time is counted in ticks.
  *
  * The calls have no state of their own, allocate nothing and always return: all that they know stands in the bytes that
  * the program lends to each call. What a call may write must not overlap with anything else that is lent to it, and no
@@ -42,6 +42,7 @@ extern "C" {
 #define KELBRAUT_BAD_RECORD 10    /* not 64 bytes, or a field out of range */
 #define KELBRAUT_BAD_MESSAGE 11   /* unknown kind, or the sender or a report's subject is no other node of the ring */
 #define KELBRAUT_BAD_TICK 12      /* before the record's last tick, or above 1,000,000 */
+#define KELBRAUT_BAD_RING 13      /* Q line: not each node once */
 
 /* Kinds of message. */
 #define KELBRAUT_HEARTBEAT 'H' /* the sender lives; goes to its observer */
@@ -112,7 +113,8 @@ extern "C" {
 
 /*
  * Opens a record at tick 0: node `number` of a ring of `nodes`, 0 to nodes - 1. A heartbeat is sent every `h` ticks, and
- * an emitter is given up that has been silent for `w`.
+ * an emitter is given up that has been silent for `w`. Records stand in the ring in number order; another order is had by
+ * giving the nodes their numbers in that order.
  * Ranges: nodes 1 to 64, number below nodes, h 1 to 1,000, w 1 to 65,535. All bytes of the record are written.
  * Answers 0, 10 or 3.
  *
@@ -254,18 +256,20 @@ static inline uint8_t kelbraut_subject(const uint8_t message[KELBRAUT_MESSAGE]) 
  * Library: `rt staticlib planner` proves it and builds target/staticlib/libplanner.a, for x86-64 Linux, in about four
  * minutes, in a third of one where what is below it is proved already.
  *
- * Run file: lines of fields parted by commas, each line ended by one line feed (hexadecimal 0A); first the P line, then C
- * lines, then L lines. Numbers are decimal, with no sign, space or leading zero.
+ * Run file: lines of fields parted by commas, each line ended by one line feed (hexadecimal 0A); first the P line, then a Q
+ * line or none, then C lines, then L lines. Numbers are decimal, with no sign, space or leading zero.
  *
  *     P,N,H,W,D,end     N nodes, 1 to 64, numbered from 0; a heartbeat every H ticks, 1 to 1,000; the time-out W, at
  *                       least H + D, 1 to 65,535; delays of at most D ticks, 1 to 255; the end tick, 0 to 1,000,000
+ *     Q,node,node,..    the ring in this order: N numbers, each node once; without this line it is in number order
  *     C,tick,node       the node crashes at this tick, 0 to end; rising by tick, then node, no node twice
  *     L,number,delay    the message of this number, 0 to 999,999, takes this many ticks, 1 to D; rising by number, at
  *                       most 2,048 lines. Messages are numbered from 0 in the order of sending; without a line one
  *                       takes D ticks
  *
  * Events: those of the earliest tick that has any, and of these first the crashes, by node; then the messages due, by
- * number; then the timers of live nodes, by node, the watch before the heartbeat.
+ * number; then the timers of live nodes, by node, the watch before the heartbeat. The ring's order says who is before and
+ * after a node, going back and ahead; events, lists and lines go by node number.
  *
  * Log line: letter, tick, node, other, list, parted by commas, and a line feed. The list is the node's dead list after
  * the event, 16 lower-case hexadecimal digits; bit i stands for node i.
@@ -292,8 +296,8 @@ static inline uint8_t kelbraut_subject(const uint8_t message[KELBRAUT_MESSAGE]) 
  * Opens a store from a run file and writes all of its bytes, whatever they held. Answers 0, or, with nothing written, the
  * number of the refusal and its line in one:
  *
- *     KELBRAUT_NUMBER(answer)    1, then for the first bad line 2, 3, 4, 5 or 6, then 7, which here is about the store's
- *                                length alone
+ *     KELBRAUT_NUMBER(answer)    1; then for the first bad line 2, 3, and 4 on P, 13 on Q, 5 on C and L, 6 on L; then 7,
+ *                                which here is about the store's length alone
  *     KELBRAUT_LINE(answer)      the first bad line, counted from 1; 0 where the number is 1 or 7
  */
 uint64_t kelbraut_open(const uint8_t *file, size_t file_size, uint8_t *store, size_t store_size);

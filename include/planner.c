@@ -79,18 +79,25 @@ static enum kind standing(void) {
     return complete ? KNOWN : to_come ? NOT_YET : NEVER;
 }
 
-/* Opens the store from the file with this W and with later crashes. An accepted file has fewer than 30,000 bytes. */
+static const char *after_line(const char *line) {
+    return strchr(line, '\n') + 1;
+}
+
+/*
+ * Opens the store from the file with this W and with later crashes: the P and C lines are written anew, the Q line, if there
+ * is one, and the L lines are the file's. An accepted file has fewer than 30,000 bytes.
+ */
 static uint64_t open_shifted(uint64_t w, uint64_t shift) {
     static char text[KELBRAUT_LONGEST_FILE];
-    const char *delays = strchr(file, '\n') + 1; /* the L lines, once the C lines are passed over */
-    int size = sprintf(text, "P,%u,%" PRIu64 ",%" PRIu64 ",%u,%" PRIu64 "\n", plan[N], number(plan, H, 2), w, plan[D],
-                       number(plan, END, 4));
+    const char *ring = after_line(file), *rest = *ring == 'Q' ? after_line(ring) : ring;
+    int size = sprintf(text, "P,%u,%" PRIu64 ",%" PRIu64 ",%u,%" PRIu64 "\n%.*s", plan[N], number(plan, H, 2), w, plan[D],
+                       number(plan, END, 4), (int)(rest - ring), ring);
     for (unsigned row = 0; row < plan[ROWS]; row++) {
         uint64_t tick = number(plan, ROW_TICKS + 4 * row, 4) + shift;
         size += sprintf(text + size, "C,%" PRIu64 ",%u\n", tick, plan[ROW_NODES + row]);
-        delays = strchr(delays, '\n') + 1;
+        rest = after_line(rest);
     }
-    size += sprintf(text + size, "%s", delays);
+    size += sprintf(text + size, "%s", rest);
     return kelbraut_open((const uint8_t *)text, (size_t)size, store, sizeof store);
 }
 
@@ -125,9 +132,11 @@ static void print_refusal(FILE *to, uint64_t answer) {
         [KELBRAUT_BAD_ORDER] = "C or L lines do not rise, or a node crashes twice",
         [KELBRAUT_MANY_DELAYS] = "more than 2,048 L lines",
         [KELBRAUT_BAD_STORE] = "the store is out of range",
-        [KELBRAUT_OVERFULL] = "more than 2,048 messages would be in flight"};
+        [KELBRAUT_OVERFULL] = "more than 2,048 messages would be in flight",
+        [KELBRAUT_BAD_RING] = "the Q line does not name each node once"};
     uint64_t by = KELBRAUT_NUMBER(answer);
-    fprintf(to, "%" PRIu64 ",%" PRIu64 ": %s", by, KELBRAUT_LINE(answer), by <= KELBRAUT_OVERFULL ? meanings[by] : "");
+    const char *meaning = by < sizeof meanings / sizeof meanings[0] ? meanings[by] : NULL;
+    fprintf(to, "%" PRIu64 ",%" PRIu64 ": %s", by, KELBRAUT_LINE(answer), meaning != NULL ? meaning : "");
 }
 
 /* Prints nodes as `0,3-5`: of neighbours the first and the last. */

@@ -1,7 +1,7 @@
 #!/bin/sh
 # Builds the simulator's search over all runs of small rings, and runs its table or one search.
 #
-# Usage: tests/exhaust.sh [N H W D END]
+# Usage: tests/exhaust.sh [N H W D END [NODE..]]
 
 . "$(dirname "$0")/common.sh"
 

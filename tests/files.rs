@@ -1,5 +1,5 @@
-//! Compares the proved reader and writer of run files with the simulator's, on 01's edges, on generated files and on damaged ones:
-//! a store is opened from each file, and its run file is written again.
+//! Compares the proved reader and writer of run files with the simulator's, on 01's edges and 02's of a Q line, on generated files and on
+//! damaged ones: a store is opened from each file, and its run file is written again.
 //!
 //! Usage: files [SEED [COUNT]]. A difference prints its seed and index and the file, and the program fails.
 
@@ -12,7 +12,9 @@ use common::{count, ended, same, seed, shown};
 use simulator::generator::{self, USUAL};
 use simulator::limits::*;
 use simulator::plan;
+use simulator::platform::Platform;
 use simulator::random::Random;
+use simulator::store;
 use std::process::ExitCode;
 use std::time::Instant;
 
@@ -78,11 +80,23 @@ impl Lent {
     }
 }
 
+/// An accepted file comes back from the simulator's writer too, and from its store.
+fn comes_back(what: &str, file: &[u8]) -> Result<(), String> {
+    let Ok(plan) = plan::read(file) else { return Ok(()) };
+    let held = store::decode(&store::encode(&Platform::open(plan.clone())));
+    let read_again = held.map(|held| held.platform.plan().clone());
+    if plan.bytes() != file || read_again != Some(plan) {
+        return Err(format!("{what}: the simulator does not write again {}", shown(file)));
+    }
+    Ok(())
+}
+
 /// Both readers give this answer.
 fn edge(lent: &mut Lent, what: &str, file: &[u8], expected: Opened) -> Result<(), String> {
     for (whose, answer) in [("proved", lent.open(what, file)?), ("simulator's", simulated(file))] {
         same(&format!("{what}: the {whose} reader"), answer, expected).map_err(|error| format!("{error} for {}", shown(file)))?;
     }
+    comes_back(what, file)?;
     lent.writes(what, file, FILE_BYTES + 1)?;
     lent.writes(what, file, FILE_BYTES - 1)
 }
@@ -91,6 +105,7 @@ fn edge(lent: &mut Lent, what: &str, file: &[u8], expected: Opened) -> Result<()
 fn alike(lent: &mut Lent, what: &str, file: &[u8]) -> Result<(), String> {
     let answer = lent.open(what, file)?;
     same(&format!("{what}: the proved reader"), answer, simulated(file)).map_err(|error| format!("{error} for {}", shown(file)))?;
+    comes_back(what, file)?;
     lent.writes(what, file, FILE_BYTES)
 }
 
@@ -112,7 +127,7 @@ fn of_length(length: usize) -> Vec<u8> {
 
 /// 01's edges on run files, those with no star among them.
 fn edges(lent: &mut Lent) -> Result<(), String> {
-    let cases: [(&str, Opened); 44] = [
+    let cases: [(&str, Opened); 43] = [
         ("", (1, 0)),
         ("P,2,2,3,1,6\nC,3,1\n", (0, 0)),
         ("P,1,1,2,1,5\n", (0, 0)),
@@ -133,7 +148,6 @@ fn edges(lent: &mut Lent) -> Result<(), String> {
         ("\n", (2, 1)),
         ("P,2,2,3,1,6\n\n", (2, 2)),
         ("P,2,2,3,1,6\nP,2,2,3,1,6\n", (2, 2)),
-        ("P,2,2,3,1,6\nQ,0,1\n", (2, 2)),
         ("P,2,2,3,1,6\nC,3,1", (2, 2)),
         ("P,2,2,3,1,6\nC,9,9", (2, 2)),
         ("P,2,2,3,1,6\nL,0,1\nC,3,1\n", (2, 3)),
@@ -169,6 +183,80 @@ fn edges(lent: &mut Lent) -> Result<(), String> {
     edge(lent, "2,049th not rising", &with_delays(MAX_DELAY_ROWS, "L,2047,5\n"), (5, next))?;
     edge(lent, "65,536 bytes", &of_length(FILE_BYTES), (3, 2))?;
     edge(lent, "65,537 bytes", &of_length(FILE_BYTES + 1), (1, 0))
+}
+
+/// 02's edges on the Q line: its place, its form, then its range, then each node once.
+fn order_edges(lent: &mut Lent) -> Result<(), String> {
+    let three: [(&str, Opened); 46] = [
+        ("Q,0,1,2\n", (0, 0)),
+        ("Q,2,0,1\n", (0, 0)),
+        ("Q,2,1,0\nC,3,1\nL,0,1\n", (0, 0)),
+        ("Q,2,1,0\nL,0,1\n", (0, 0)),
+        ("Q\n", (2, 2)),
+        ("Q,\n", (2, 2)),
+        ("Q,0\n", (2, 2)),
+        ("Q,0,1\n", (2, 2)),
+        ("Q,0,1,2,\n", (2, 2)),
+        ("Q,0,1,2,0\n", (2, 2)),
+        ("Q,0,1,2,3\n", (2, 2)),
+        ("Q,,0,1,2\n", (2, 2)),
+        ("Q,0,,2\n", (2, 2)),
+        ("Q,0,1,\n", (2, 2)),
+        ("Q,0,01,2\n", (2, 2)),
+        ("Q,00,1,2\n", (2, 2)),
+        ("Q,0,1, 2\n", (2, 2)),
+        ("Q,0,1,2 \n", (2, 2)),
+        ("Q,0,1,+2\n", (2, 2)),
+        ("Q,0,1,-2\n", (2, 2)),
+        ("Q,0,1,x\n", (2, 2)),
+        ("Q,0,1,2\r\n", (2, 2)),
+        ("Q,0,1,2", (2, 2)),
+        ("q,0,1,2\n", (2, 2)),
+        ("QQ,0,1,2\n", (2, 2)),
+        ("Q,3,1\n", (2, 2)),
+        ("Q,0,0\n", (2, 2)),
+        ("Q,3,3,03\n", (2, 2)),
+        ("Q,0,0,2", (2, 2)),
+        ("Q,0,1,3\n", (3, 2)),
+        ("Q,64,1,2\n", (3, 2)),
+        ("Q,256,1,2\n", (3, 2)),
+        ("Q,0,1,18446744073709551618\n", (3, 2)),
+        ("Q,0,0,3\n", (3, 2)),
+        ("Q,3,3,3\n", (3, 2)),
+        ("Q,0,0,1\n", (13, 2)),
+        ("Q,2,1,2\n", (13, 2)),
+        ("Q,1,1,1\nZ\n", (13, 2)),
+        ("Q,2,1,0\nQ,2,1,0\n", (2, 3)),
+        ("Q,2,1,0\nQ,3,3,3\n", (2, 3)),
+        ("Q,2,1,0\nP,3,2,3,1,6\n", (2, 3)),
+        ("Q,2,1,0\nC,3,3\n", (3, 3)),
+        ("C,3,1\nQ,2,1,0\n", (2, 3)),
+        ("C,3,1\nQ,2,2,0\n", (2, 3)),
+        ("L,0,1\nQ,2,1,0\n", (2, 3)),
+        ("\nQ,2,1,0\n", (2, 2)),
+    ];
+    for (lines, expected) in three {
+        edge(lent, "edge", format!("P,3,2,3,1,6\n{lines}").as_bytes(), expected)?;
+    }
+    let others: [(&str, Opened); 7] = [
+        ("Q,0,1,2\nP,3,2,3,1,6\n", (2, 1)),
+        ("P,3,2,2,1,6\nQ,1,1,1\n", (4, 1)),
+        ("P,1,1,2,1,5\nQ,0\n", (0, 0)),
+        ("P,1,1,2,1,5\nQ,0\nQ,0\n", (2, 3)),
+        ("P,1,1,2,1,5\nQ,1\n", (3, 2)),
+        ("P,1,1,2,1,5\nQ\n", (2, 2)),
+        ("P,1,1,2,1,5\nQ,0,0\n", (2, 2)),
+    ];
+    for (file, expected) in others {
+        edge(lent, "edge", file.as_bytes(), expected)?;
+    }
+    let numbers = |last: u64| (0..=last).rev().map(|node| format!(",{node}")).collect::<String>();
+    for (nodes, last, expected) in [(64, 63, (0, 0)), (64, 62, (2, 2)), (64, 64, (2, 2)), (63, 63, (2, 2)), (63, 62, (0, 0)), (10, 9, (0, 0))] {
+        let file = format!("P,{nodes},2,3,1,6\nQ{}\nC,3,1\n", numbers(last));
+        edge(lent, &format!("{nodes} nodes and {} numbers", last + 1), file.as_bytes(), expected)?;
+    }
+    let twice = format!("P,64,2,3,1,6\nQ{}\n", numbers(63).replace(",40,", ",41,"));
+    edge(lent, "64 numbers, one of them twice", twice.as_bytes(), (13, 2))
 }
 
 /// A copy with one to three bytes changed, put in or taken out, or with a line put in twice or taken out.
@@ -213,7 +301,9 @@ fn generated(lent: &mut Lent, seed: u64, count: u64) -> Result<(), String> {
 
 /// How long opening takes for a file with as many lines as there can be: the fastest of some rounds.
 fn speed(lent: &mut Lent) {
-    let mut file = String::from("P,64,1000,65535,255,1000000\n");
+    let mut file = String::from("P,64,1000,65535,255,1000000\nQ");
+    (0..64).for_each(|place| file += &format!(",{}", place * 27 % 64));
+    file += "\n";
     (0..64).for_each(|node| file += &format!("C,1000000,{node}\n"));
     (0..MAX_DELAY_ROWS).for_each(|row| file += &format!("L,{},255\n", 900_000 + row));
     let fastest = (0..200).map(|_| {
@@ -228,7 +318,7 @@ fn main() -> ExitCode {
     let (seed, count) = (seed(), count(COUNT));
     println!("files: seed {seed}, {count} generated files");
     let mut lent = Lent::new();
-    let compared = edges(&mut lent).and_then(|()| generated(&mut lent, seed, count));
+    let compared = edges(&mut lent).and_then(|()| order_edges(&mut lent)).and_then(|()| generated(&mut lent, seed, count));
     if compared.is_ok() {
         speed(&mut lent);
     }

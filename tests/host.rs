@@ -83,8 +83,8 @@ fn decode(bytes: &[u8]) -> Option<Record> {
         && watch.is_none_or(|due| emitter != me && u64::from(due) <= last + 2 * w)
         && heartbeat.is_none_or(|due| observer != me && u64::from(due) <= last + h)
         && bytes[28..].iter().all(|b| *b == 0);
-    good.then_some(Record {
-        settings: Settings { ring: ring::Ring { nodes }, period: h as u32, timeout: w as u32 },
+    good.then(|| Record {
+        settings: Settings { ring: ring::Ring::of(nodes), period: h as u32, timeout: w as u32 },
         node: Node { number: me, alive: true, emitter, observer, watch, heartbeat, dead_list: list },
         last_tick: last as u32,
     })
@@ -93,7 +93,7 @@ fn decode(bytes: &[u8]) -> Option<Record> {
 fn encode(record: &Record) -> Vec<u8> {
     let (settings, node) = (record.settings, record.node);
     let due = |timer: Option<u32>| timer.map_or(0, |tick| tick + 1).to_le_bytes();
-    let mut bytes = vec![node.number, settings.ring.nodes];
+    let mut bytes = vec![node.number, settings.ring.nodes()];
     bytes.extend((settings.period as u16).to_le_bytes());
     bytes.extend((settings.timeout as u16).to_le_bytes());
     bytes.extend([node.emitter, node.observer]);

@@ -3,7 +3,7 @@
 use super::calls::{opening, refused, simulated, Answer, Call};
 use simulator::layout::*;
 use simulator::limits::*;
-use simulator::plan;
+use simulator::plan::{self, Plan, Refusal};
 use simulator::platform::Platform;
 use simulator::store::{self, Held};
 use std::slice::{from_raw_parts, from_raw_parts_mut};
@@ -18,7 +18,7 @@ macro_rules! mistakes {
             $($name,)*
         }
 
-        pub const MISTAKES: [Mistake; 28] = [$($name,)*];
+        pub const MISTAKES: [Mistake; 37] = [$($name,)*];
     };
 }
 
@@ -51,6 +51,15 @@ mistakes! {
     SizeOfRefusedFile,
     ElevenForTwelve,
     LeftByDueTick,
+    ThirteenBeforeThree,
+    OrderNotKept,
+    NumberOrderNotKept,
+    OpensByNumber,
+    GoesByNumber,
+    OrderNotWritten,
+    TwiceNotLookedAt,
+    CountNotLookedAt,
+    BeyondCountNotLookedAt,
 }
 
 use Mistake::*;
@@ -66,14 +75,48 @@ fn is_made(mistake: Mistake) -> bool {
     MADE.load(Ordering::Relaxed) == mistake as usize
 }
 
+/// Whether the second line is a Q line with a field twice.
+fn names_twice(file: &[u8]) -> bool {
+    let line = file.split(|byte| *byte == b'\n').nth(1).unwrap_or(&[]);
+    let fields: Vec<&[u8]> = line.split(|byte| *byte == b',').collect();
+    fields[0] == b"Q" && fields.iter().any(|field| fields.iter().filter(|other| *other == field).count() > 1)
+}
+
+/// Puts the order of one store into another.
+fn copy_order(from: &[u8], to: &mut [u8]) {
+    for place in std::iter::once(28).chain(64..128) {
+        to[place] = from[place];
+    }
+}
+
+fn forget_order(bytes: &mut [u8]) {
+    copy_order(&[0; STORE_BYTES], bytes);
+}
+
+/// The store of a plan as opened.
+fn opened(plan: Plan) -> Vec<u8> {
+    let in_numbers = plan.order.is_sorted();
+    let by_number = store::encode(&Platform::open(Plan { order: Vec::new(), ..plan.clone() }));
+    let mut bytes = store::encode(&Platform::open(plan));
+    if is_made(OrderNotKept) || is_made(NumberOrderNotKept) && in_numbers {
+        forget_order(&mut bytes);
+    }
+    if is_made(OpensByNumber) {
+        let ordered = std::mem::replace(&mut bytes, by_number);
+        copy_order(&ordered, &mut bytes);
+    }
+    bytes
+}
+
 fn open(file: &[u8], store: &mut [u8]) -> u64 {
     let plan = match plan::read(file) {
+        Err(Refusal { number: REFUSED_RANGE, line: 2 }) if is_made(ThirteenBeforeThree) && names_twice(file) => return opening(REFUSED_RING, 2),
         Err(refusal) if is_made(LineBeforeNumber) => return refusal.line as u64 + 256 * u64::from(refusal.number),
         Err(refusal) => return opening(refusal.number, if is_made(LineNotCounted) { 1 } else { refusal.line as u64 }),
         Ok(_) if is_made(EveryFileRefused) => return opening(REFUSED_FORM, 0),
         Ok(plan) => plan,
     };
-    let bytes = store::encode(&Platform::open(plan));
+    let bytes = opened(plan);
     if store.len() != STORE_BYTES {
         if is_made(OpensAnyLength) {
             let length = store.len().min(STORE_BYTES);
@@ -86,21 +129,37 @@ fn open(file: &[u8], store: &mut [u8]) -> u64 {
     0
 }
 
-/// What the call takes the store to hold.
-fn hold(store: &[u8]) -> Option<Held> {
+/// What the call takes the store to hold, in number order where it forgets the order.
+fn hold(store: &[u8], forgets: bool) -> Option<Held> {
+    if store.len() != STORE_BYTES {
+        return store::decode(store);
+    }
     let mut seen = store.to_vec();
-    if store.len() == STORE_BYTES && is_made(UnusedNotLookedAt) {
+    if is_made(UnusedNotLookedAt) {
         seen[60_000..].fill(0);
     }
-    if store.len() == STORE_BYTES && is_made(PastNotLookedAt) && get(&seen, MESSAGES, 0) > 0 {
+    if is_made(PastNotLookedAt) && get(&seen, MESSAGES, 0) > 0 {
         let due = get(&seen, MESSAGE_DUE, 0).max(get(&seen, LAST_TICK, 0));
         put(&mut seen, MESSAGE_DUE, 0, due);
+    }
+    let [nodes, count] = [NODES, ORDERED].map(|field| get(&seen, field, 0));
+    let used: Vec<u64> = (0..count.min(64)).map(|place| get(&seen, ORDER, place as usize)).collect();
+    let twice = count == nodes && used.iter().all(|node| *node < nodes) && (0..nodes).any(|node| !used.contains(&node));
+    if twice && is_made(TwiceNotLookedAt) || count != 0 && count != nodes && is_made(CountNotLookedAt) {
+        forget_order(&mut seen);
+    }
+    if is_made(BeyondCountNotLookedAt) {
+        (used.len()..64).for_each(|place| put(&mut seen, ORDER, place, 0));
+    }
+    if forgets && store::check(&seen) {
+        forget_order(&mut seen);
     }
     store::decode(&seen)
 }
 
 fn call(call: Call, store: &mut [u8], part: &mut [u8]) -> Answer {
-    let mut held = hold(store);
+    let forgets = if call == Call::Write { is_made(OrderNotWritten) } else { is_made(GoesByNumber) };
+    let mut held = hold(store, forgets);
     let before = store.to_vec();
     let (call, rest) = match call {
         Call::Run { budget } if is_made(RunDoesOneEvent) && budget > 1 => (Call::Run { budget: 1 }, budget - 1),
@@ -119,6 +178,7 @@ fn call(call: Call, store: &mut [u8], part: &mut [u8]) -> Answer {
     };
     if let Some(held) = &held {
         store.copy_from_slice(&held.encode());
+        copy_order(&before, store);
     }
     answer[1] += if answer[0] == 0 && answer[2] == 1 { rest } else { 0 };
     spoil(call, &mut answer, &before, store, part);

@@ -15,11 +15,13 @@ choose = random.Random(seed)
 
 
 def run_file():
-    """Two to seven nodes, up to four crashes, some messages with a delay of their own."""
+    """Two to seven nodes, half of the time with a Q line, up to four crashes, some messages with a delay of their own."""
     nodes, period, delay = choose.randint(2, 7), choose.randint(1, 4), choose.randint(1, 4)
     timeout = period + delay + choose.choice([0, 0, 1, 3])
     end = choose.randint(10, 34)
     lines = [f"P,{nodes},{period},{timeout},{delay},{end}"]
+    if choose.random() < 0.5:
+        lines.append("Q," + ",".join(map(str, choose.sample(range(nodes), nodes))))
     crashed = choose.sample(range(nodes), choose.randint(0, min(nodes, 4)))
     for tick, node in sorted((choose.randint(0, end // 2), node) for node in crashed):
         lines.append(f"C,{tick},{node}")

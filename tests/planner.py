@@ -26,8 +26,8 @@ def run(program, text):
     return subprocess.run(program, input=text, capture_output=True, text=True)
 
 
-def log_of(nodes, h, w, d, end, crashes, delays):
-    lines = [f"P,{nodes},{h},{w},{d},{end}"] + [f"C,{tick},{node}" for tick, node in crashes] + delays
+def log_of(nodes, h, w, d, end, ring, crashes, delays):
+    lines = [f"P,{nodes},{h},{w},{d},{end}"] + ring + [f"C,{tick},{node}" for tick, node in crashes] + delays
     return [line.split(",") for line in run([REHEARSE], "".join(line + "\n" for line in lines)).stdout.splitlines()]
 
 
@@ -69,16 +69,16 @@ def lacking_text(lists, crashed):
 
 def outcome(plan, w, shift):
     """Kind, ticks and the words after the row."""
-    nodes, h, _, d, end, crashes, delays = plan
+    nodes, h, _, d, end, ring, crashes, delays = plan
     crashes = [(tick + shift, node) for tick, node in crashes]
     crashed, crash = {node for _, node in crashes}, crashes[-1][0]
-    log = log_of(nodes, h, w, d, end, crashes, delays)
+    log = log_of(nodes, h, w, d, end, ring, crashes, delays)
     known, last, lists = follow(log, nodes, crashed)
     if known is not None:
         return KNOWN, known - crash, ""
     if len(log[-1]) == 2:
         return REFUSED, 0, f"  {log[-1][0]},{log[-1][1]}: {MEANINGS[log[-1][0]]}"
-    later = log_of(nodes, h, w, d, end + 4 * w * (len(crashed) + 2) + 20 * d, crashes, delays)
+    later = log_of(nodes, h, w, d, end + 4 * w * (len(crashed) + 2) + 20 * d, ring, crashes, delays)
     if follow(later, nodes, crashed)[1] > end:
         return NOT_YET, end - crash, f"  {lacking_text(lists, crashed)} at the end tick, after {end - crash} ticks"
     return NEVER, last - crash, f"  {lacking_text(lists, crashed)} for good, after {last - crash} ticks"
@@ -94,7 +94,7 @@ def tables(text, time_outs):
     lines = text.splitlines()
     nodes, h, own, d, end = (int(field) for field in lines[0].split(",")[1:])
     crashes = [tuple(int(field) for field in line.split(",")[1:]) for line in lines if line[0] == "C"]
-    plan = nodes, h, own, d, end, crashes, [line for line in lines if line[0] == "L"]
+    plan = nodes, h, own, d, end, [line for line in lines if line[0] == "Q"], crashes, [line for line in lines if line[0] == "L"]
     head = (
         f"Ticks from the last crash until every survivor lists {nodes_text(node for _, node in crashes)}"
         f", with the crashes shifted by 0 to {h - 1} ticks\n"
@@ -110,7 +110,7 @@ def tables(text, time_outs):
 
 
 def generated(numbers):
-    """A run file of a small ring: crashes close together or apart, an end tick that may come early, and single delays."""
+    """A run file of a small ring, half of them in another order: crashes close together or apart, an end tick that may come early, and single delays."""
     nodes, h, d = numbers.randint(2, 12), numbers.randint(1, 6), numbers.randint(1, 5)
     w = h + d + numbers.choice([0, 1, numbers.randint(0, 12)])
     crashes = numbers.randint(1, nodes - 1)
@@ -119,8 +119,10 @@ def generated(numbers):
     long = 4 * w * (crashes + 2)
     end = rows[-1][0] + numbers.choice([numbers.randint(0, h // 2), numbers.randint(0, long // 2), long, long])
     delays = sorted(numbers.sample(range(400), numbers.choice([0, 0, 20, 200])))
+    ring = numbers.choice([[], numbers.sample(range(nodes), nodes)])
     return (
         f"P,{nodes},{h},{w},{d},{end}\n"
+        + ("Q," + ",".join(map(str, ring)) + "\n") * bool(ring)
         + "".join(f"C,{tick},{node}\n" for tick, node in rows)
         + "".join(f"L,{number},{numbers.randint(1, d)}\n" for number in delays)
     )
@@ -134,8 +136,8 @@ def against(program, seed, count):
             done = run([program, *arguments], text)
             if done.stdout != expected or done.returncode != ("refused" in expected):
                 sys.exit(f"planner: seed {seed} index {index}: status {done.returncode}\n{text}{done.stdout}but by the logs\n{expected}")
-            met |= {word for word in WORDS[1:] if word in done.stdout}
-    if len(met) < 3 and count >= 40:
+            met |= {word for word in [*WORDS[1:], "Q,"] if word in text + done.stdout}
+    if len(met) < 4 and count >= 40:
         sys.exit(f"planner: seed {seed} meets only {sorted(met)}")
 
 

@@ -37,6 +37,11 @@ crashes() {
     for node in $(seq "$2" "$3"); do echo "C,$1,$node"; done
 }
 
+# dealt: a Q line for six shelves of eight nodes, dealt like cards: the first of each shelf, then the second of each, and so on.
+dealt() {
+    echo "Q,$(for place in 0 1 2 3 4 5 6 7; do seq -s, "$place" 8 47; done | paste -sd, -)"
+}
+
 # delays FIRST LAST: L lines of delay 1.
 delays() {
     for number in $(seq "$1" "$2"); do echo "L,$number,1"; done
@@ -51,6 +56,7 @@ shifted=', with the crashes shifted by 0 to'
 bad_form='letter, number of fields, digits, line feed or order of the letters\n'
 bad_number='a number out of range, a node not below N, or a crash after the end tick\n'
 bad_order='C or L lines do not rise, or a node crashes twice\n'
+bad_ring='the Q line does not name each node once\n'
 
 tables() {
     printf 'P,6,5,17,2,90\nC,30,1\nC,35,2\n' | prints 0 "$lists 1-2$shifted 4 ticks\n$head\
@@ -79,6 +85,13 @@ tables() {
 " '' --each 17
     { echo P,48,100,120,20,3000; crashes 300 10 17; } | prints 0 "$lists 10-17$shifted 99 ticks\n$head\
    120      1919       1      1820       0\n" ''
+    # A shelf, in number order, whether the file says so or not, and dealt.
+    for ring in '' "Q,$(seq -s, 0 47)\n"; do
+        { printf "P,48,100,120,20,3000\n$ring"; crashes 300 8 15; } | prints 0 "$lists 8-15$shifted 99 ticks\n$head\
+   120      1919       1      1820       0\n" ''
+    done
+    { echo P,48,100,120,20,3000; dealt; crashes 300 8 15; } | prints 0 "$lists 8-15$shifted 99 ticks\n$head\
+   120       219       1       120       0\n" ''
     # The file's own W is the last, also where the steps of H pass over it.
     printf 'P,5,3,9,4,292\nC,32,0\nC,32,2\nC,32,3\n' | prints 0 "$lists 0,2-3$shifted 2 ticks\n$head\
      7     never       0     never       0  4 lacks 0 for good, after 27 ticks
@@ -91,6 +104,7 @@ logs() {
     { echo P,48,100,120,20,3000; crashes 300 10 17; } | agrees --each
     { echo P,64,20,61,11,5000; crashes 90 60 63; crashes 140 0 5; delays 100 900; } | agrees
     printf 'P,64,2,9,1,2000\nC,1200,31\n' | agrees 9
+    { echo P,48,100,120,20,3000; dealt; crashes 300 6 13; delays 100 900; } | agrees --each
     printf "$six_nodes" | agrees --each 6 7 300 65536 999999999
     # The same ticks at two shifts: the first of them stands in the row.
     printf 'P,8,3,6,2,200\nC,18,3\nC,22,0\nC,22,7\nC,25,4\nC,32,5\n' | agrees 5
@@ -109,6 +123,9 @@ refusals() {
     printf 'P,6,5,6,2,90\nC,30,1\n' | prints 1 '' '4,1: W is below H + D\n'
     printf 'P,6,5,27,2,90\nC,35,2\nC,30,1\n' | prints 1 '' "5,3: $bad_order"
     { echo P,6,5,27,2,90; delays 0 2048; } | prints 1 '' '6,2050: more than 2,048 L lines\n'
+    printf 'P,6,5,27,2,90\nQ,0,1,2,3,4,0\nC,30,1\n' | prints 1 '' "13,2: $bad_ring"
+    printf 'P,6,5,27,2,90\nQ,0,1,2,3,4,6\nC,30,1\n' | prints 1 '' "3,2: $bad_number"
+    printf 'P,6,5,27,2,90\nC,30,1\nQ,0,1,2,3,4,5\n' | prints 1 '' "2,3: $bad_form"
     printf 'P,64,1,35,33,200\nC,90,3\n' | prints 1 "$lists 3$shifted 0 ticks\n$head\
     34   refused       0   refused       0  8,0: more than 2,048 messages would be in flight
     35   refused       0   refused       0  8,0: more than 2,048 messages would be in flight
@@ -118,6 +135,8 @@ refusals() {
     27   not yet       1  0,3-5 lack 2 at the end tick, after 1 ticks
     27   not yet       2  0,3-5 lack 2 at the end tick, after 0 ticks
     27   refused       3  3,3: $bad_number    27   refused       4  3,3: $bad_number" '' --each 27
+    printf 'P,6,5,27,2,89\nQ,5,3,1,4,2,0\nC,86,1\nC,86,2\n' | prints 1 "$lists 1-2$shifted 4 ticks\n$head\
+    27   refused       4   not yet       0  3,3: $bad_number" '' 27
     printf "$six_nodes" | prints 1 "$lists 1-2$shifted 4 ticks\n$head\
      6   refused       0   refused       0  4,1: W is below H + D
      7        26       1         8       0

@@ -1,7 +1,7 @@
 //! The platform's four calls through the static library, beside the simulator: opening, step, run and the run-file writer.
 //! Every call must give the same answer and leave the same lent bytes and the same numbers behind its pointers: on files good and
 //! damaged, on steps and runs mixed at random, on runs of any budget from any place of a file, on stores of which every single byte is
-//! changed in turn, on lent stores that no file leads to, and on 01's edges.
+//! changed in turn, those of the ring's order in more ways, on lent stores that no file leads to, and on 01's edges and 02's of a Q line.
 //!
 //! Usage: platform [SEED [COUNT]]. A difference prints its seed and index, the call and the file, and the program fails.
 //!
@@ -33,6 +33,8 @@ const COUNT: u64 = 300;
 const CALLS: u64 = 40;
 /// Calls on one lent store.
 const LENT_CALLS: u64 = 8;
+/// The numbers that the four calls answer, 0 where accepted.
+const NUMBERS: [usize; 11] = [0, 1, 2, 3, 4, 5, 6, 7, 8, 9, 13];
 /// Bytes on both sides of a lent part that no call may touch.
 const MARGIN: usize = 32;
 const MARGIN_BYTE: u8 = 0x5a;
@@ -82,8 +84,8 @@ impl Lent {
 struct Seen {
     opened: u64,
     calls: u64,
-    /// How often each number was answered, 0 where accepted.
-    numbers: [u64; 10],
+    /// How often each number was answered.
+    numbers: [u64; 14],
     spent: u64,
     done: u64,
     met: runs::Met,
@@ -193,7 +195,11 @@ fn changed_store(file: &[u8], random: &mut Random) -> Vec<u8> {
     let used: Vec<usize> = (0..STORE_BYTES).filter(|place| store::is_used(&bytes, *place)).collect();
     for _ in 0..random.range(1, 12) {
         let before = bytes.clone();
-        stores::change(&mut bytes, &used, random);
+        if random.chance(6) {
+            stores::reorder(&mut bytes, random);
+        } else {
+            stores::change(&mut bytes, &used, random);
+        }
         if !store::check(&bytes) && !random.chance(40) {
             bytes = before;
         }
@@ -265,11 +271,14 @@ fn changed_byte(seen: &mut Seen, bytes: &[u8], place: usize) -> Result<(), Strin
     Ok(())
 }
 
-/// A store as opened, one in the midst of a run with O and R in flight, and one with many messages.
+/// Five nodes that soon have O and R in flight, in number order and in another.
+const MIDST: &str = "P,5,2,6,3,60\nC,5,3\nC,40,1\nL,2,1\nL,7,2\n";
+const ORDERED: &str = "P,5,2,6,3,60\nQ,0,2,4,3,1\nC,5,3\nC,40,1\nL,2,1\nL,7,2\n";
+
+/// A store as opened, two in the midst of a run, and one with many messages.
 fn changed_bytes(seen: &mut Seen) -> Result<(), String> {
-    let midst = "P,5,2,6,3,60\nC,5,3\nC,40,1\nL,2,1\nL,7,2\n";
     let many = "P,24,2,25,20,300\nC,3,7\nC,3,8\nC,90,0\nL,1,3\nL,40,7\nL,600,19\n";
-    for (file, events) in [(midst, 0), (midst, 50), (many, 900)] {
+    for (file, events) in [(MIDST, 0), (MIDST, 50), (ORDERED, 50), (many, 900)] {
         let bytes = reached(file.as_bytes(), events);
         for place in 0..STORE_BYTES {
             changed_byte(seen, &bytes, place)
@@ -279,7 +288,55 @@ fn changed_bytes(seen: &mut Seen) -> Result<(), String> {
     Ok(())
 }
 
-// ---- 01's edges
+// ---- the ring's order in a store
+
+/// The fields of a Q line in which each node is so many numbers after the one before.
+fn spread(nodes: u64, stride: u64) -> String {
+    (0..nodes).map(|place| format!(",{}", place * stride % nodes)).collect()
+}
+
+/// Each call on a store with some bytes changed answers this number.
+fn gets(seen: &mut Seen, bytes: &[u8], number: u8) -> Result<(), String> {
+    let held = store::decode(bytes);
+    for (call, room) in [(Call::Step, LINE_BYTES), (Call::Run { budget: 1 }, 0), (Call::Write, FILE_BYTES)] {
+        let answer = seen.call(call, &mut Lent::new(bytes), &mut Lent::filled(room), &mut held.clone())?;
+        same(&format!("{call:?}"), answer[0], u64::from(number))?;
+    }
+    Ok(())
+}
+
+/// Any other count, and any other number in a place, is refused by 7: a number that no node has, a node twice, a byte beyond the count.
+/// A lone node's order is node 0, whether or not a line says so. Two numbers in each other's place make another order, in range.
+fn changed_order(seen: &mut Seen, file: &str, events: u64) -> Result<(), String> {
+    let bytes = reached(file.as_bytes(), events);
+    let [nodes, count] = [layout::NODES, layout::ORDERED].map(|field| layout::get(&bytes, field, 0));
+    let counts = (0..=255).map(|value| (layout::ORDERED, 0, value));
+    let places = (0..64).flat_map(|place| (0..=nodes).chain([255]).map(move |value| (layout::ORDER, place, value)));
+    for (field, place, value) in counts.chain(places) {
+        let mut changed = bytes.clone();
+        layout::put(&mut changed, field, place, value);
+        let passes = changed == bytes || nodes == 1 && place == 0 && layout::get(&changed, layout::ORDER, 0) == 0 && value <= 1;
+        gets(seen, &changed, if passes { 0 } else { REFUSED_STORE }).map_err(|error| format!("{field:?} {place} set to {value}: {error}"))?;
+    }
+    for place in 1..count as usize {
+        let mut changed = bytes.clone();
+        changed.swap(64 + place - 1, 64 + place);
+        gets(seen, &changed, 0).map_err(|error| format!("places {} and {place} of the order swapped: {error}", place - 1))?;
+    }
+    Ok(())
+}
+
+fn changed_orders(seen: &mut Seen) -> Result<(), String> {
+    let sixty_four = format!("P,64,2,25,20,300\nQ{}\nC,3,7\n", spread(64, 27));
+    let in_numbers = "P,5,2,6,3,60\nQ,0,1,2,3,4\n";
+    let alone = ["P,1,1,2,1,5\n", "P,1,1,2,1,5\nQ,0\n"];
+    for (file, events) in [(alone[0], 0), (alone[1], 0), (MIDST, 50), (ORDERED, 50), (in_numbers, 0), (&sixty_four, 700)] {
+        changed_order(seen, file, events).map_err(|error| format!("{error}\n{}", shown(file.as_bytes())))?;
+    }
+    Ok(())
+}
+
+// ---- 01's edges, and 02's of a Q line
 
 /// A store opened from the file, and what it holds.
 fn opened(seen: &mut Seen, file: &[u8]) -> Result<(Lent, Option<Held>), String> {
@@ -328,6 +385,10 @@ fn refused_files(seen: &mut Seen) -> Result<(), String> {
         (b"P,2,2,2,1,6\n", 4, 1),
         (b"P,2,2,3,1,6\nC,3,1\nC,3,0\n", 5, 3),
         (&many, 6, MAX_DELAY_ROWS as u64 + 2),
+        (b"P,3,2,3,1,6\nQ,0,1\n", 2, 2),
+        (b"P,3,2,3,1,6\nC,3,1\nQ,0,1,2\n", 2, 3),
+        (b"P,3,2,3,1,6\nQ,0,0,3\n", 3, 2),
+        (b"P,3,2,3,1,6\nQ,0,1,0\n", 13, 2),
     ] {
         for room in [STORE_BYTES, 0] {
             let answer = proved::open(file, Lent::filled(room).part_mut());
@@ -366,8 +427,8 @@ fn full_flight(seen: &mut Seen) -> Result<(), String> {
     answers(seen, over, &[(all, stopped(2_048)), (Call::Step, eight)]).map(|_| ())
 }
 
-fn worked_log(seen: &mut Seen) -> Result<(), String> {
-    let (file, log) = (include_str!("worked.run"), include_str!("worked.log"));
+/// The steps on the file's store answer and write the lines of the log, one after another.
+fn logged(seen: &mut Seen, file: &str, log: &str) -> Result<(), String> {
     let fields = |line: &str| {
         let column: Vec<&str> = line.split(',').collect();
         let number = |place: usize| column[place].parse().expect("a number");
@@ -378,6 +439,12 @@ fn worked_log(seen: &mut Seen) -> Result<(), String> {
     if lines != log {
         return Err(format!("the log of {file:?} is\n{lines}"));
     }
+    Ok(())
+}
+
+fn worked_log(seen: &mut Seen) -> Result<(), String> {
+    let file = include_str!("worked.run");
+    logged(seen, file, include_str!("worked.log"))?;
     let run = |budget| Call::Run { budget };
     let done = (run(0), ran(0, 0));
     answers(seen, file, &[(run(0), ran(0, 1)), (run(7), ran(7, 1)), (run(1), ran(1, 0)), done])?;
@@ -385,12 +452,35 @@ fn worked_log(seen: &mut Seen) -> Result<(), String> {
     answers(seen, "P,1,1,2,1,5\n", &[done, (run(u64::MAX), ran(0, 0))]).map(|_| ())
 }
 
-/// 63 survivors, W 100, D 5: S is 140. A run of 64 nodes has settled by then.
+/// A ring in another order, worked by hand, and in number order, which a Q line may say: the log is that without it, and the line comes back.
+fn orders(seen: &mut Seen) -> Result<(), String> {
+    logged(seen, include_str!("shuffled.run"), include_str!("shuffled.log"))?;
+    let named = "P,2,2,3,1,6\nQ,0,1\nC,3,1\n";
+    logged(seen, named, include_str!("worked.log"))?;
+    for file in [named, include_str!("shuffled.run"), "P,1,1,2,1,5\nQ,0\n"] {
+        let (mut store, mut held) = opened(seen, file.as_bytes())?;
+        let mut part = Lent::filled(FILE_BYTES);
+        let answer = seen.call(Call::Write, &mut store, &mut part, &mut held)?;
+        if part.part()[..answer[1] as usize] != *file.as_bytes() {
+            return Err(format!("{file:?} does not come back"));
+        }
+    }
+    Ok(())
+}
+
+/// 63 survivors, W 100, D 5: S is 140. A run of 64 nodes has settled by then, in any order of the ring.
 fn settling(seen: &mut Seen) -> Result<(), String> {
     if settle::settling_time(100, 5, 63) != 140 {
         return Err("S is not 140".to_string());
     }
-    let (mut store, mut held) = opened(seen, b"P,64,20,100,5,400\nC,33,9\n")?;
+    for order in [String::new(), format!("Q{}\n", spread(64, 27))] {
+        settles(seen, &format!("P,64,20,100,5,400\n{order}C,33,9\n"))?;
+    }
+    Ok(())
+}
+
+fn settles(seen: &mut Seen, file: &str) -> Result<(), String> {
+    let (mut store, mut held) = opened(seen, file.as_bytes())?;
     let mut settled = 0;
     while held.as_mut().is_some_and(|held| held.platform.earliest_due().is_some_and(|due| due <= 33 + 200)) {
         let budget = Call::Run { budget: 25 };
@@ -425,6 +515,7 @@ fn last_number(seen: &mut Seen) -> Result<(), String> {
 fn edges(seen: &mut Seen) -> Result<(), String> {
     refused_files(seen)?;
     worked_log(seen)?;
+    orders(seen)?;
     full_flight(seen)?;
     settling(seen)?;
     last_number(seen)
@@ -436,14 +527,16 @@ fn all(seen: &mut Seen, seed: u64, count: u64) -> Result<(), String> {
     edges(seen)?;
     runs::all(seen, seed)?;
     generated(seen, seed, count)?;
+    changed_orders(seen)?;
     changed_bytes(seen)
 }
 
 /// Every kind of answer has to come up.
 fn summary(seen: &Seen, count: u64) -> Result<(), String> {
     let Seen { opened, calls, numbers, spent, done, met } = seen;
-    println!("platform: {calls} calls agree, {opened} stores opened; answers by number: {numbers:?}; {spent} runs spent, {done} done");
-    if count > 0 && (numbers.contains(&0) || *spent == 0 || *done == 0) {
+    let answered = NUMBERS.map(|number| (number, numbers[number]));
+    println!("platform: {calls} calls agree, {opened} stores opened; answers by number: {answered:?}; {spent} runs spent, {done} done");
+    if count > 0 && (answered.iter().any(|(_, answers)| *answers == 0) || *spent == 0 || *done == 0) {
         return Err("an answer never came up".to_string());
     }
     met.summary()

@@ -1,15 +1,16 @@
 #!/bin/sh
 # The nodes beside the rehearsal: tests/records.c drives a record for each node of a run file through the calls of a host in C,
 # and its log has to be the rehearsal program's, byte for byte: what is rehearsed is what the nodes do. The files are those
-# named below, most of 48 nodes, and generated ones; refused ones are left out. Mistakes planted in tests/records.c have to be
-# found. Stops at the first difference, prints its seed and keeps its file.
+# named below, most of 48 nodes, and generated ones; refused ones are left out, and those with a Q line, as records stay in number
+# order. Mistakes planted in tests/records.c have to be found. Stops at the first difference, prints its seed and keeps its file.
 #
-# Usage: tests/records.sh [SEED [COUNT]]: COUNT small generated files, a fifth as many large ones; REHEARSE names another program.
+# Usage: tests/records.sh [SEED [COUNT]]: COUNT small generated files, a fifth as many large ones, about half of them without a Q
+# line; REHEARSE names another program.
 
 . "$(dirname "$0")/common.sh"
 
 seed=${1:-$usual_seed}
-count=${2:-600}
+count=${2:-1400}
 work=$out/records-$seed
 seconds=20
 
@@ -44,8 +45,12 @@ same() {
     [ "$nodes" -lt 48 ] || wide=$((wide + 1))
 }
 
-# generated NAME FILE: the same, unless the file is refused.
+# generated NAME FILE: the same, unless the file has a Q line or is refused.
 generated() {
+    if grep -qa '^Q' "$2"; then
+        ordered=$((ordered + 1))
+        return
+    fi
     rehearsed "$1" "$2"
     case $(head -n 1 "$work/rehearsed") in
         [1-6],*) refused=$((refused + 1)) ;;
@@ -146,7 +151,7 @@ trap 'rm -rf "$work"' EXIT
 compile 0 "$out/records"
 # A program that writes without end is stopped at 64 megabytes.
 ulimit -f 131072
-files=0 wide=0 refused=0
+files=0 wide=0 ordered=0 refused=0
 small_rings
 rings_of_48
 full_rings
@@ -154,4 +159,4 @@ mistakes
 each_generated '' $((count / 5)) "$work" generated
 each_generated small "$count" "$work" generated
 lines=$(counted)
-echo "records: $files files, $wide of them with 48 nodes or more, agree; $refused refused; 6 mistakes found; lines:$lines"
+echo "records: $files files, $wide of them with 48 nodes or more, agree; $ordered with a Q line, $refused refused; 6 mistakes found; lines:$lines"

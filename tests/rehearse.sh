@@ -1,6 +1,6 @@
 #!/bin/sh
-# The rehearsal program beside the simulator: the same bytes for generated run files, good and damaged, for a few large ones,
-# for files at and beyond the greatest length, and for input that comes in pieces. Then its streams: slow, full, closed or no file.
+# The rehearsal program beside the simulator: the same bytes for generated run files, good and damaged, for a few large ones, for rings in
+# another order, for files at and beyond the greatest length, and for input that comes in pieces. Then its streams: slow, full, closed or no file.
 # Stops at the first difference, prints its seed and keeps its file.
 #
 # Usage: tests/rehearse.sh [SEED [COUNT]]; REHEARSE names another program to compare.
@@ -42,6 +42,25 @@ padded() {
     same "$1 bytes" "$work/padded.run"
 }
 
+# order STRIDE: a Q line of 64 nodes, each so many numbers after the one before.
+order() {
+    printf 'Q'
+    for place in $(seq 0 63); do printf ',%d' $((place * $1 % 64)); done
+    printf '\n'
+}
+
+orders() {
+    named 'a Q line in number order' 'P,2,2,3,1,6\nQ,0,1\nC,3,1\n'
+    cmp tests/worked.log "$work/proved" || fail 'a Q line in number order makes another log'
+    named 'one node in order' 'P,1,1,2,1,5\nQ,0\n'
+    named 'a node twice' 'P,3,2,3,1,6\nQ,0,1,0\n'
+    printf '13,2\n' | cmp - "$work/proved" || fail 'a node twice in a Q line is not refused by 13'
+    for stride in 1 27 63; do
+        { printf 'P,64,20,100,5,900\n'; order "$stride"; for node in $(seq 8 15); do printf 'C,333,%d\n' "$node"; done; } > "$work/order.run"
+        same "eight crash at one tick, stride $stride" "$work/order.run"
+    done
+}
+
 large() {
     named '2,048 in flight' 'P,64,1,33,32,200\n'
     named '2,049 in flight' 'P,64,1,34,33,200\n'
@@ -52,11 +71,15 @@ large() {
     } > "$work/large.run"
     same 'every node crashes, 2,048 L lines' "$work/large.run"
     cp "$work/proved" "$work/large.log"
+    { head -n 1 "$work/large.run"; order 27; tail -n +2 "$work/large.run"; } > "$work/order.run"
+    same 'the same in another order' "$work/order.run"
 }
 
 worked_log() {
-    run < tests/worked.run > "$work/worked" || true
-    cmp tests/worked.log "$work/worked" || fail "the log of 01's first example differs"
+    for ring in worked shuffled; do
+        run < "tests/$ring.run" > "$work/$ring" || true
+        cmp "tests/$ring.log" "$work/$ring" || fail "the log of tests/$ring.run differs"
+    done
 }
 
 # A file that comes a few bytes at a time, and one longer than a pipe holds.
@@ -80,6 +103,7 @@ named 'one node' 'P,1,1,2,1,5\n'
 named 'a byte that is no text' 'P,2,2,3,1,6\n\000\377\n'
 for length in 65536 65537 131072 200000; do padded "$length"; done
 pieces
+orders
 large
 c "$work/streams.so" -shared -fPIC tests/streams.c -ldl
 python3 tests/streams.py "$rehearse" "$work/large.run" "$work/large.log" "$work/streams.so"

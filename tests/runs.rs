@@ -145,7 +145,8 @@ fn short_draft(random: &mut Random, most_nodes: u64, events: u64) -> Draft {
     let timeout = period + delay + random.pick(&[0, 0, 1]);
     let end = (events * period / (2 * nodes)).max(2 * timeout);
     let delays = (0..random.pick(&[0, events])).map(|number| (number, random.range(1, delay))).collect();
-    let mut draft = Draft { nodes, period, timeout, delay, end, crashes: Vec::new(), delays };
+    let order = generator::some_order(random, nodes);
+    let mut draft = Draft { nodes, period, timeout, delay, end, order, crashes: Vec::new(), delays };
     let (first, pace) = (random.range(0, end / 2), random.range(0, 2));
     let tick_of = |row| if row == 0 { end } else { first + row * pace };
     let rows = (0..random.range(0, nodes)).map(|row| (tick_of(row), random.range(0, nodes - 1))).collect();
@@ -211,14 +212,17 @@ fn place_of(file: &[u8], sent: u64) -> u64 {
 /// 64 nodes over this many ticks, H 1, with a crash at every tick from 58 on. As the crashes are found, one event sends seven messages.
 fn reporting(delay: u64, crashes: u64, end: u64) -> Draft {
     let crashes = (0..crashes).map(|row| (58 + row, (63 + 15 * row) % 64)).collect();
-    Draft { nodes: 64, period: 1, timeout: 1 + delay, delay, end, crashes, delays: Vec::new() }
+    Draft { nodes: 64, period: 1, timeout: 1 + delay, delay, end, order: Vec::new(), crashes, delays: Vec::new() }
 }
 
 /// Runs to the end from each of the first places, so that the queue's last places are reached at all kinds of events; and runs that end
 /// just there.
 fn long_runs(seen: &mut Seen) -> Result<(), String> {
     let seven = Draft { nodes: 7, ..reporting(1, 0, 1_300) };
-    for draft in [seven, reporting(1, 0, 120), reporting(32, 0, 160), reporting(4, 4, 110), reporting(26, 3, 160), reporting(30, 4, 160)] {
+    let shuffled = Draft { order: (0..64).map(|place| place * 27 % 64).collect(), ..reporting(26, 4, 160) };
+    let drafts =
+        [seven, reporting(1, 0, 120), reporting(32, 0, 160), reporting(4, 4, 110), reporting(26, 3, 160), reporting(30, 4, 160), shuffled];
+    for draft in drafts {
         let file = draft.bytes();
         let told = |error| format!("a long run: {error}");
         from_places(seen, &file, 0..40, |_| vec![u64::MAX]).map_err(told)?;

@@ -1,7 +1,7 @@
 #!/bin/sh
 # Builds the simulator and the generator of run files with rustc alone, runs the simulator's own
-# tests, compares the worked logs of document 01 byte by byte, runs generated files, good and
-# damaged, and prints the simulator's speed. Stops at the first failure.
+# tests, compares the worked logs of document 01 and that of a shuffled ring byte by byte, runs generated
+# files, good and damaged, and prints the simulator's speed. Stops at the first failure.
 #
 # Usage: tests/simulator.sh [SEED [COUNT]]
 
@@ -21,16 +21,18 @@ answers() {
 
 worked_logs() {
     answers two "$(cat tests/worked.run)\n" "$(cat tests/worked.log)\n" ''
+    answers shuffled "$(cat tests/shuffled.run)\n" "$(cat tests/shuffled.log)\n" ''
     answers alone 'P,1,1,2,1,5\n' 'E,5,1,0,0000000000000000\n' ''
     answers empty '' '1,0\n' ''
     answers short 'P,2,2,2,1,6\n' '4,1\n' ''
+    answers twice 'P,2,2,3,1,6\nQ,1,1\n' '13,2\n' ''
 }
 
 # ends NAME FILE: the answer is a refusal, or a log that ends in E or in 8,0.
 ends() {
     "$out/simulate" < "$2" > "$out/generated.log" || fail "$1: failed"
     case $(tail -n 1 "$out/generated.log") in
-        E,* | [1-6],* | 8,0) ;;
+        E,* | [1-6],* | 13,2 | 8,0) ;;
         *) fail "$1: no last line" ;;
     esac
 }

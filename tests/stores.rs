@@ -89,6 +89,17 @@ fn messages(plan: &Plan, last: u32, random: &mut Random) -> Vec<(u32, Message)> 
     (0..count).map(one).collect()
 }
 
+/// Puts two numbers of the ring's order in each other's place, where the store has a Q line.
+pub fn reorder(bytes: &mut [u8], random: &mut Random) {
+    let count = layout::get(bytes, layout::ORDERED, 0);
+    if count > 0 {
+        let [one, other] = [0; 2].map(|_| random.below(count) as usize);
+        let nodes = [one, other].map(|place| layout::get(bytes, layout::ORDER, place));
+        layout::put(bytes, layout::ORDER, one, nodes[1]);
+        layout::put(bytes, layout::ORDER, other, nodes[0]);
+    }
+}
+
 /// Changes a byte that holds something, often to what another such byte could be.
 pub fn change(bytes: &mut [u8], used: &[usize], random: &mut Random) {
     let place = random.pick(used);

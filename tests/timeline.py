@@ -4,6 +4,7 @@ Usage: timeline.py SIMULATE DIRECTORY SHOWN FILE..., the simulator's program, a 
 picture, and more run files, good and damaged. Stops at the first difference.
 """
 import os
+import random
 import re
 import resource
 import subprocess
@@ -15,6 +16,7 @@ SVG = "{http://www.w3.org/2000/svg}"
 LETTER = 0.55  # width of a letter, as a share of the font's size
 simulate, directory, shown, *files = sys.argv[1:]
 place = os.path.join(directory, "picture.svg")
+rehearsed = os.path.join(directory, "rehearsed.run")
 seen = Counter()
 
 
@@ -35,10 +37,18 @@ def timeline(log, *arguments, limit=None):
     return done
 
 
-def drawn(log, status=0):
-    """The picture of a log; nothing else is left beside it."""
+def kept(run_file):
+    """The path of a run file, for the script's third argument."""
+    with open(rehearsed, "wb") as file:
+        file.write(run_file)
+    return rehearsed
+
+
+def drawn(log, status=0, run_file=None):
+    """The picture of a log, and of its run file where one is given; nothing else is left beside it."""
+    more = [] if run_file is None else [kept(run_file)]
     before = sorted(os.listdir(directory))
-    done = timeline(log, "-", place)
+    done = timeline(log, "-", place, *more)
     check(done.returncode == status, f"status {done.returncode}, not {status}, for {log[:200]!r}: {done.stderr.decode()}")
     check(done.stdout == b"" and (status == 0) == (done.stderr == b""), f"words where none belong: {done.stdout[:200]} {done.stderr}")
     check(sorted(os.listdir(directory)) == sorted(before + ["picture.svg"]), "a file is left beside the picture")
@@ -64,13 +74,14 @@ def refused(log, *words, arguments=("-", place), limit=None):
 
 REFUSALS = {
     1: ["no bytes", "65,536"],
-    2: ["form", "carriage return", "no line feed after the last line", "blank line", "space", "byte order mark"],
+    2: ["form", "carriage return", "no line feed after the last line", "blank line", "space", "byte order mark", "P, Q, C, L"],
     3: ["range", "not below N"],
     4: ["W is below H + D"],
     5: ["rise", "twice"],
     6: ["2,048 L lines"],
     7: ["store"],
     8: ["2,048 messages", "in flight"],
+    13: ["the Q line does not name each node once"],
 }
 
 
@@ -79,10 +90,11 @@ def refusals(log):
         refused(b"%d,0\n" % number, f"refused by {number}:", *words)
         refused(b"%d,17\n" % number, f"refused by {number} at line 17 of the run file:", *words)
         refused(b"%d,0\n" % number, *words, arguments=())
-    refused(b"13,2\n", "refused by 13 at line 2", "no words")
+    refused(b"99,2\n", "refused by 99 at line 2", "no words")
     for run_file in [b"P,2,2,3,1,6\r\n", b"P,2,2,3,1,6", b"P,2,2,3,1,6\n\n", b"P,2, 2,3,1,6\n", b"\xef\xbb\xbfP,2,2,3,1,6\n"]:
         refused(log_of(run_file), "refused by 2 at line", "carriage return")
     refused(log_of(b"P,2,2,2,1,6\n"), "refused by 4 at line 1", "W is below H + D")
+    refused(log_of(b"P,3,2,3,1,6\nQ,0,2,0\n"), "refused by 13 at line 2", "each node once")
     with open(place, "wb") as file:
         file.write(b"an older picture")
     refused(b"4,1\n", "nothing is drawn")
@@ -121,25 +133,58 @@ def strange(log):
     refused(log + b"4,1\n", f"line {len(lines) + 1} is no log line")
     refused(b"P,2,2,3,1,6\nC,3,1\n", "line 1 is no log line", "run file")
     refused(b"S,2,9,0,0000000000000000\n" + log, "names node 9", "counts 6 nodes")
-    refused(log, "usage", arguments=("-", place, "more"))
+    refused(log, "usage", arguments=("-", place, shown, "more"))
     refused(log, "absent: No such file", arguments=(os.path.join(directory, "absent"), place))
+    refused(log, "absent: No such file", arguments=("-", place, os.path.join(directory, "absent")))
     refused(log, "absent/picture.svg: No such file", arguments=("-", os.path.join(directory, "absent", "picture.svg")))
     refused(log, "is no file", arguments=("-", directory))
 
 
 def forms(log):
     """All forms of the command give the same picture."""
-    picture, kept = drawn(log), os.path.join(directory, "kept.log")
-    with open(kept, "wb") as file:
+    picture, saved = drawn(log), os.path.join(directory, "saved.log")
+    with open(saved, "wb") as file:
         file.write(log)
-    for arguments in [(), ("-",), ("-", "-"), (kept,), (kept, "-")]:
+    for arguments in [(), ("-",), ("-", "-"), (saved,), (saved, "-"), ("-", "-", shown), (saved, "-", shown)]:
         check(timeline(log, *arguments).stdout == picture, f"another picture by the arguments {arguments}")
-    timeline(b"", kept, place)
-    with open(place, "rb") as file:
-        check(file.read() == picture, "another picture by LOG PICTURE")
-    os.remove(place)
-    os.remove(kept)
+    for arguments in [(saved, place), (saved, place, shown)]:
+        timeline(b"", *arguments)
+        with open(place, "rb") as file:
+            check(file.read() == picture, f"another picture by the arguments {arguments}")
+        os.remove(place)
+    os.remove(saved)
     check(b"Usage" in timeline(b"", "--help").stdout, "--help does not help")
+
+
+def other_run_files():
+    """Run files that cannot be the log's: the form of P and Q, the number of nodes, and a ring that the log's neighbours do not have."""
+    run_file = b"P,4,2,9,3,60\nQ,2,0,3,1\nC,20,3\n"
+    log = log_of(run_file)
+    for text, *words in [
+        (b"", "no P line"),
+        (log, "no P line", "S,2,0"),
+        (b"P,4,2,9,3,60\r\nQ,2,0,3,1\n", "no P line"),
+        (b"P,4,2,9,3\nQ,2,0,3,1\n", "no P line"),
+        (b"Q,2,0,3,1\nP,4,2,9,3,60\n", "no P line"),
+        (b"P,5,2,9,3,60\nQ,2,0,3,1,4\n", "N = 5", "are 4"),
+        (b"P,3,2,9,3,60\nQ,2,0,1\n", "N = 3", "are 4"),
+        (b"P,4,2,9,3,60\nQ,2,0,3\n", "each node once"),
+        (b"P,4,2,9,3,60\nQ,2,0,3,1,2\n", "each node once"),
+        (b"P,4,2,9,3,60\nQ,2,0,3,3\n", "each node once"),
+        (b"P,4,2,9,3,60\nQ,2,0,3,4\n", "each node once"),
+        (b"P,4,2,9,3,60\nQ,2,0,3,01\n", "each node once"),
+        (b"P,4,2,9,3,60\nQ,2,0,3,1\r\n", "each node once"),
+        (b"P,4,2,9,3,60\nQ\n", "each node once"),
+        (b"P,4,2,9,3,60\nQ,1,3,0,2\n", "by line 1 of the log node 3 follows node 0", "by the run file node 2"),
+        (b"P,4,2,9,3,60\nQ,0,1,2,3\n", "by line 1 of the log node 3 follows node 0", "by the run file node 1"),
+        (b"P,4,2,9,3,60\nC,20,3\n", "by line 1 of the log node 3 follows node 0", "by the run file node 1"),
+    ]:
+        refused(log, "the run file is not that of the log", *words, arguments=("-", place, kept(text)))
+    # No heartbeat is sent before the first watch expires: that watch is on the node before.
+    by_hand = b"C,3,2,2,0000000000000000\nW,6,1,2,0000000000000004\nE,6,2,0,0000000000000004\n"
+    drawn(by_hand, run_file=b"P,3,9,12,3,60\nQ,2,1,0\n")
+    refused(by_hand, "by line 2 of the log node 1 follows node 2", "by the run file node 0", arguments=("-", place, kept(b"P,3,9,12,3,60\n")))
+    os.remove(rehearsed)
 
 
 # ---- what the log says
@@ -169,6 +214,19 @@ def knowledge(nodes, log):
     return None if lacking or not pairs else max(first[pair] for pair in pairs), dict(lacking), crashed
 
 
+def ring_of(run_file):
+    """The nodes in the ring's order."""
+    lines = run_file.decode("ascii", "replace").split("\n")
+    ring_line = lines[1] if lines[1:] and lines[1][:2] == "Q," else "Q," + ",".join(map(str, range(int(lines[0].split(",")[1]))))
+    return [int(node) for node in ring_line.split(",")[1:]]
+
+
+def taken(ring, node, left, dead):
+    """Whom a node takes after the one that it has left: the first one going back that its list does not hold."""
+    at = ring.index(left)
+    return next((ring[at - back] for back in range(1, len(ring)) if not dead >> ring[at - back] & 1), node)
+
+
 # ---- what the picture says
 
 
@@ -188,7 +246,7 @@ class Seen:
         ticks = [(int(text.text), float(text.get("x"))) for text in self.of("tick")]
         self.zero = ticks[0][1]
         self.scale = (ticks[-1][1] - self.zero) / ticks[-1][0] if len(ticks) > 1 else 0
-        self.rows = [float(text.get("y")) - 4 for text in self.of("node")]
+        self.rows = {int(text.text.split()[1]): float(text.get("y")) - 4 for text in self.of("node")}
 
     def of(self, kind):
         return [text for text in self.texts if kind in text.get("class").split()]
@@ -209,7 +267,7 @@ class Seen:
 
     def row(self, y):
         """The node in whose row this stands, if any."""
-        node = min(range(len(self.rows)), key=lambda node: abs(self.rows[node] - y))
+        node = min(self.rows, key=lambda node: abs(self.rows[node] - y))
         return node if abs(self.rows[node] - y) <= 6 else None
 
     def points(self, kind):
@@ -242,20 +300,21 @@ def every_mark(picture, log, name):
     check(close(picture.marks("report") + picture.marks("known"), at["R"]), f"{name}: the marks of R are not those of the log's lines")
 
 
-def every_arrow(picture, log, name):
-    """An arrow for each O, from a watch of its sender that expired before, to its receiver."""
-    watches, wanted, found = defaultdict(list), [], []
+def every_arrow(picture, ring, log, name):
+    """An arrow for each O, to its receiver, from the watch of its sender that expired and made it take the receiver."""
+    watches, wanted, found = {}, [], []
     for letter, tick, node, other, dead in fields(log):
         if letter == "W":
-            watches[node].append(picture.across(tick))
+            watches[node, taken(ring, node, other, dead)] = picture.across(tick)
         elif letter == "O":
+            check((other, node) in watches, f"{name}: node {other} is not the one that takes node {node}")
             wanted.append((other, node, picture.across(tick)))
     for [(x, y), _], [(tip_x, tip_y), *_] in zip(picture.points("observer"), picture.points("head")):
         sender, receiver = picture.row(y), picture.row(tip_y)
         if sender is not None and receiver is not None:
             found.append((sender, receiver, tip_x))
-            by_watch = x <= tip_x and any(abs(x - place) < 0.3 for place in watches[sender])
-            check(by_watch, f"{name}: an arrow from node {sender} to {receiver} that no watch sent")
+            by_watch = abs(x - watches.get((sender, receiver), -1)) < 0.3
+            check(by_watch, f"{name}: an arrow from node {sender} to {receiver} that is not from the watch that sent it")
     check(close(found, wanted), f"{name}: the arrows are not those of the lines O")
 
 
@@ -302,7 +361,8 @@ def apart(picture, name):
         for other, beside in boxes[:place_in_list]:
             overlap = box[0] < other[2] and other[0] < box[2] and box[1] < other[3] and other[1] < box[3]
             check(not overlap, f"{name}: {text.text!r} overlaps {beside.text!r}")
-    for upper, lower in zip(picture.rows, picture.rows[1:]):
+    rows = sorted(picture.rows.values())
+    for upper, lower in zip(rows, rows[1:]):
         check(lower - upper >= 18, f"{name}: rows only {lower - upper} apart")
     ticks = [(float(text.get("x")), len(text.text)) for text in picture.of("tick")]
     for (x, _), (after, letters) in zip(ticks, ticks[1:]):
@@ -342,20 +402,44 @@ def all_know(picture, run_file, log, name):
     return since
 
 
-def whole(run_file, name, status=0, log=None):
-    """Draws the log of a run file, or the one given, and holds all of it against the log. Answers the picture and the tick of the mark."""
-    log = log or log_of(run_file)
-    picture = Seen(drawn(log, status))
+def in_order(picture, ring, name):
+    """The rows, from the top, are the nodes in this order; where it is not that of the numbers, the picture says so."""
+    rows = sorted(picture.rows, key=picture.rows.get)
+    check(rows == ring, f"{name}: the rows are {rows}, not {ring}")
+    said = "The rows stand in the ring's order." in picture.words("faint")
+    check(said == (ring != sorted(ring)), f"{name}: what is said about the rows' order is wrong")
+
+
+def held(picture, run_file, ring, log, name):
+    """Holds all of a picture against the log. Answers the tick of the mark."""
     letters = Counter(line[:1] for line in log.decode().splitlines())
     thin = letters["S"] + letters["H"] + letters["X"] > 8000 or letters["R"] > 8000
     check(thin == ("not all are drawn" in picture.words("faint")), f"{name}: what is said about thinning is wrong")
     if not thin:
         every_mark(picture, log, name)
     if picture.scale:
-        every_arrow(picture, log, name)
+        every_arrow(picture, ring, log, name)
         every_list(picture, log, name)
     apart(picture, name)
-    return picture, all_know(picture, run_file, log, name)
+    return all_know(picture, run_file, log, name)
+
+
+def whole(run_file, name, status=0, log=None):
+    """Draws the log of a run file, or the one given, without and with the run file. Answers the latter picture and the tick of the mark."""
+    log, ring = log or log_of(run_file), ring_of(run_file)
+    by_number, by_ring = drawn(log, status), drawn(log, status, run_file)
+    pictures = [(by_ring, ring, name)]
+    if ring != sorted(ring):
+        pictures.insert(0, (by_number, sorted(ring), f"{name}, drawn without the run file"))
+        seen["shuffled"] += 1
+    else:
+        check(by_ring == by_number, f"{name}: another picture with the run file")
+    for picture, rows, what in pictures:
+        picture = Seen(picture)
+        in_order(picture, rows, what)
+        since = held(picture, run_file, ring, log, what)
+    os.remove(rehearsed)
+    return picture, since
 
 
 # ---- the files
@@ -366,13 +450,27 @@ def generated():
         with open(path, "rb") as file:
             run_file = file.read()
         log = log_of(run_file)
-        if log.endswith(b"8,0\n"):
-            whole(run_file, path, 2)
-        elif log.count(b",") == 1:
+        if log.count(b",") == 1:
             refused(log, "refused by " + log.decode().split(",")[0])
             seen["refused"] += 1
         else:
-            whole(run_file, path)
+            whole(run_file, path, 2 * log.endswith(b"8,0\n"))
+
+
+def shuffled():
+    """Rings in other orders than that of the numbers, and a run file that gives number order by a line."""
+    numbers = random.Random(1)
+    for nodes in (1, 2, 3, 5, 12, 20, 48, 64):
+        orders = [list(range(nodes)), list(range(nodes))[::-1], numbers.sample(range(nodes), nodes)]
+        crashed = sorted(numbers.sample(range(nodes), nodes // 3))
+        for order in orders:
+            ring_line = b"Q,%s\n" % ",".join(map(str, order)).encode()
+            crashes = b"".join(b"C,%d,%d\n" % (31 + place // 3, node) for place, node in enumerate(crashed))
+            whole(b"P,%d,5,12,6,200\n" % nodes + ring_line + crashes, f"{nodes} nodes in the order {order}")
+    # Node 3 takes node 0 at tick 5 and node 1, which gets its O at tick 17, at tick 15; in number order it would take node 1 at tick 5.
+    whole(b"P,4,3,5,2,90\nQ,2,3,1,0\nC,1,2\nC,3,0\n", "an O from the second watch")
+    whole(b"P,8,2,3,1,60\nQ,0,4,2,6,1,5,3,7\nC,5,1\nC,5,6\nC,9,2\nC,20,7\n", "neighbours crash in a shuffled ring")
+    whole(b"P,64,1,34,33,200\nQ,%s\nC,30,5\n" % ",".join(map(str, range(63, -1, -1))).encode(), "2,049 in flight, backwards", 2)
 
 
 def known_ticks():
@@ -387,9 +485,10 @@ def known_ticks():
     check("No node crashes." in whole(b"P,1,1,2,1,5\n", "one node")[0].words("small"), "one node: not said that none crashes")
     check("No node survives." in whole(b"P,2,2,3,1,6\nC,3,0\nC,3,1\n", "two crash")[0].words("small"), "two crash: not said")
     whole(b"P,1,1,2,1,0\n", "tick 0 alone")
+    check(whole(b"P,4,2,3,1,8\nQ,2,0,3,1\nC,3,0\n", "a shuffled ring")[1] == 7, "a shuffled ring: not tick 7")
     by_hand = [("C,3,2,2", 0), ("W,6,0,2", 4), ("R,7,1,2", 4), ("W,9,0,1", 6), ("E,12,2,0", 4)]
     log = "".join(f"{line},{dead:016x}\n" for line, dead in by_hand).encode()
-    check(whole(b"P,3,", "a live node listed", log=log)[1] == 7, "a live node listed: not tick 7")
+    check(whole(b"P,3,2,3,1,12\n", "a live node listed", log=log)[1] == 7, "a live node listed: not tick 7")
 
 
 def many_nodes():
@@ -425,11 +524,13 @@ def main():
     incomplete(log)
     strange(log)
     forms(log)
+    other_run_files()
     committed(run_file, log)
     known_ticks()
     many_nodes()
+    shuffled()
     generated()
-    for outcome in ["mark", "lack", "none crashes", "none survives", "refused"]:
+    for outcome in ["mark", "lack", "none crashes", "none survives", "refused", "shuffled"]:
         check(seen[outcome], f"no file had the outcome: {outcome}")
     print("timeline: " + ", ".join(f"{outcome} {count}" for outcome, count in sorted(seen.items())))
 

@@ -51,7 +51,7 @@ struct Named {
 
 /// 64 nodes without crashes and L lines: 64 × D / H messages in flight; W is H + D.
 fn quiet(period: u64, delay: u64, end: u64) -> Draft {
-    Draft { nodes: 64, period, timeout: period + delay, delay, end, crashes: Vec::new(), delays: Vec::new() }
+    Draft { nodes: 64, period, timeout: period + delay, delay, end, order: Vec::new(), crashes: Vec::new(), delays: Vec::new() }
 }
 
 /// The five files that 02 asks for. The crashes leave 40 nodes, so that more than 1,000 messages are in flight to the end.

@@ -36,7 +36,7 @@ while [ "$rounds" -eq 0 ] || [ "$round" -le "$rounds" ]; do
     try "$out/lines" "$seed" 200000
     try "$out/host" "$seed"
     try "$out/readers" "$seed"
-    try sh tests/records.sh "$seed" 150
+    try sh tests/records.sh "$seed" 350
     seed=$((seed + 1000))
     round=$((round + 1))
 done

@@ -1,14 +1,16 @@
 """A log as a picture: the lines of a rehearsal (letter, tick, node, other, list) as a time line in SVG.
 
-Usage: timeline.py [LOG [PICTURE]]
+Usage: timeline.py [LOG [PICTURE [RUN-FILE]]]
 
 LOG and PICTURE are files; without them, or with -, standard input and output. A file PICTURE is written only once it is complete.
+RUN-FILE is the one that was rehearsed: where it has a Q line, the rows stand in the ring's order, which a log does not hold; else by number.
 Status 0: the log is drawn. Status 2: the log ends in a refused event and is drawn up to there. Status 1: nothing is drawn. Where the
 status is not 0, standard error says why.
 
 A row for each node, ticks across. A column's meaning is that of README.md's table of letters: on H, O and X `other` is the sender, on R the subject, on W the
 node listed, on S the observer. The log does not name the sender of a report, so a report is drawn at its receiver, without an arrow.
-An O is drawn from the expired watch that sent it: the list on that W line tells to whom it went.
+An O is drawn from the expired watch that sent it. The log tells which, whatever the ring's order: a node's next W line names the node to which it
+sent at the W line before.
 """
 import contextlib
 import os
@@ -23,11 +25,13 @@ NUMBER = "(0|[1-9][0-9]{0,6})"
 LOG_LINE = re.compile(f"([A-Z]),{NUMBER},{NUMBER},{NUMBER},([0-9a-f]{{16}})")
 REFUSAL = re.compile(f"{NUMBER},{NUMBER}")
 LETTERS = "CHORXWSE"
+START_LINE = re.compile(f"P,{NUMBER}(?:,{NUMBER}){{4}}")
+RING_LINE = re.compile(f"Q(?:,{NUMBER})+")
 
-# Document 01's numbers 1 to 8 in words. The rehearsal program answers with any of them but 7.
+# The numbers of refusals in words. The rehearsal program answers with any of these but 7.
 REFUSALS = {
     1: "the run file has no bytes, or more than 65,536",
-    2: "the form of the line: its letter, the number of its fields, a digit, its line feed, or the order of the letters P, C, L. Usual"
+    2: "the form of the line: its letter, the number of its fields, a digit, its line feed, or the order of the letters P, Q, C, L. Usual"
     " causes are a carriage return before the line feed, no line feed after the last line, a blank line, a space, a leading zero, and a"
     " byte order mark before the first line",
     3: "a number of the line is outside its range, or a node is not below N",
@@ -36,6 +40,7 @@ REFUSALS = {
     6: "there are more than 2,048 L lines",
     7: "the store has another length, a field out of range, or an unused byte that is not zero",
     8: "more than 2,048 messages would be in flight",
+    13: "the Q line does not name each node once",
 }
 
 LEFT, TOP = 76, 62
@@ -134,6 +139,38 @@ def read_log(text):
     return events[:-1], events[-1]
 
 
+def not_its_run_file(why):
+    fail(f"nothing is drawn, as the run file is not that of the log: {why}")
+
+
+def read_ring(text, nodes):
+    """The nodes in the ring's order, by the first two lines of a run file."""
+    first, second, *_ = [*text.split("\n"), ""]
+    start = START_LINE.fullmatch(first)
+    if not start:
+        not_its_run_file(f"it has no P line, but begins with {first[:40]!r}")
+    if int(start[1]) != nodes:
+        not_its_run_file(f"it has N = {start[1]}, but the nodes of the log are {nodes}")
+    in_number_order = list(range(nodes))
+    if second[:1] != "Q":
+        return in_number_order
+    ring = [int(number) for number in second.split(",")[1:]] if RING_LINE.fullmatch(second) else []
+    if sorted(ring) != in_number_order:
+        not_its_run_file(REFUSALS[13])
+    return ring
+
+
+def check_ring(ring, events):
+    """Until a watch expires each node sends to the next one of the ring, and the first watch that expires is on the one before."""
+    following = dict(zip(ring, ring[1:] + ring[:1]))
+    for number, event in enumerate(events, 1):
+        sender, observer = (event.other, event.node) if event.letter == "W" else (event.node, event.other)
+        if event.letter in "SW" and following[sender] != observer:
+            not_its_run_file(f"by line {number} of the log node {observer} follows node {sender} in the ring, by the run file node {following[sender]}")
+        if event.letter == "W":
+            return
+
+
 # ---- lists
 
 
@@ -188,12 +225,17 @@ def knowledge(nodes, events):
 class Picture:
     """Where things stand, and the elements drawn so far."""
 
-    def __init__(self, events, last):
+    def __init__(self, events, last, run_file):
         self.events, self.last = events, last
         named = max((max(event.node, event.other) + 1 for event in events), default=1)
         self.nodes = last.node + len(members(last.list)) if last else named
         if named > self.nodes or self.nodes > 64:
             fail(f"the log names node {named - 1}, but its last line counts {self.nodes} nodes")
+        self.ring = list(range(self.nodes))
+        if run_file is not None:
+            self.ring = read_ring(run_file, self.nodes)
+            check_ring(self.ring, events)
+        self.rows = {node: row for row, node in enumerate(self.ring)}
         self.end = last.tick if last else events[-1].tick
         width = min(WIDEST, max(NARROWEST, (self.end + 1) * TICK_WIDTH))
         self.scale = min(MOST_TICK_WIDTH, width / (self.end + 1))
@@ -213,7 +255,7 @@ class Picture:
         return round(LEFT + tick * self.scale, 1)
 
     def y(self, node):
-        return TOP + node * self.row + self.row // 2
+        return TOP + self.rows[node] * self.row + self.row // 2
 
     def bottom(self):
         return TOP + self.nodes * self.row
@@ -283,7 +325,7 @@ def draw_ticks(picture):
 
 
 def draw_rows(picture):
-    for node in range(picture.nodes):
+    for node in picture.ring:
         y, end = picture.y(node), picture.x(picture.end)
         crash = picture.x(picture.crashes.get(node, picture.end))
         if node in picture.crashes:
@@ -333,25 +375,17 @@ def draw_heartbeats(picture):
     return thin
 
 
-def emitter_after(picture, event):
-    """Whom the node of a W line observes from then on: the first node going back from the one listed that its list does not hold."""
-    node = event.other
-    for _ in range(picture.nodes):
-        node = (node - 1) % picture.nodes
-        if not event.list >> node & 1:
-            return node
-    return event.node
-
-
 def draw_observers(picture):
     """An arrow for each O, from the expired watch that sent it. Where the log does not show that watch, it is drawn upright."""
-    sent = {}
+    last, sent = {}, {}
     for event in picture.events:
         if event.letter == "W":
-            sent.setdefault((event.node, emitter_after(picture, event)), []).append(event.tick)
-        elif event.letter == "O":
-            waiting = sent.get((event.other, event.node))
-            tick = waiting.pop(0) if waiting else event.tick
+            sent[event.node, event.other] = last.get(event.node)
+            last[event.node] = event.tick
+    for event in picture.events:
+        if event.letter == "O":
+            tick = sent.get((event.other, event.node), last.get(event.other))
+            tick = event.tick if tick is None else min(tick, event.tick)
             picture.arrow(picture.x(tick), picture.y(event.other), picture.x(event.tick), picture.y(event.node))
 
 
@@ -448,13 +482,15 @@ def draw_legend(picture, lacks, labelled, thin):
         picture.text(round(x + 24, 1), y, words, "small")
         x += width
     note = "A log line names the subject of a report, not its sender, so a report stands at its receiver without an arrow."
+    if picture.ring != sorted(picture.ring):
+        note = "The rows stand in the ring's order. " + note
     if thin:
         note += " Of heartbeats, drops and reports that change nothing, not all are drawn."
     return picture.paragraph(y + LEGEND_ROW, note, "small faint")
 
 
-def draw(events, last):
-    picture = Picture(events, last)
+def draw(events, last, run_file):
+    picture = Picture(events, last, run_file)
     draw_grid(picture)
     draw_rows(picture)
     draw_lists(picture)
@@ -478,8 +514,11 @@ def draw(events, last):
 def read_text(path):
     if path == "-":
         return sys.stdin.buffer.read().decode("ascii", "replace")
-    with open(path, encoding="ascii", errors="replace", newline="") as file:
-        return file.read()
+    try:
+        with open(path, encoding="ascii", errors="replace", newline="") as file:
+            return file.read()
+    except OSError as error:
+        fail(f"{path}: {error.strerror}")
 
 
 def write_picture(path, picture):
@@ -504,16 +543,13 @@ def main(arguments):
     if arguments in (["-h"], ["--help"]):
         print(__doc__)
         return
-    if len(arguments) > 2:
-        fail("usage: timeline.py [LOG [PICTURE]]")
-    log, picture = (arguments + ["-", "-"])[:2]
+    if len(arguments) > 3:
+        fail("usage: timeline.py [LOG [PICTURE [RUN-FILE]]]")
+    log, picture, run_file = arguments + ["-", "-", None][len(arguments) :]
+    events, last = read_log(read_text(log))
+    drawn = draw(events, last, None if run_file is None else read_text(run_file))
     try:
-        text = read_text(log)
-    except OSError as error:
-        fail(f"{log}: {error.strerror}")
-    events, last = read_log(text)
-    try:
-        write_picture(picture, draw(events, last))
+        write_picture(picture, drawn)
     except OSError as error:
         fail(f"{picture}: {error.strerror}")
     if last is None:

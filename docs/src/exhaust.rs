@@ -1,5 +1,5 @@
-//! All runs of a small ring: every delay from 1 to D of every message, every crash at every tick, up to an
-//! end tick. It asks demand 3's words of the state after each event.
+//! All runs of a small ring, in number order or another: every delay from 1 to D of every message, every crash at
+//! every tick, up to an end tick. It asks demand 3's words of the state after each event.
 //!
 //! The search goes from tick to tick. Ticks are counted from the state's own, and what can no longer matter
 //! is left out, so that states which go on alike are one and are met once; where no new state comes up, the
@@ -7,7 +7,7 @@
 
 use super::node::{Content, Node, Sends, Settings, Timer};
 use super::plan::{Crash, Delay, Plan};
-use super::ring::{self, Ring};
+use super::ring;
 use super::settle;
 use std::collections::HashMap;
 
@@ -23,10 +23,12 @@ pub enum Rules {
     ShortSettling,
 }
 
-/// What is searched: N, H, W, D, the end tick and the rules. W may be below H + D.
-#[derive(Clone, Copy, Debug)]
+/// What is searched: N, the ring's order, H, W, D, the end tick and the rules. W may be below H + D.
+#[derive(Clone, Debug)]
 pub struct Search {
     pub nodes: u8,
+    /// The numbers of a Q line; none for the order of the nodes' numbers.
+    pub order: Vec<u8>,
     pub period: u32,
     pub timeout: u32,
     pub delay: u32,
@@ -92,10 +94,9 @@ struct State {
 }
 
 impl State {
-    fn open(search: &Search) -> State {
-        let settings = search.settings();
+    fn open(settings: &Settings) -> State {
         State {
-            nodes: (0..search.nodes).map(|number| Node::open(&settings, number)).collect(),
+            nodes: (0..settings.ring.nodes()).map(|number| Node::open(settings, number)).collect(),
             flights: Vec::new(),
             idle: 0,
             crashes: Crashes::None,
@@ -134,7 +135,7 @@ impl State {
     }
 
     /// The state at the start of the next tick, without what can no longer matter.
-    fn next_tick(mut self, search: &Search) -> State {
+    fn next_tick(mut self, search: &Search, settings: &Settings) -> State {
         self.idle &= !1;
         for flight in std::mem::take(&mut self.flights) {
             self.put(flight);
@@ -146,7 +147,7 @@ impl State {
                 node.watch = node.watch.map(|due| due - 1);
                 node.heartbeat = node.heartbeat.map(|due| due - 1);
             } else {
-                *node = Node { alive: false, ..Node::open(&search.settings(), node.number) };
+                *node = Node { alive: false, ..Node::open(settings, node.number) };
             }
         }
         if let Crashes::Spaced(since) = &mut self.crashes {
@@ -188,7 +189,7 @@ impl State {
 
 impl Search {
     fn settings(&self) -> Settings {
-        Settings { ring: Ring { nodes: self.nodes }, period: self.period, timeout: self.timeout }
+        Settings { ring: self.plan(&[]).ring(), period: self.period, timeout: self.timeout }
     }
 
     /// S after a crash that left these nodes.
@@ -235,6 +236,7 @@ struct Choice {
 /// The states met so far, each with the state and the choice that first led to it.
 struct Tree<'search> {
     search: &'search Search,
+    settings: Settings,
     ids: HashMap<Box<[u8]>, usize>,
     states: Vec<State>,
     led_by: Vec<(usize, Choice)>,
@@ -252,6 +254,7 @@ impl<'search> Tree<'search> {
     fn new(search: &'search Search) -> Tree<'search> {
         let mut tree = Tree {
             search,
+            settings: search.settings(),
             ids: HashMap::new(),
             states: Vec::new(),
             led_by: Vec::new(),
@@ -262,7 +265,7 @@ impl<'search> Tree<'search> {
             from: 0,
             key: Vec::new(),
         };
-        tree.meet(State::open(search));
+        tree.meet(State::open(&tree.settings));
         tree
     }
 
@@ -325,7 +328,6 @@ impl<'search> Tree<'search> {
     fn go_on(&mut self, mut state: State) -> Option<Finding> {
         let timer = state.due_timer();
         let delivery = state.flights.first().is_some_and(|flight| flight.due == 0);
-        let settings = self.search.settings();
         let (number, sends) = match timer {
             Some(timer) if !delivery || self.search.rules == Rules::TimersFirst => {
                 self.expire(&mut state, timer)
@@ -334,7 +336,7 @@ impl<'search> Tree<'search> {
                 let Flight { sender, receiver, content, .. } = state.flights.remove(0);
                 let node = &mut state.nodes[usize::from(receiver)];
                 let alive = node.alive;
-                let sends = if alive { node.deliver(&settings, 0, sender, content) } else { Sends::none() };
+                let sends = if alive { node.deliver(&self.settings, 0, sender, content) } else { Sends::none() };
                 (receiver, sends)
             }
             _ => return self.end_tick(state),
@@ -343,14 +345,13 @@ impl<'search> Tree<'search> {
     }
 
     fn expire(&self, state: &mut State, (number, timer): (usize, Timer)) -> (u8, Sends) {
-        let settings = self.search.settings();
         let node = &mut state.nodes[number];
         let sends = match timer {
-            Timer::Watch => node.expire_watch(&settings, 0),
-            Timer::Heartbeat => node.send_heartbeat(&settings, 0),
+            Timer::Watch => node.expire_watch(&self.settings, 0),
+            Timer::Heartbeat => node.send_heartbeat(&self.settings, 0),
         };
         if self.search.rules == Rules::ShortWatch && timer == Timer::Watch {
-            node.watch = node.watch.map(|_| settings.timeout);
+            node.watch = node.watch.map(|_| self.settings.timeout);
         }
         (number as u8, sends)
     }
@@ -377,7 +378,7 @@ impl<'search> Tree<'search> {
         if finding.is_some() {
             return finding;
         }
-        let id = self.meet(state.next_tick(self.search));
+        let id = self.meet(state.next_tick(self.search, &self.settings));
         self.leads.push(id);
         None
     }
@@ -397,7 +398,7 @@ impl<'search> Tree<'search> {
         let Crashes::Spaced(since) = state.crashes else { return None };
         let time = self.search.settling_time(&state.nodes);
         let passed = state.earliest_due().is_none_or(|due| since + due >= time);
-        (passed && !settle::settled(self.search.settings().ring, &state.nodes)).then_some(Finding::Unsettled)
+        (passed && !settle::settled(&self.settings.ring, &state.nodes)).then_some(Finding::Unsettled)
     }
 
     /// The choices that first led to a state, from the first tick on.
@@ -454,6 +455,7 @@ impl Search {
             timeout: self.timeout,
             delay: self.delay,
             end: self.end,
+            order: self.order.clone(),
             crashes: crashes.collect(),
             delays: delays.map(|(delay, number)| Delay { number, delay: u32::from(*delay) }).collect(),
         }
@@ -465,7 +467,8 @@ mod tests {
     use super::super::platform::{Platform, Step};
     use super::*;
 
-    const SMALL: Search = Search { nodes: 3, period: 1, timeout: 3, delay: 2, end: 40, rules: Rules::Paper };
+    const SMALL: Search =
+        Search { nodes: 3, order: Vec::new(), period: 1, timeout: 3, delay: 2, end: 40, rules: Rules::Paper };
 
     /// What a state and a platform have in common at the start of a tick: the live nodes, with their timers
     /// counted from that tick, and the messages that matter, by due tick.
@@ -491,17 +494,27 @@ mod tests {
         (nodes.collect(), flights)
     }
 
-    /// The platform comes to each state of the search by the plan of the choices that led to it.
+    /// Four nodes, each of which has one neighbour that is none in number order.
+    fn shuffled() -> Search {
+        Search { nodes: 4, order: vec![0, 2, 1, 3], ..SMALL }
+    }
+
     #[test]
     fn the_platform_comes_to_the_same_states() {
-        let mut tree = Tree::new(&SMALL);
+        compare_states(&SMALL);
+        compare_states(&shuffled());
+    }
+
+    /// The platform comes to each state of the search by the plan of the choices that led to it.
+    fn compare_states(search: &Search) {
+        let mut tree = Tree::new(search);
         let mut id = 0;
         while id < tree.states.len() && id < 2_000 {
             assert_eq!(tree.expand(id), None);
             let choices = tree.choices(id);
             let tick = choices.len() as u32;
             if let Some(end) = tick.checked_sub(1) {
-                let mut platform = Platform::open(Plan { end, ..SMALL.plan(&choices) });
+                let mut platform = Platform::open(Plan { end, ..search.plan(&choices) });
                 platform.run(u64::MAX);
                 let state = &tree.states[id];
                 let live: Vec<Node> = state.nodes.iter().filter(|node| node.alive).copied().collect();
@@ -536,23 +549,35 @@ mod tests {
         assert!(outcome.closed.is_some() && outcome.states > 4_000);
     }
 
+    /// With D = 1 no delay is left to choose: the ring's order and the order of numbers within a tick decide.
+    #[test]
+    fn nothing_is_found_in_another_order() {
+        let outcome = Search { delay: 1, timeout: 2, ..shuffled() }.explore();
+        assert_eq!(outcome.found, None);
+        assert!(outcome.closed.is_some() && outcome.states > 300);
+    }
+
     /// The run that is found lists a live node at that tick by the platform's events too.
     #[test]
     fn a_time_out_one_tick_short_lists_a_live_node() {
-        let found = Search { timeout: 2, ..SMALL }.explore().found.expect("a live node is listed");
-        assert_eq!((found.finding, found.tick), (Finding::LiveNodeListed, 2));
-        let mut platform = Platform::open(found.plan);
-        while settle::no_live_node_listed(platform.nodes()) {
-            assert!(matches!(platform.step(), Step::Event(_)));
+        for search in [SMALL, shuffled()] {
+            let found = Search { timeout: 2, ..search }.explore().found.expect("a live node is listed");
+            assert_eq!((found.finding, found.tick), (Finding::LiveNodeListed, 2));
+            let mut platform = Platform::open(found.plan);
+            while settle::no_live_node_listed(platform.nodes()) {
+                assert!(matches!(platform.step(), Step::Event(_)));
+            }
+            assert_eq!(platform.last_tick(), found.tick);
         }
-        assert_eq!(platform.last_tick(), found.tick);
     }
 
     #[test]
     fn wrong_rules_are_found() {
-        let finding = |rules| Search { rules, ..SMALL }.explore().found.map(|found| found.finding);
-        assert_eq!(finding(Rules::ShortWatch), Some(Finding::LiveNodeListed));
-        assert_eq!(finding(Rules::TimersFirst), Some(Finding::LiveNodeListed));
-        assert_eq!(finding(Rules::ShortSettling), Some(Finding::Unsettled));
+        let finding = |rules, search| Search { rules, ..search }.explore().found.map(|found| found.finding);
+        assert_eq!(finding(Rules::ShortWatch, SMALL), Some(Finding::LiveNodeListed));
+        assert_eq!(finding(Rules::TimersFirst, SMALL), Some(Finding::LiveNodeListed));
+        assert_eq!(finding(Rules::ShortSettling, SMALL), Some(Finding::Unsettled));
+        assert_eq!(finding(Rules::TimersFirst, shuffled()), Some(Finding::LiveNodeListed));
+        assert_eq!(finding(Rules::ShortSettling, shuffled()), Some(Finding::Unsettled));
     }
 }

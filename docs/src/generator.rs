@@ -1,7 +1,8 @@
 //! A seeded generator of run files, good and damaged. A file depends on its seed and index alone.
 //!
 //! `file(seed, index, size)` gives the bytes of one file, `plan(seed, index)` an undamaged one, `spaced_plan(seed, index)` one whose
-//! crashes are all spaced by S; `crowd(order)` is a plan that brings 2,048 messages into flight, due in that order.
+//! crashes are all spaced by S; `crowd(order)` is a plan that brings 2,048 messages into flight, due in that order; `some_order` is an
+//! order of a ring's nodes, or none.
 
 use super::limits::{FILE_BYTES, MAX_DELAY_ROWS};
 use super::random::Random;
@@ -28,6 +29,8 @@ pub struct Draft {
     pub timeout: u64,
     pub delay: u64,
     pub end: u64,
+    /// The numbers of the Q line; none where there is no such line.
+    pub order: Vec<u64>,
     pub crashes: Vec<(u64, u64)>,
     pub delays: Vec<(u64, u64)>,
 }
@@ -36,6 +39,9 @@ impl Draft {
     pub fn bytes(&self) -> Vec<u8> {
         let Draft { nodes, period, timeout, delay, end, .. } = self;
         let mut text = format!("P,{nodes},{period},{timeout},{delay},{end}\n");
+        if !self.order.is_empty() {
+            text += &order_line(&self.order);
+        }
         for (tick, node) in &self.crashes {
             writeln!(text, "C,{tick},{node}").expect("a string takes every byte");
         }
@@ -45,11 +51,26 @@ impl Draft {
         text.into_bytes()
     }
 
+    /// The nodes in the ring's order.
+    fn ring(&self) -> Vec<u64> {
+        if self.order.is_empty() {
+            (0..self.nodes).collect()
+        } else {
+            self.order.clone()
+        }
+    }
+
     /// S = W + (K + 2) × D, where this many survive.
     fn settling_time(&self, survivors: u64) -> u64 {
         let rounded_up = u64::from(survivors.max(1).next_power_of_two().trailing_zeros());
         self.timeout + (rounded_up + 2) * self.delay
     }
+}
+
+/// A Q line with these fields.
+fn order_line<T: ToString>(fields: &[T]) -> String {
+    let fields: String = fields.iter().map(|field| format!(",{}", field.to_string())).collect();
+    format!("Q{fields}\n")
 }
 
 /// One file: about one in three is damaged.
@@ -107,6 +128,7 @@ pub fn crowd(order: Order) -> Draft {
         timeout: 256,
         delay: 255,
         end: 600,
+        order: Vec::new(),
         crashes: (0..64).map(|node| (33, node)).collect(),
         delays: (0..CROWD).map(|number| (number, delay_of(number))).collect(),
     }
@@ -131,7 +153,7 @@ fn draft(random: &mut Random, size: Size) -> Draft {
     draft
 }
 
-/// The P line. The end tick keeps the events few.
+/// The P line and possibly a Q line. The end tick keeps the events few.
 fn open_draft(random: &mut Random, size: Size) -> Draft {
     let sizes = [1, 2, 3, 4, 5, 8, 9, 16, 17, 33, 63, 64];
     let nodes = if random.chance(2) { random.pick(&sizes) } else { random.range(1, 64) };
@@ -146,7 +168,31 @@ fn open_draft(random: &mut Random, size: Size) -> Draft {
         _ => most_end,
     };
     let timeout = period + delay + above;
-    Draft { nodes, period, timeout, delay, end, crashes: Vec::new(), delays: Vec::new() }
+    let order = some_order(random, nodes);
+    Draft { nodes, period, timeout, delay, end, order, crashes: Vec::new(), delays: Vec::new() }
+}
+
+/// Half of the time none. Else mostly any order, or one that a planner would write: that of the numbers, rotated or
+/// reversed; the nodes of each power supply as far apart as can be; those of each together, but the supplies mixed.
+pub fn some_order(random: &mut Random, nodes: u64) -> Vec<u64> {
+    if random.chance(2) {
+        return Vec::new();
+    }
+    let mut order: Vec<u64> = (0..nodes).collect();
+    let supply = random.pick(&[2, 3, 4, 8]);
+    match random.range(0, 11) {
+        0 => {}
+        1 => order.rotate_left(random.below(nodes) as usize),
+        2 => order.reverse(),
+        3 => order.sort_by_key(|node| (node % supply, *node)),
+        4 => {
+            let mut supplies: Vec<&[u64]> = order.chunks(supply as usize).collect();
+            random.shuffle(&mut supplies);
+            order = supplies.concat();
+        }
+        _ => random.shuffle(&mut order),
+    }
+    order
 }
 
 /// A plan whose heartbeats alone bring about 2,048 messages into flight.
@@ -157,7 +203,8 @@ fn crowded_draft(random: &mut Random) -> Draft {
     let delay = 2_048 * period / nodes + random.pick(&[0, 0, 1]);
     let timeout = period + delay + random.pick(&[0, 0, 1, 20]);
     let end = 2 * timeout + random.range(0, 60);
-    let mut draft = Draft { nodes, period, timeout, delay, end, crashes: Vec::new(), delays: Vec::new() };
+    let order = some_order(random, nodes);
+    let mut draft = Draft { nodes, period, timeout, delay, end, order, crashes: Vec::new(), delays: Vec::new() };
     if random.chance(2) {
         crash_anywhere(random, &mut draft);
     }
@@ -183,25 +230,33 @@ fn crash_anywhere(random: &mut Random, draft: &mut Draft) {
     put_crashes(draft, rows);
 }
 
+/// All nodes in a row, from any on: in the ring's order or, as they share a power supply, by number.
+fn in_a_row(random: &mut Random, draft: &Draft) -> Vec<u64> {
+    let mut row = if random.chance(2) { draft.ring() } else { (0..draft.nodes).collect() };
+    row.rotate_left(random.below(draft.nodes) as usize);
+    row
+}
+
 /// Neighbours in a row, all at one tick.
 fn crash_block(random: &mut Random, draft: &mut Draft) {
-    let count = random.range(1, draft.nodes);
-    let first = random.range(0, draft.nodes - 1);
+    let count = random.range(1, draft.nodes) as usize;
+    let row = in_a_row(random, draft);
     let tick = random.range(0, draft.end.min(2 * draft.timeout));
-    let rows = (0..count).map(|place| (tick, (first + place) % draft.nodes)).collect();
-    put_crashes(draft, rows);
+    put_crashes(draft, row[..count].iter().map(|node| (tick, *node)).collect());
 }
 
 /// Neighbours one after another, going ahead or back, a few ticks apart.
 fn crash_neighbours(random: &mut Random, draft: &mut Draft) {
-    let count = random.range(1, draft.nodes);
-    let first = random.range(0, draft.nodes - 1);
+    let count = random.range(1, draft.nodes) as usize;
+    let mut row = in_a_row(random, draft);
+    if random.chance(2) {
+        row.reverse();
+    }
     let pace = random.pick(&[1, draft.delay, draft.timeout, draft.timeout + draft.delay]);
-    let stride = random.pick(&[1, draft.nodes - 1]).max(1);
     let mut tick = random.range(0, draft.end.min(draft.timeout));
     let mut rows = Vec::new();
-    for place in 0..count {
-        rows.push((tick, (first + place * stride) % draft.nodes));
+    for node in &row[..count] {
+        rows.push((tick, *node));
         tick += random.range(0, pace);
     }
     put_crashes(draft, rows);
@@ -271,7 +326,7 @@ fn runs_long(bytes: &[u8], most_events: u64) -> bool {
 }
 
 fn damage_once(random: &mut Random, bytes: &mut Vec<u8>) {
-    match random.range(0, 12) {
+    match random.range(0, 15) {
         0 => change_byte(random, bytes),
         1 => drop_byte(random, bytes),
         2 => add_byte(random, bytes),
@@ -283,11 +338,12 @@ fn damage_once(random: &mut Random, bytes: &mut Vec<u8>) {
         8 => change_number(random, bytes),
         9 | 11 => add_rows(random, bytes),
         10 => bytes.truncate(random.range(0, bytes.len() as u64) as usize),
-        _ => drop_line(random, bytes),
+        12 => drop_line(random, bytes),
+        _ => damage_order(random, bytes),
     }
 }
 
-/// A place in the file; half of the time near its start, where the P and C lines are.
+/// A place in the file; half of the time near its start, where the P line is, a Q line and the first C lines.
 fn place(random: &mut Random, bytes: &[u8]) -> usize {
     let length = bytes.len() as u64;
     let last = if random.chance(2) { length.min(40) } else { length };
@@ -296,7 +352,7 @@ fn place(random: &mut Random, bytes: &[u8]) -> usize {
 
 /// Half of the time a byte that a run file may hold.
 fn some_byte(random: &mut Random) -> u8 {
-    let usual = b"0123456789PCL,\n\r +-.\0\xff";
+    let usual = b"0123456789PQCL,\n\r +-.\0\xff";
     if random.chance(2) {
         random.pick(usual)
     } else {
@@ -405,5 +461,105 @@ fn add_rows(random: &mut Random, bytes: &mut Vec<u8>) {
     let base = random.pick(&[0, 10_000, 900_000, 900_000]);
     for row in 0..rows {
         bytes.extend_from_slice(format!("{letter},{},1\n", base + row).as_bytes());
+    }
+}
+
+/// Damages the Q line, or puts one in and damages it.
+fn damage_order(random: &mut Random, bytes: &mut Vec<u8>) {
+    with_lines(bytes, |lines| {
+        let nodes = String::from_utf8_lossy(&lines[0]).split(',').nth(1).and_then(|field| field.parse().ok());
+        let nodes = nodes.filter(|nodes| (1..=64).contains(nodes)).unwrap_or(5);
+        if lines.get(1).is_none_or(|line| line[0] != b'Q') {
+            lines.insert(1, order_line(&(0..nodes).collect::<Vec<u64>>()).into_bytes());
+        }
+        if random.chance(4) {
+            misplace_order(random, lines);
+        } else {
+            let line = String::from_utf8_lossy(&lines[1]);
+            let mut fields = line.trim_end().split(',').skip(1).map(str::to_string).collect();
+            damage_fields(random, &mut fields, nodes);
+            lines[1] = order_line(&fields).into_bytes();
+        }
+    });
+}
+
+/// The Q line before P, twice, or after other lines.
+fn misplace_order(random: &mut Random, lines: &mut Vec<Vec<u8>>) {
+    let last = lines.len();
+    let later = random.range(2, last as u64) as usize;
+    match random.range(0, 2) {
+        0 => lines.swap(0, 1),
+        1 => lines.insert(random.pick(&[2, later]), lines[1].clone()),
+        _ => lines[1..random.pick(&[3, later]).min(last)].rotate_left(1),
+    }
+}
+
+/// A node twice, a number that no node has, a field too few or too many, no field, or one that is no number.
+fn damage_fields(random: &mut Random, fields: &mut Vec<String>, nodes: u64) {
+    if fields.is_empty() {
+        return fields.push(String::new());
+    }
+    let [one, other] = [0; 2].map(|_| random.below(fields.len() as u64) as usize);
+    let beyond = random.pick(&[nodes, nodes, nodes + 1, 64, 255, 256, 1 << 32]);
+    match random.range(0, 10) {
+        0..=2 => fields[one] = fields[other].clone(),
+        3 => fields[one] = beyond.to_string(),
+        4 => drop(fields.remove(one)),
+        5 => fields.push(random.below(nodes).to_string()),
+        6 => fields.push(String::new()),
+        7 => fields[one].insert(0, '0'),
+        8 => fields[one].push(' '),
+        9 => fields.clear(),
+        _ => *fields = vec![beyond.to_string(); fields.len() - random.below(2) as usize],
+    }
+}
+
+#[cfg(test)]
+mod tests {
+    use super::super::plan;
+    use super::*;
+
+    /// About half of the good files have a Q line. Among rings of more than four nodes, each kind of order comes up, and most
+    /// have neighbours that are none in number order.
+    #[test]
+    fn half_of_the_good_files_have_an_order() {
+        let order_of = |index| plan::read(&plan(101, index)).expect("the file is accepted").order;
+        let orders: Vec<Vec<u8>> = (0..2_000).map(order_of).filter(|order| !order.is_empty()).collect();
+        assert!((900..1_100).contains(&orders.len()), "{} files have a Q line", orders.len());
+        let large: Vec<&Vec<u8>> = orders.iter().filter(|order| order.len() > 4).collect();
+        let steps = |order: &[u8]| -> Vec<i16> {
+            order.windows(2).map(|pair| i16::from(pair[1]) - i16::from(pair[0])).collect()
+        };
+        let count = |is_such: fn(&[i16]) -> bool| large.iter().filter(|order| is_such(&steps(order))).count();
+        let rising = count(|steps| steps.iter().all(|step| *step == 1));
+        let falling = count(|steps| steps.iter().all(|step| *step == -1));
+        let rotated = count(|steps| steps.iter().filter(|step| **step != 1).count() == 1);
+        let apart = count(|steps| steps.iter().all(|step| *step != 1 && *step != -1));
+        let mixed = count(|steps| steps.iter().filter(|step| step.abs() != 1).count() > 1);
+        for (kind, count) in [("rising", rising), ("falling", falling), ("rotated", rotated), ("apart", apart)] {
+            assert!(count > 20, "{count} orders are {kind}");
+        }
+        assert!(mixed * 3 > large.len() * 2, "{mixed} of {} orders are mixed", large.len());
+    }
+
+    /// Damaged files have bad Q lines in the second place, refused by each number that there is, and Q lines in others.
+    #[test]
+    fn damaged_orders_are_refused_in_every_way() {
+        let mut refused = [0; 14];
+        let mut misplaced = [0; 3];
+        for index in 0..4_000 {
+            let file = file(101, index, SMALL);
+            let Err(refusal) = plan::read(&file) else { continue };
+            let line = refusal.line.checked_sub(1).and_then(|place| file.split(|byte| *byte == b'\n').nth(place));
+            match refusal.line {
+                _ if line.is_none_or(|line| line.first() != Some(&b'Q')) => {}
+                1 => misplaced[0] += 1,
+                2 => refused[usize::from(refusal.number)] += 1,
+                3 => misplaced[1] += 1,
+                _ => misplaced[2] += 1,
+            }
+        }
+        assert!([2, 3, 13].into_iter().all(|number: usize| refused[number] > 20), "Q lines refused by number: {refused:?}");
+        assert!(misplaced.iter().all(|count| *count > 10), "Q lines in line 1, 3 and below: {misplaced:?}");
     }
 }

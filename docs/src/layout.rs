@@ -26,7 +26,9 @@ pub const LAST_TICK: Field = field(12, 4, 1);
 pub const NEXT_NUMBER: Field = field(16, 8, 1);
 pub const DELAYS: Field = field(24, 2, 1);
 pub const MESSAGES: Field = field(26, 2, 1);
-pub const UNUSED_HEAD: Field = field(28, 1, 100);
+pub const ORDERED: Field = field(28, 1, 1);
+pub const UNUSED_HEAD: Field = field(29, 1, 35);
+pub const ORDER: Field = field(64, 1, 64);
 pub const EMITTER: Field = field(128, 1, 64);
 pub const OBSERVER: Field = field(192, 1, 64);
 pub const WATCH: Field = field(256, 4, 64);
@@ -49,22 +51,27 @@ pub const UNUSED_TAIL: Field = field(45_120, 1, 20_416);
 #[derive(Clone, Copy)]
 pub struct Counts {
     pub nodes: usize,
+    /// The numbers of the Q line: none, or one for each node.
+    pub ordered: usize,
     pub crashes: usize,
     pub delays: usize,
     pub messages: usize,
 }
 
 impl Counts {
-    /// The counts in the bytes; nothing where there are more rows or messages than a store may have.
+    /// The counts in the bytes; nothing where there are more rows or messages than a store may have, or other than N
+    /// numbers of a Q line.
     pub fn read(bytes: &[u8]) -> Option<Counts> {
         let count = |field| get(bytes, field, 0) as usize;
         let counts = Counts {
             nodes: count(NODES),
+            ordered: count(ORDERED),
             crashes: count(CRASHES),
             delays: count(DELAYS),
             messages: count(MESSAGES),
         };
         let room = (1..=MAX_NODES as usize).contains(&counts.nodes)
+            && [0, counts.nodes].contains(&counts.ordered)
             && counts.crashes <= counts.nodes
             && counts.delays <= MAX_DELAY_ROWS
             && counts.messages <= MAX_IN_FLIGHT;
@@ -72,8 +79,8 @@ impl Counts {
     }
 
     /// Every field of the store with the number of its places that are used.
-    pub fn fields(&self) -> [(Field, usize); 29] {
-        let Counts { nodes, crashes, delays, messages } = *self;
+    pub fn fields(&self) -> [(Field, usize); 31] {
+        let Counts { nodes, ordered, crashes, delays, messages } = *self;
         [
             (NODES, 1),
             (LONGEST_DELAY, 1),
@@ -86,7 +93,9 @@ impl Counts {
             (NEXT_NUMBER, 1),
             (DELAYS, 1),
             (MESSAGES, 1),
+            (ORDERED, 1),
             (UNUSED_HEAD, 0),
+            (ORDER, ordered),
             (EMITTER, nodes),
             (OBSERVER, nodes),
             (WATCH, nodes),
@@ -134,7 +143,7 @@ mod tests {
 
     #[test]
     fn the_fields_fill_the_store_one_after_another() {
-        let none = Counts { nodes: 0, crashes: 0, delays: 0, messages: 0 };
+        let none = Counts { nodes: 0, ordered: 0, crashes: 0, delays: 0, messages: 0 };
         let end = none.fields().into_iter().fold(0, |end, (field, _)| {
             assert_eq!(field.start, end);
             end + field.width * field.places

@@ -1,4 +1,4 @@
-//! The figures of document 01, each named once, and the numbers by which a call is turned down.
+//! The figures of documents 01 and 02, each named once, and the numbers by which a call is turned down.
 
 /// N is 1 to this.
 pub const MAX_NODES: u64 = 64;
@@ -59,3 +59,5 @@ pub const REFUSED_PART: u8 = 9;
 pub const REFUSED_MESSAGE: u8 = 11;
 /// A node call's tick before the record's last tick, or above `MAX_TICK`.
 pub const REFUSED_TICK: u8 = 12;
+/// A Q line that does not have each node once.
+pub const REFUSED_RING: u8 = 13;

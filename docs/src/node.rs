@@ -89,7 +89,7 @@ impl Node {
             heartbeat: Some(settings.period),
             dead_list: 0,
         };
-        if settings.ring.nodes == 1 {
+        if settings.ring.nodes() == 1 {
             node.become_alone();
         }
         node
@@ -191,7 +191,7 @@ pub fn crashed(nodes: &[Node]) -> u64 {
 mod tests {
     use super::*;
 
-    const EIGHT: Settings = Settings { ring: Ring { nodes: 8 }, period: 2, timeout: 10 };
+    const EIGHT: Settings = Settings { ring: Ring::of(8), period: 2, timeout: 10 };
 
     fn reports(subject: u8, targets: &[u8]) -> Vec<Sent> {
         targets
@@ -207,7 +207,30 @@ mod tests {
         assert_eq!((node.alive, node.dead_list), (true, 0));
         let last = Node::open(&EIGHT, 7);
         assert_eq!((last.emitter, last.observer), (6, 0));
-        let alone = Node::open(&Settings { ring: Ring { nodes: 1 }, ..EIGHT }, 0);
+        let alone = Node::open(&Settings { ring: Ring::of(1), ..EIGHT }, 0);
+        assert_eq!((alone.emitter, alone.observer, alone.watch, alone.heartbeat), (0, 0, None, None));
+    }
+
+    /// 2 → 0 → 3 → 1 → 2. Node 3 observes 0 and sends to 1. When its watch expires, it goes back to 2 and reports to the
+    /// nodes one and two ahead, 1 and 2; when it expires again, it goes back to 1 and reports to 1, the only other left.
+    #[test]
+    fn a_node_goes_by_the_order_of_its_ring() {
+        let settings = Settings { ring: Ring::in_order(&[2, 0, 3, 1]), ..EIGHT };
+        let mut node = Node::open(&settings, 3);
+        assert_eq!((node.emitter, node.observer, node.watch, node.heartbeat), (0, 1, Some(10), Some(2)));
+        let sends = node.expire_watch(&settings, 10);
+        assert_eq!((node.emitter, node.dead_list, node.watch), (2, 0b0001, Some(30)));
+        let observer = |receiver| vec![Sent { receiver, content: Content::NewObserver }];
+        assert_eq!(sends.as_slice(), [observer(2), reports(0, &[1, 2])].concat());
+        let sends = node.expire_watch(&settings, 30);
+        assert_eq!((node.emitter, node.dead_list, node.watch), (1, 0b0101, Some(50)));
+        assert_eq!(sends.as_slice(), [observer(1), reports(2, &[1])].concat());
+        assert!(node.expire_watch(&settings, 50).as_slice().is_empty());
+        assert_eq!((node.emitter, node.observer, node.watch, node.heartbeat), (3, 3, None, None));
+        let mut other = Node::open(&settings, 2);
+        let sends = other.deliver(&settings, 4, 1, Content::Report { subject: 0 });
+        assert_eq!(sends.as_slice(), reports(0, &[3, 1]));
+        let alone = Node::open(&Settings { ring: Ring::in_order(&[0]), ..EIGHT }, 0);
         assert_eq!((alone.emitter, alone.observer, alone.watch, alone.heartbeat), (0, 0, None, None));
     }
 
@@ -242,7 +265,7 @@ mod tests {
 
     #[test]
     fn a_node_alone_takes_a_new_observer() {
-        let two = Settings { ring: Ring { nodes: 2 }, ..EIGHT };
+        let two = Settings { ring: Ring::of(2), ..EIGHT };
         let mut node = Node::open(&two, 0);
         node.expire_watch(&two, 10);
         node.deliver(&two, 11, 1, Content::NewObserver);
@@ -315,8 +338,8 @@ mod tests {
 
     #[test]
     fn a_full_ring_sends_seven_messages() {
-        let mut node = Node::open(&Settings { ring: Ring { nodes: 64 }, ..EIGHT }, 0);
-        let sends = node.expire_watch(&Settings { ring: Ring { nodes: 64 }, ..EIGHT }, 10);
+        let mut node = Node::open(&Settings { ring: Ring::of(64), ..EIGHT }, 0);
+        let sends = node.expire_watch(&Settings { ring: Ring::of(64), ..EIGHT }, 10);
         assert_eq!(sends.as_slice().len(), 1 + 5 + 1);
     }
 

@@ -1,8 +1,9 @@
-//! The run file: one `P,N,H,W,D,end`, then `C,tick,node` lines, then `L,number,delay` lines.
-//! The reader tries 01's places downwards and its lines one after another.
+//! The run file: one `P,N,H,W,D,end`, then possibly one `Q` with N node numbers, then `C,tick,node` lines, then
+//! `L,number,delay` lines. The reader tries 01's places downwards and its lines one after another.
 
 use super::fields;
 use super::limits::*;
+use super::ring::Ring;
 use std::io::Write;
 
 /// A line `C,tick,node`: the node crashes at the tick.
@@ -32,6 +33,8 @@ pub struct Plan {
     pub delay: u32,
     /// The last tick whose events are done.
     pub end: u32,
+    /// The numbers of the Q line, "the ring in that order"; none where there is no Q line.
+    pub order: Vec<u8>,
     pub crashes: Vec<Crash>,
     pub delays: Vec<Delay>,
 }
@@ -62,7 +65,8 @@ pub fn read(file: &[u8]) -> Result<Plan, Refusal> {
 
 /// The first line, which has to be P: form, ranges, then "W below H + D".
 fn read_first(line: &[u8]) -> Result<Plan, u8> {
-    let Some((b'P', [nodes, period, timeout, delay, end])) = form(line) else { return Err(REFUSED_FORM) };
+    let (letter, numbers) = form(line)?;
+    let (b'P', &[nodes, period, timeout, delay, end]) = (letter, &numbers[..]) else { return Err(REFUSED_FORM) };
     let in_range = (1..=MAX_NODES).contains(&nodes)
         && (1..=MAX_PERIOD).contains(&period)
         && (1..=MAX_TIMEOUT).contains(&timeout)
@@ -80,19 +84,35 @@ fn read_first(line: &[u8]) -> Result<Plan, u8> {
         timeout: timeout as u32,
         delay: delay as u32,
         end: end as u32,
+        order: Vec::new(),
         crashes: Vec::new(),
         delays: Vec::new(),
     })
 }
 
-/// A line after the first: C until the first L, then L.
+/// A line after the first: Q right after P, C until the first L, then L.
 fn read_next(mut plan: Plan, line: &[u8]) -> Result<Plan, u8> {
-    match form(line) {
-        Some((b'C', [tick, node])) if plan.delays.is_empty() => add_crash(&mut plan, tick, node)?,
-        Some((b'L', [number, delay])) => add_delay(&mut plan, number, delay)?,
+    let (letter, numbers) = form(line)?;
+    let after_p = plan.order.is_empty() && plan.crashes.is_empty() && plan.delays.is_empty();
+    match (letter, &numbers[..]) {
+        (b'Q', order) if after_p && order.len() == usize::from(plan.nodes) => put_order(&mut plan, order)?,
+        (b'C', &[tick, node]) if plan.delays.is_empty() => add_crash(&mut plan, tick, node)?,
+        (b'L', &[number, delay]) => add_delay(&mut plan, number, delay)?,
         _ => return Err(REFUSED_FORM),
     }
     Ok(plan)
+}
+
+/// "N node numbers, each exactly once: the ring in that order."
+fn put_order(plan: &mut Plan, order: &[u64]) -> Result<(), u8> {
+    if order.iter().any(|node| *node >= u64::from(plan.nodes)) {
+        return Err(REFUSED_RANGE);
+    }
+    if (0..u64::from(plan.nodes)).any(|node| !order.contains(&node)) {
+        return Err(REFUSED_RING);
+    }
+    plan.order = order.iter().map(|node| *node as u8).collect();
+    Ok(())
 }
 
 /// "rising by tick then node, no node twice".
@@ -124,19 +144,27 @@ fn add_delay(plan: &mut Plan, number: u64, delay: u64) -> Result<(), u8> {
     Ok(())
 }
 
-/// The letter of a line and its `COUNT` numbers, if the line has this form.
-fn form<const COUNT: usize>(line: &[u8]) -> Option<(u8, [u64; COUNT])> {
-    let mut parts = fields::body(line)?.split(|byte| *byte == b',');
-    let [letter] = *parts.next()? else { return None };
-    let mut numbers = [0; COUNT];
-    for number in &mut numbers {
-        *number = fields::number(parts.next()?)?;
-    }
-    parts.next().is_none().then_some((letter, numbers))
+/// The letter of a line and its numbers, however many they are.
+fn form(line: &[u8]) -> Result<(u8, Vec<u64>), u8> {
+    let parts = || {
+        let mut parts = fields::body(line)?.split(|byte| *byte == b',');
+        let [letter] = *parts.next()? else { return None };
+        Some((letter, parts.map(fields::number).collect::<Option<_>>()?))
+    };
+    parts().ok_or(REFUSED_FORM)
 }
 
 impl Plan {
-    /// The run file with this plan's P, C and L lines.
+    /// The ring: in the Q line's order, or in number order where there is none.
+    pub fn ring(&self) -> Ring {
+        if self.order.is_empty() {
+            Ring::of(self.nodes)
+        } else {
+            Ring::in_order(&self.order)
+        }
+    }
+
+    /// The run file with this plan's P, Q, C and L lines.
     pub fn bytes(&self) -> Vec<u8> {
         let mut file = Vec::new();
         self.write_lines(&mut file).expect("a vector takes every byte");
@@ -146,6 +174,11 @@ impl Plan {
     fn write_lines(&self, out: &mut impl Write) -> std::io::Result<()> {
         let Plan { nodes, period, timeout, delay, end, .. } = self;
         writeln!(out, "P,{nodes},{period},{timeout},{delay},{end}")?;
+        if !self.order.is_empty() {
+            write!(out, "Q")?;
+            self.order.iter().try_for_each(|node| write!(out, ",{node}"))?;
+            writeln!(out)?;
+        }
         for Crash { tick, node } in &self.crashes {
             writeln!(out, "C,{tick},{node}")?;
         }
@@ -156,7 +189,7 @@ impl Plan {
     }
 
     /// "The run-file writer puts a store's P, C and L lines into a lent part and leaves the rest
-    /// of that part." Answers how many bytes it put there.
+    /// of that part", and a Q line "after P". Answers how many bytes it put there.
     pub fn write(&self, part: &mut [u8]) -> Result<usize, u8> {
         if part.len() < FILE_BYTES {
             return Err(REFUSED_PART);
@@ -305,6 +338,78 @@ mod tests {
     }
 
     #[test]
+    fn the_order_is_that_of_the_q_line() {
+        let plan = read(b"P,3,2,9,5,60\nQ,2,0,1\nC,3,1\n").unwrap();
+        assert_eq!((plan.order.clone(), plan.ring()), (vec![2, 0, 1], Ring::in_order(&[2, 0, 1])));
+        let plain = read(b"P,3,2,9,5,60\n").unwrap();
+        assert_eq!((plain.order.clone(), plain.ring()), (vec![], Ring::of(3)));
+        let in_number_order = read(b"P,3,2,9,5,60\nQ,0,1,2\n").unwrap();
+        assert_eq!((in_number_order.order.clone(), in_number_order.ring()), (vec![0, 1, 2], plain.ring()));
+        assert_ne!(plain, in_number_order);
+        assert_eq!(read(b"P,1,1,2,1,5\nQ,0\n").unwrap().order, [0]);
+        let sixty_four = (0..64).map(|place| format!(",{}", 63 - place)).collect::<String>();
+        let falling: Vec<u8> = (0..64).rev().collect();
+        assert_eq!(read(format!("P,64,1,2,1,5\nQ{sixty_four}\n").as_bytes()).unwrap().order, falling);
+        assert_eq!(answer(format!("P,64,1,2,1,5\nQ{sixty_four},0\n").as_bytes()), (2, 2));
+        assert_eq!(answer(format!("P,63,1,2,1,5\nQ{sixty_four}\n").as_bytes()), (2, 2));
+    }
+
+    #[test]
+    fn form_of_the_q_line() {
+        for row in [
+            "Q", "Q,", "Q,0", "Q,0,1", "Q,0,1,2,", "Q,,0,1,2", "Q,0,,1", "Q,0,1,", "Q,0,1,2,0", "Q,0,1,2,3", "Q,0,01,2",
+            "Q,00,1,2", "Q,0, 1,2", "Q,0,1,2 ", "Q ,0,1,2", "Q,0,1,2\r", "Q,0,1,-2", "Q,0,1,+2", "Q,0,1,x", "Q;0;1;2",
+            "q,0,1,2", "QQ,0,1,2", " Q,0,1,2", "0,1,2",
+        ] {
+            assert_eq!(answer(format!("P,3,2,3,1,6\n{row}\n").as_bytes()), (2, 2), "{row:?}");
+        }
+        answers(&[("P,3,2,3,1,6\nQ,0,1,2", (2, 2)), ("P,3,2,3,1,6\nQ,0,1,2\n", (0, 0)), ("P,1,1,2,1,5\nQ\n", (2, 2))]);
+    }
+
+    /// Form, then range, then each node once.
+    #[test]
+    fn places_of_the_q_line_are_tried_downwards() {
+        answers(&[
+            ("P,3,2,3,1,6\nQ,0,1,3\n", (3, 2)),
+            ("P,3,2,3,1,6\nQ,3,0,1\n", (3, 2)),
+            ("P,3,2,3,1,6\nQ,0,1,18446744073709551617\n", (3, 2)),
+            ("P,3,2,3,1,6\nQ,0,1,256\n", (3, 2)),
+            ("P,3,2,3,1,6\nQ,0,0,3\n", (3, 2)),
+            ("P,3,2,3,1,6\nQ,3,3,3\n", (3, 2)),
+            ("P,3,2,3,1,6\nQ,3,1\n", (2, 2)),
+            ("P,3,2,3,1,6\nQ,0,1,2,3\n", (2, 2)),
+            ("P,3,2,3,1,6\nQ,0,0\n", (2, 2)),
+            ("P,3,2,3,1,6\nQ,3,3,03\n", (2, 2)),
+            ("P,3,2,3,1,6\nQ,0,0,2", (2, 2)),
+            ("P,3,2,3,1,6\nQ,0,0,2\n", (13, 2)),
+            ("P,3,2,3,1,6\nQ,2,1,2\n", (13, 2)),
+            ("P,3,2,3,1,6\nQ,1,1,1\n", (13, 2)),
+            ("P,3,2,3,1,6\nQ,1,1,1\nZ\n", (13, 2)),
+            ("P,3,2,2,1,6\nQ,1,1,1\n", (4, 1)),
+            ("P,1,1,2,1,5\nQ,1\n", (3, 2)),
+        ]);
+    }
+
+    #[test]
+    fn the_q_line_stands_right_after_the_p_line() {
+        answers(&[
+            ("P,3,2,3,1,6\nQ,2,1,0\nC,3,1\nL,0,1\n", (0, 0)),
+            ("P,3,2,3,1,6\nQ,2,1,0\nL,0,1\n", (0, 0)),
+            ("Q,2,1,0\nP,3,2,3,1,6\n", (2, 1)),
+            ("P,3,2,3,1,6\nQ,2,1,0\nQ,2,1,0\n", (2, 3)),
+            ("P,3,2,3,1,6\nQ,2,1,0\nQ,3,3,3\n", (2, 3)),
+            ("P,3,2,3,1,6\nQ,2,1,0\nC,3,1\nQ,2,1,0\n", (2, 4)),
+            ("P,3,2,3,1,6\nC,3,1\nQ,2,1,0\n", (2, 3)),
+            ("P,3,2,3,1,6\nC,3,1\nQ,2,2,0\n", (2, 3)),
+            ("P,3,2,3,1,6\nL,0,1\nQ,2,1,0\n", (2, 3)),
+            ("P,3,2,3,1,6\n\nQ,2,1,0\n", (2, 2)),
+            ("P,3,2,3,1,6\nQ,2,1,0\nP,3,2,3,1,6\n", (2, 3)),
+            ("P,3,2,3,1,6\nQ,2,1,0\nC,3,3\n", (3, 3)),
+            ("P,1,1,2,1,5\nQ,0\nQ,0\n", (2, 3)),
+        ]);
+    }
+
+    #[test]
     fn form_of_crash_and_delay_lines() {
         for row in
             ["C", "C,3", "C,3,1,", "C,3,1,1", "C,,1", "C,3,", "C,03,1", "C,3,01", "c,3,1", "C,3,1\r", "C,3,x"]
@@ -380,9 +485,13 @@ mod tests {
 
     #[test]
     fn a_plan_written_again_has_the_same_bytes() {
-        for file in
-            [WORKED.as_bytes(), b"P,64,1000,65535,255,1000000\nC,0,63\nC,1000000,0\nL,0,1\nL,999999,255\n"]
-        {
+        for file in [
+            WORKED.as_bytes(),
+            b"P,64,1000,65535,255,1000000\nC,0,63\nC,1000000,0\nL,0,1\nL,999999,255\n",
+            b"P,1,1,2,1,5\nQ,0\n",
+            b"P,5,2,6,3,60\nQ,0,1,2,3,4\n",
+            b"P,12,2,6,3,60\nQ,11,0,10,1,9,2,8,3,7,4,6,5\nC,5,3\nL,7,2\n",
+        ] {
             let plan = read(file).unwrap();
             assert_eq!(plan.bytes(), file);
             let mut part = vec![7; FILE_BYTES + 1];

@@ -41,6 +41,13 @@ impl Random {
         choices[self.below(choices.len() as u64) as usize]
     }
 
+    /// Puts the items into an order of which each is as likely as any other.
+    pub fn shuffle<T>(&mut self, items: &mut [T]) {
+        for last in (1..items.len()).rev() {
+            items.swap(last, self.below(last as u64 + 1) as usize);
+        }
+    }
+
     pub fn bytes(&mut self, count: usize) -> Vec<u8> {
         (0..count).map(|_| self.draw() as u8).collect()
     }

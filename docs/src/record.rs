@@ -5,7 +5,7 @@ use super::limits::*;
 use super::node::{Content, Node, Sends, Settings};
 use super::ring::Ring;
 
-/// What a node record holds: the node, N, H, W and the last tick.
+/// What a node record holds: the node, N, H, W and the last tick. Its ring is in number order.
 #[derive(Clone, Copy, PartialEq, Eq, Debug)]
 pub struct Record {
     pub settings: Settings,
@@ -24,7 +24,7 @@ impl Record {
         if !in_range {
             return Err(REFUSED_RANGE);
         }
-        let settings = Settings { ring: Ring { nodes: nodes as u8 }, period: period as u32, timeout: timeout as u32 };
+        let settings = Settings { ring: Ring::of(nodes as u8), period: period as u32, timeout: timeout as u32 };
         Ok(Record { settings, node: Node::open(&settings, number as u8), last_tick: 0 })
     }
 
@@ -69,7 +69,7 @@ impl Record {
     /// N or the node itself". On H and O the subject is not looked at.
     fn check_message(&self, kind: u64, sender: u64, subject: u64) -> Option<Content> {
         let is_other =
-            |node: u64| node < u64::from(self.settings.ring.nodes) && node != u64::from(self.node.number);
+            |node: u64| node < u64::from(self.settings.ring.nodes()) && node != u64::from(self.node.number);
         let content = match u8::try_from(kind).ok()? {
             b'H' => Content::Heartbeat,
             b'O' => Content::NewObserver,

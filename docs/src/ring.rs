@@ -1,5 +1,5 @@
 //! The ring and the dead list, "a 64-bit number whose bit i stands for node i".
-//! Neighbours are found by walking the ring node by node.
+//! Neighbours are found by walking the ring node by node, in its order.
 
 use super::limits::*;
 
@@ -21,6 +21,11 @@ pub struct Targets {
 }
 
 impl Targets {
+    fn add(&mut self, target: u8) {
+        self.row[self.count] = target;
+        self.count += 1;
+    }
+
     pub fn as_slice(&self) -> &[u8] {
         &self.row[..self.count]
     }
@@ -31,68 +36,95 @@ impl Targets {
     }
 }
 
-/// Nodes in a ring, in the order of their numbers. All that goes by the ring's order is asked of it.
+/// Nodes in a ring, in any order. All that goes by the ring's order is asked of it.
 #[derive(Clone, Copy, PartialEq, Eq, Debug)]
 pub struct Ring {
-    pub nodes: u8,
+    nodes: u8,
+    /// The nodes one after another.
+    order: [u8; MAX_NODES as usize],
+    /// For each node its place among them.
+    places: [u8; MAX_NODES as usize],
 }
 
 impl Ring {
-    /// The node after `node`.
-    pub fn after(self, node: u8) -> u8 {
-        if node + 1 == self.nodes {
-            0
-        } else {
-            node + 1
+    /// This many nodes in the order of their numbers.
+    pub const fn of(nodes: u8) -> Ring {
+        let mut order = [0; MAX_NODES as usize];
+        let mut node = 0;
+        while node < nodes {
+            order[node as usize] = node;
+            node += 1;
         }
+        Ring { nodes, order, places: order }
+    }
+
+    /// The nodes in this order, which has each of them once.
+    pub fn in_order(numbers: &[u8]) -> Ring {
+        let mut ring = Ring::of(numbers.len() as u8);
+        for (place, node) in numbers.iter().enumerate() {
+            ring.order[place] = *node;
+            ring.places[usize::from(*node)] = place as u8;
+        }
+        ring
+    }
+
+    /// N.
+    pub fn nodes(&self) -> u8 {
+        self.nodes
+    }
+
+    /// The nodes that stand before `node` in the order, and those after it.
+    fn parts(&self, node: u8) -> (&[u8], &[u8]) {
+        let place = usize::from(self.places[usize::from(node)]);
+        (&self.order[..place], &self.order[place + 1..usize::from(self.nodes)])
+    }
+
+    /// The other nodes, going ahead from `node`.
+    fn ahead(&self, node: u8) -> impl Iterator<Item = u8> + '_ {
+        let (until, from) = self.parts(node);
+        from.iter().chain(until).copied()
+    }
+
+    /// The other nodes, going back from `node`.
+    fn back(&self, node: u8) -> impl Iterator<Item = u8> + '_ {
+        let (until, from) = self.parts(node);
+        until.iter().rev().chain(from.iter().rev()).copied()
+    }
+
+    /// The node after `node`.
+    pub fn after(&self, node: u8) -> u8 {
+        self.first_unlisted_ahead(0, node)
     }
 
     /// The node before `node`.
-    pub fn before(self, node: u8) -> u8 {
-        if node == 0 {
-            self.nodes - 1
-        } else {
-            node - 1
-        }
+    pub fn before(&self, node: u8) -> u8 {
+        self.first_unlisted_back(0, node)
     }
 
-    /// "the first unlisted node going back from it".
-    pub fn first_unlisted_back(self, list: u64, from: u8) -> u8 {
-        first_unlisted(list, from, |node| self.before(node))
+    /// "the first unlisted node going back from it". The walk ends at `from` itself where every node is listed, which no
+    /// live node's list leads to.
+    pub fn first_unlisted_back(&self, list: u64, from: u8) -> u8 {
+        self.back(from).find(|node| !listed(list, *node)).unwrap_or(from)
     }
 
-    /// "the first one ahead in the ring" that the list does not hold.
-    pub fn first_unlisted_ahead(self, list: u64, from: u8) -> u8 {
-        first_unlisted(list, from, |node| self.after(node))
+    /// "the first one ahead in the ring" that the list does not hold, `from` itself where it holds all others.
+    pub fn first_unlisted_ahead(&self, list: u64, from: u8) -> u8 {
+        self.ahead(from).find(|node| !listed(list, *node)).unwrap_or(from)
     }
 
     /// "For each power of two below m, smallest first, the target is that many unlisted nodes ahead."
     /// m counts the unlisted nodes, the node itself included.
-    pub fn forward_targets(self, list: u64, node: u8) -> Targets {
+    pub fn forward_targets(&self, list: u64, node: u8) -> Targets {
         let mut targets = Targets { row: [NO_TARGET; MAX_TARGETS], count: 0 };
         let mut passed = 0u32;
-        let mut ahead = self.after(node);
-        while ahead != node {
-            if !listed(list, ahead) {
-                passed += 1;
-                if passed.is_power_of_two() {
-                    targets.row[targets.count] = ahead;
-                    targets.count += 1;
-                }
+        self.ahead(node).filter(|ahead| !listed(list, *ahead)).for_each(|ahead| {
+            passed += 1;
+            if passed.is_power_of_two() {
+                targets.add(ahead);
             }
-            ahead = self.after(ahead);
-        }
+        });
         targets
     }
-}
-
-/// The first unlisted node of a walk. The walk ends at `from` itself where every node is listed, which no live node's list leads to.
-fn first_unlisted(list: u64, from: u8, next: impl Fn(u8) -> u8) -> u8 {
-    let mut node = next(from);
-    while node != from && listed(list, node) {
-        node = next(node);
-    }
-    node
 }
 
 /// The forwarding table: 64 rows of six targets.
@@ -101,13 +133,13 @@ pub type Table = [[u8; MAX_TARGETS]; MAX_NODES as usize];
 /// The table of a refused call.
 pub const EMPTY_TABLE: Table = [[NO_TARGET; MAX_TARGETS]; MAX_NODES as usize];
 
-/// "the rows of listed nodes and of numbers from N on are all 255. N outside 1 to 64, or a list
+/// In number order: "the rows of listed nodes and of numbers from N on are all 255. N outside 1 to 64, or a list
 /// with a bit from N on, is refused by 3."
 pub fn forwarding_table(nodes: u64, list: u64) -> Result<Table, u8> {
     if !(1..=MAX_NODES).contains(&nodes) || (nodes < MAX_NODES && list >> nodes != 0) {
         return Err(REFUSED_RANGE);
     }
-    let ring = Ring { nodes: nodes as u8 };
+    let ring = Ring::of(nodes as u8);
     let mut table = EMPTY_TABLE;
     for node in (0..ring.nodes).filter(|node| !listed(list, *node)) {
         table[usize::from(node)] = ring.forward_targets(list, node).row();
@@ -117,12 +149,16 @@ pub fn forwarding_table(nodes: u64, list: u64) -> Result<Table, u8> {
 
 #[cfg(test)]
 mod tests {
+    use super::super::random::Random;
     use super::*;
 
     /// The forward targets once more, by the paper's words over the nodes ahead in a row.
-    fn targets_in_words(nodes: u8, list: u64, node: u8) -> Vec<u8> {
-        let unlisted: Vec<u8> =
-            (0..nodes).map(|step| (node + step) % nodes).filter(|other| !listed(list, *other)).collect();
+    fn targets_in_words(order: &[u8], list: u64, node: u8) -> Vec<u8> {
+        let place = order.iter().position(|other| *other == node).unwrap();
+        let unlisted: Vec<u8> = (0..order.len())
+            .map(|step| order[(place + step) % order.len()])
+            .filter(|other| !listed(list, *other))
+            .collect();
         (0..)
             .map(|power| 1 << power)
             .take_while(|jump| *jump < unlisted.len())
@@ -130,43 +166,118 @@ mod tests {
             .collect()
     }
 
+    /// N, an order of the nodes and a list below N, of which `node` is no member, for each of some thousand rounds.
+    fn for_some_rings(mut check: impl FnMut(&[u8], u64, u8)) {
+        let mut random = Random::seeded(101);
+        for round in 0..2_000u64 {
+            let nodes = (round % 64 + 1) as u8;
+            let mut order: Vec<u8> = (0..nodes).collect();
+            if round % 3 > 0 {
+                random.shuffle(&mut order);
+            }
+            let list = random.draw() & random.draw() & (u64::MAX >> (64 - nodes));
+            let node = random.below(u64::from(nodes)) as u8;
+            check(&order, list & !(1 << node), node);
+        }
+    }
+
     #[test]
     fn jumps_go_over_unlisted_nodes() {
         let list = 1 << 2 | 1 << 3;
-        assert_eq!(Ring { nodes: 8 }.forward_targets(list, 1).as_slice(), [4, 5, 7]);
-        assert_eq!(Ring { nodes: 8 }.forward_targets(list, 7).as_slice(), [0, 1, 5]);
+        assert_eq!(Ring::of(8).forward_targets(list, 1).as_slice(), [4, 5, 7]);
+        assert_eq!(Ring::of(8).forward_targets(list, 7).as_slice(), [0, 1, 5]);
     }
 
     #[test]
     fn powers_of_two_below_the_count() {
-        assert_eq!(Ring { nodes: 1 }.forward_targets(0, 0).as_slice(), [0u8; 0]);
-        assert_eq!(Ring { nodes: 2 }.forward_targets(0, 0).as_slice(), [1]);
-        assert_eq!(Ring { nodes: 4 }.forward_targets(0, 0).as_slice(), [1, 2]);
-        assert_eq!(Ring { nodes: 5 }.forward_targets(0, 0).as_slice(), [1, 2, 4]);
-        assert_eq!(Ring { nodes: 64 }.forward_targets(0, 0).as_slice(), [1, 2, 4, 8, 16, 32]);
-        assert_eq!(Ring { nodes: 33 }.forward_targets(0, 32).as_slice(), [0, 1, 3, 7, 15, 31]);
-        assert_eq!(Ring { nodes: 64 }.forward_targets(!(1 << 9), 9).as_slice(), [0u8; 0]);
+        assert_eq!(Ring::of(1).forward_targets(0, 0).as_slice(), [0u8; 0]);
+        assert_eq!(Ring::of(2).forward_targets(0, 0).as_slice(), [1]);
+        assert_eq!(Ring::of(4).forward_targets(0, 0).as_slice(), [1, 2]);
+        assert_eq!(Ring::of(5).forward_targets(0, 0).as_slice(), [1, 2, 4]);
+        assert_eq!(Ring::of(64).forward_targets(0, 0).as_slice(), [1, 2, 4, 8, 16, 32]);
+        assert_eq!(Ring::of(33).forward_targets(0, 32).as_slice(), [0, 1, 3, 7, 15, 31]);
+        assert_eq!(Ring::of(64).forward_targets(!(1 << 9), 9).as_slice(), [0u8; 0]);
     }
 
     #[test]
     fn going_back_passes_listed_nodes() {
-        assert_eq!(Ring { nodes: 5 }.first_unlisted_back(1 << 3 | 1 << 4, 4), 2);
-        assert_eq!(Ring { nodes: 5 }.first_unlisted_back(0b11110, 4), 0);
-        assert_eq!(Ring { nodes: 5 }.first_unlisted_back(0b11110, 1), 0);
-        assert_eq!(Ring { nodes: 64 }.first_unlisted_back(1 | 1 << 63, 0), 62);
-        assert_eq!(Ring { nodes: 64 }.first_unlisted_ahead(1 | 1 << 63, 63), 1);
+        assert_eq!(Ring::of(5).first_unlisted_back(1 << 3 | 1 << 4, 4), 2);
+        assert_eq!(Ring::of(5).first_unlisted_back(0b11110, 4), 0);
+        assert_eq!(Ring::of(5).first_unlisted_back(0b11110, 1), 0);
+        assert_eq!(Ring::of(64).first_unlisted_back(1 | 1 << 63, 0), 62);
+        assert_eq!(Ring::of(64).first_unlisted_ahead(1 | 1 << 63, 63), 1);
     }
 
     #[test]
     fn targets_agree_with_the_words() {
-        let mut list = 0x9e37_79b9_7f4a_7c15u64;
-        for round in 0..2_000u64 {
-            list = list.wrapping_mul(0xd129_8a2f_4c5b_6e63).rotate_left(23) ^ round;
-            let nodes = (round % 64 + 1) as u8;
-            let node = (list >> 32) as u8 % nodes;
-            let kept = list & (u64::MAX >> (64 - nodes)) & !(1 << node);
-            assert_eq!(Ring { nodes }.forward_targets(kept, node).as_slice(), targets_in_words(nodes, kept, node));
+        for_some_rings(|order, list, node| {
+            let targets = Ring::in_order(order).forward_targets(list, node);
+            assert_eq!(targets.as_slice(), targets_in_words(order, list, node), "{order:?} {list:x} {node}");
+        });
+    }
+
+    /// 2 → 0 → 3 → 1 → 2. After 3 come 1 and 2; with 1 listed, 2 and 0; with 1 and 2 listed, 0.
+    #[test]
+    fn neighbours_follow_the_order() {
+        let ring = Ring::in_order(&[2, 0, 3, 1]);
+        assert_eq!([0, 1, 2, 3].map(|node| ring.after(node)), [3, 2, 0, 1]);
+        assert_eq!([0, 1, 2, 3].map(|node| ring.before(node)), [2, 3, 1, 0]);
+        assert_eq!(ring.forward_targets(0, 3).as_slice(), [1, 2]);
+        assert_eq!(ring.forward_targets(0b0010, 3).as_slice(), [2, 0]);
+        assert_eq!(ring.forward_targets(0b0110, 3).as_slice(), [0]);
+        assert_eq!(ring.first_unlisted_back(0b0001, 0), 2);
+        assert_eq!(ring.first_unlisted_back(0b0101, 0), 1);
+        assert_eq!(ring.first_unlisted_back(0b0111, 0), 3);
+        assert_eq!(ring.first_unlisted_ahead(0b0110, 3), 0);
+        assert_eq!(ring.first_unlisted_ahead(0b0111, 3), 3);
+        let alone = Ring::in_order(&[0]);
+        assert_eq!((alone.after(0), alone.before(0), alone.first_unlisted_back(1, 0)), (0, 0, 0));
+    }
+
+    #[test]
+    fn number_order_is_an_order_too() {
+        for nodes in 1..=64u8 {
+            let order: Vec<u8> = (0..nodes).collect();
+            assert_eq!(Ring::in_order(&order), Ring::of(nodes));
+            for node in 0..nodes {
+                assert_eq!(Ring::of(nodes).after(node), (node + 1) % nodes);
+                assert_eq!(Ring::of(nodes).before(node), (node + nodes - 1) % nodes);
+            }
         }
+    }
+
+    /// A ring in any order is the ring in number order of its places: node `order[i]` in it is as node `i` there.
+    #[test]
+    fn an_order_renames_the_nodes() {
+        for_some_rings(|order, list, node| {
+            let (ring, plain) = (Ring::in_order(order), Ring::of(order.len() as u8));
+            let place = |node| order.iter().position(|other| *other == node).unwrap() as u8;
+            let places = order.iter().filter(|node| listed(list, **node)).fold(0, |places, node| with(places, place(*node)));
+            let named = |place: u8| order[usize::from(place)];
+            let targets: Vec<u8> =
+                plain.forward_targets(places, place(node)).as_slice().iter().map(|place| named(*place)).collect();
+            assert_eq!(ring.forward_targets(list, node).as_slice(), targets);
+            for from in 0..order.len() as u8 {
+                let [back, ahead] = [plain.first_unlisted_back(places, from), plain.first_unlisted_ahead(places, from)];
+                assert_eq!(ring.first_unlisted_back(list, named(from)), named(back));
+                assert_eq!(ring.first_unlisted_ahead(list, named(from)), named(ahead));
+            }
+        });
+    }
+
+    /// Rotated, an order is the same ring; reversed, ahead and back change places.
+    #[test]
+    fn rotated_and_reversed_orders() {
+        for_some_rings(|order, list, node| {
+            let mut rotated = order.to_vec();
+            rotated.rotate_left(usize::from(node));
+            let reversed: Vec<u8> = order.iter().rev().copied().collect();
+            let [ring, rotated, reversed] = [order, &rotated, &reversed].map(Ring::in_order);
+            assert_eq!(rotated.forward_targets(list, node), ring.forward_targets(list, node));
+            assert_eq!(rotated.first_unlisted_back(list, node), ring.first_unlisted_back(list, node));
+            assert_eq!(reversed.first_unlisted_ahead(list, node), ring.first_unlisted_back(list, node));
+            assert_eq!(reversed.before(node), ring.after(node));
+        });
     }
 
     #[test]

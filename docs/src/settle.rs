@@ -45,8 +45,8 @@ pub fn settling_time_passed(platform: &mut Platform) -> bool {
 }
 
 /// "every survivor lists exactly the crashed nodes, emits to the next survivor and observes the one
-/// before; a lone survivor is both to itself".
-pub fn settled(ring: Ring, nodes: &[Node]) -> bool {
+/// before; a lone survivor is both to itself". Who these are goes by the ring's order.
+pub fn settled(ring: &Ring, nodes: &[Node]) -> bool {
     let crashed = crashed(nodes);
     nodes.iter().filter(|node| node.alive).all(|node| {
         node.dead_list == crashed

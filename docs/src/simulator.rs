@@ -1,11 +1,12 @@
-//! A simulator of document 01: the ring failure detector and its rehearsal platform.
+//! A simulator of document 01, with request 101 of document 02: the ring failure detector, in any order of the ring, and its
+//! rehearsal platform.
 //!
-//! It is a second opinion on the proved platform, written from the paper alone.
+//! It is a second opinion on the proved platform, written from the papers alone.
 //!
-//! - `limits`: the paper's figures and refusal numbers.
+//! - `limits`: the papers' figures and refusal numbers.
 //! - `fields`: numbers and lists as digits, common to run files and logs.
 //! - `plan`: the run file, read and written.
-//! - `ring`: the dead list, going back, forward targets, the forwarding table.
+//! - `ring`: the dead list, the ring in any order, going back, forward targets, the forwarding table.
 //! - `node`: the rules of one node.
 //! - `record`: the node calls of a host.
 //! - `queue`: what is pending, in the order of the events.

@@ -110,13 +110,14 @@ impl Parts {
     }
 }
 
-/// Whether a run file may hold the plan's P line and rows: written out, it is accepted as the same plan.
+/// Whether a run file may hold the plan's P line, Q line and rows: written out, it is accepted as the same plan.
 fn may_be_held(plan: &Plan) -> bool {
     plan::read(&plan.bytes()).is_ok_and(|read| read == *plan)
 }
 
 fn read_plan(bytes: &[u8], counts: &Counts) -> Plan {
     let number = |field| get(bytes, field, 0);
+    let node = |place| get(bytes, ORDER, place) as u8;
     let crash =
         |row| Crash { tick: get(bytes, CRASH_TICK, row) as u32, node: get(bytes, CRASH_NODE, row) as u8 };
     let delay =
@@ -127,6 +128,7 @@ fn read_plan(bytes: &[u8], counts: &Counts) -> Plan {
         timeout: number(TIMEOUT) as u32,
         delay: number(LONGEST_DELAY) as u32,
         end: number(END) as u32,
+        order: (0..counts.ordered).map(node).collect(),
         crashes: (0..counts.crashes).map(crash).collect(),
         delays: (0..counts.delays).map(delay).collect(),
     }
@@ -239,6 +241,10 @@ fn put_plan(bytes: &mut [u8], plan: &Plan) {
     put(bytes, CRASHES, 0, plan.crashes.len() as u64);
     put(bytes, END, 0, u64::from(plan.end));
     put(bytes, DELAYS, 0, plan.delays.len() as u64);
+    put(bytes, ORDERED, 0, plan.order.len() as u64);
+    for (place, node) in plan.order.iter().enumerate() {
+        put(bytes, ORDER, place, u64::from(*node));
+    }
     for (row, Crash { tick, node }) in plan.crashes.iter().enumerate() {
         put(bytes, CRASH_TICK, row, u64::from(*tick));
         put(bytes, CRASH_NODE, row, u64::from(*node));
@@ -297,16 +303,37 @@ mod tests {
         platform
     }
 
-    /// The store of `in_midst` with one number changed.
-    fn changed(field: Field, place: usize, number: u64) -> Vec<u8> {
-        let mut bytes = encode(&in_midst());
+    /// The same in another order: 3 crashes, and 1, which stands after it, has just listed it.
+    fn in_order() -> Platform {
+        let mut platform = open("P,5,2,6,3,60\nQ,0,2,4,3,1\nC,5,3\nC,40,1\nL,2,1\nL,7,2\n");
+        platform.run(50);
+        assert_eq!((platform.crashes_done(), platform.last_tick(), platform.in_flight()), (1, 13, 7));
+        assert_eq!(platform.nodes()[1].dead_list, 1 << 3);
+        platform
+    }
+
+    /// The platform's store with one number changed.
+    fn changed_in(platform: &Platform, field: Field, place: usize, number: u64) -> Vec<u8> {
+        let mut bytes = encode(platform);
         put(&mut bytes, field, place, number);
         bytes
     }
 
+    fn changed(field: Field, place: usize, number: u64) -> Vec<u8> {
+        changed_in(&in_midst(), field, place, number)
+    }
+
+    /// The store of the file as opened has these bytes and is zero elsewhere.
+    fn opened_bytes(file: &str, used: &[(usize, &[u8])]) {
+        let mut expected = vec![0; STORE_BYTES];
+        for (start, part) in used {
+            expected[*start..start + part.len()].copy_from_slice(part);
+        }
+        assert_eq!(encode(&open(file)), expected);
+    }
+
     #[test]
     fn an_opened_store_byte_by_byte() {
-        let bytes = encode(&open("P,2,2,3,1,6\nC,3,1\nL,258,1\n"));
         let used = [
             (0, &[2, 1, 2, 0, 3, 0, 1, 0, 6][..]),
             (24, &[1]),
@@ -319,11 +346,47 @@ mod tests {
             (2_112, &[2, 1]),
             (10_304, &[1]),
         ];
-        let mut expected = vec![0; STORE_BYTES];
-        for (start, part) in used {
-            expected[start..start + part.len()].copy_from_slice(part);
+        opened_bytes("P,2,2,3,1,6\nC,3,1\nL,258,1\n", &used);
+    }
+
+    /// 1 → 0 → 3 → 2 → 1: the nodes' columns go by number.
+    #[test]
+    fn an_opened_store_with_an_order_byte_by_byte() {
+        let used = [
+            (0, &[4, 1, 2, 0, 3, 0, 0, 0, 6][..]),
+            (28, &[4]),
+            (64, &[1, 0, 3, 2]),
+            (128, &[1, 2, 3, 0]),
+            (192, &[3, 0, 1, 2]),
+            (256, &[4, 0, 0, 0, 4, 0, 0, 0, 4, 0, 0, 0, 4]),
+            (512, &[3, 0, 0, 0, 3, 0, 0, 0, 3, 0, 0, 0, 3]),
+        ];
+        opened_bytes("P,4,2,3,1,6\nQ,1,0,3,2\n", &used);
+        opened_bytes("P,1,1,2,1,5\nQ,0\n", &[(0, &[1, 1, 1, 0, 2, 0, 0, 0, 5]), (28, &[1])]);
+        let (ordered, plain) = (encode(&open("P,3,2,3,1,6\nQ,0,1,2\n")), encode(&open("P,3,2,3,1,6\n")));
+        let differing: Vec<usize> = (0..STORE_BYTES).filter(|place| ordered[*place] != plain[*place]).collect();
+        assert_eq!(differing, [28, 65, 66]);
+    }
+
+    /// The store of each file comes back as the same file, with a Q line in number order too.
+    #[test]
+    fn files_come_back_from_stores() {
+        let mixed: String = (0..64).map(|place| format!(",{}", place * 27 % 64)).collect();
+        let sixty_four = format!("P,64,1,2,1,5\nQ{mixed}\n");
+        for file in [
+            "P,1,1,2,1,5\n",
+            "P,1,1,2,1,5\nQ,0\n",
+            "P,5,2,6,3,60\nC,5,3\nL,7,2\n",
+            "P,5,2,6,3,60\nQ,0,1,2,3,4\nC,5,3\nL,7,2\n",
+            "P,5,2,6,3,60\nQ,3,1,4,0,2\nC,5,3\nL,7,2\n",
+            &sixty_four,
+        ] {
+            let bytes = encode(&open(file));
+            let held = decode(&bytes).unwrap();
+            assert_eq!(String::from_utf8(held.platform.plan().bytes()).unwrap(), file);
+            assert_eq!(held.encode(), bytes);
+            assert_eq!(held.platform.ring(), &plan::read(file.as_bytes()).unwrap().ring());
         }
-        assert_eq!(bytes, expected);
     }
 
     #[test]
@@ -339,15 +402,46 @@ mod tests {
 
     #[test]
     fn every_unused_byte_is_zero() {
-        let bytes = encode(&in_midst());
-        let mut unused = 0;
-        for place in (0..STORE_BYTES).filter(|place| !is_used(&bytes, *place)) {
-            let mut other = bytes.clone();
-            other[place] = 1;
-            assert!(!check(&other), "byte {place}");
-            unused += 1;
+        let used = 29 + 5 * 18 + 2 * 5 + 2 * 5 + 7 * 16;
+        for (platform, used) in [(in_midst(), used), (in_order(), used + 5)] {
+            let bytes = encode(&platform);
+            let mut unused = 0;
+            for place in (0..STORE_BYTES).filter(|place| !is_used(&bytes, *place)) {
+                let mut other = bytes.clone();
+                other[place] = 1;
+                assert!(!check(&other), "byte {place}");
+                unused += 1;
+            }
+            assert_eq!(unused, STORE_BYTES - used);
         }
-        assert_eq!(unused, STORE_BYTES - 28 - 5 * 18 - 2 * 5 - 2 * 5 - 7 * 16);
+    }
+
+    /// The count is 0 or N, each number is below N, no node is there twice, and the places beyond the count are zero.
+    #[test]
+    fn the_order_at_its_bounds() {
+        let cases = [
+            (in_midst(), ORDERED, 0, &[0][..]),
+            (in_midst(), ORDER, 0, &[0]),
+            (in_midst(), ORDER, 63, &[0]),
+            (in_order(), ORDERED, 0, &[5]),
+            (in_order(), ORDER, 1, &[2]),
+            (in_order(), ORDER, 4, &[1]),
+            (in_order(), ORDER, 5, &[0]),
+            (in_order(), ORDER, 63, &[0]),
+            (open("P,1,1,2,1,5\n"), ORDERED, 0, &[0, 1]),
+            (open("P,1,1,2,1,5\nQ,0\n"), ORDERED, 0, &[0, 1]),
+            (open("P,1,1,2,1,5\nQ,0\n"), ORDER, 0, &[0]),
+        ];
+        for (platform, field, place, passing) in cases {
+            for number in 0..=255 {
+                let passes = check(&changed_in(&platform, field, place, number));
+                assert_eq!(passes, passing.contains(&number), "{field:?} place {place}: {number}");
+            }
+        }
+        let mut swapped = changed_in(&in_order(), ORDER, 0, 4);
+        put(&mut swapped, ORDER, 2, 0);
+        assert_eq!(decode(&swapped).unwrap().platform.plan().order, [4, 2, 0, 3, 1]);
+        assert!(!check(&changed_in(&in_order(), NODES, 0, 4)) && !check(&changed_in(&in_order(), NODES, 0, 6)));
     }
 
     #[test]

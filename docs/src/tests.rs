@@ -1,13 +1,14 @@
-//! Whole runs: the worked logs, the edges of 01 that concern the platform, and demand 3's words on
-//! generated plans.
+//! Whole runs: the worked logs, the edges of 01 that concern the platform, rings in another order, and demand 3's
+//! words on generated plans.
 
 use super::generator;
 use super::log::{self, Line};
-use super::node::{Node, Timer};
-use super::plan::{self, Crash};
+use super::node::{Content, Node, Timer};
+use super::plan::{self, Crash, Plan};
 use super::platform::{Ending, Platform, Run, Step};
 use super::queue::{Cause, Pending};
 use super::random::Random;
+use super::ring::{self, Ring};
 use super::settle;
 use super::store;
 
@@ -127,6 +128,118 @@ fn jumps_over_listed_nodes_in_a_run() {
     let of_2: Vec<&str> =
         reports.lines().filter(|line| line.starts_with("R,10,") && line.contains(",2,0")).collect();
     assert_eq!(of_2.iter().map(|line| &line[5..6]).collect::<Vec<_>>(), ["5", "6", "0"]);
+}
+
+/// The ring is 2 → 0 → 3 → 1 → 2; H 2, W 3, D 1, and node 0 crashes at tick 3. The log is worked by hand:
+///
+/// - Tick 2: each node sends to the one after it in the ring, 0 to 3, 1 to 2, 2 to 0, 3 to 1; the nodes go by number.
+/// - Tick 3: node 0 crashes. The messages are delivered in the order of sending; that to 0 is dropped. Watches are then
+///   due at 6.
+/// - Ticks 4 and 5: the same without node 0. The watches of 1 and 2 are then due at 8.
+/// - Tick 6: 1 and 2 send. The watch of 3 expires: it lists 0 and goes back from 0 to 2, sends O to 2, then R of 0 to the
+///   nodes one and two ahead, 1 and 2. Then it sends its heartbeat to 1.
+/// - Tick 7, in the order of sending: the H of 1; that of 2, which is dropped; the O, after which 2 sends to 3, at once;
+///   the two R; the H of 3. Node 1 passes R on to 2 and 3, node 2, after which 0 is listed, to 3 and 1.
+/// - Tick 8: the four R, then the H of 2, whom 3 now observes. 1 and 3 send; 2 will at tick 9.
+#[test]
+fn a_shuffled_ring_worked_by_hand() {
+    let (file, log) = (include_str!("../../tests/shuffled.run"), include_str!("../../tests/shuffled.log"));
+    assert_eq!(log_of(file), log);
+}
+
+/// What is settled goes by the ring's order: in number order the neighbours of the same run are others.
+#[test]
+fn a_shuffled_ring_settles_in_its_order() {
+    let mut platform = open("P,8,2,3,1,60\nQ,0,4,2,6,1,5,3,7\nC,5,6\n");
+    for_each_event(&mut platform, |platform| assert!(settle::demand_3(platform)));
+    assert!(settle::settling_time_passed(&mut platform));
+    assert!(settle::settled(platform.ring(), platform.nodes()));
+    assert!(!settle::settled(&Ring::of(8), platform.nodes()));
+    assert_eq!((platform.nodes()[1].emitter, platform.nodes()[2].observer), (2, 1));
+}
+
+/// A Q line in number order, or a rotation of it, is the ring without one; so it is with one node.
+#[test]
+fn number_order_gives_the_log_without_a_q_line() {
+    let rows = "C,4,1\nC,5,3\nC,5,4\nL,3,1\nL,30,1\n";
+    let plain = log_of(&format!("P,5,3,5,2,92\n{rows}"));
+    for order in ["0,1,2,3,4", "1,2,3,4,0", "3,4,0,1,2"] {
+        assert_eq!(log_of(&format!("P,5,3,5,2,92\nQ,{order}\n{rows}")), plain, "{order}");
+    }
+    assert_ne!(log_of(&format!("P,5,3,5,2,92\nQ,0,2,4,1,3\n{rows}")), plain);
+    assert_eq!(log_of("P,1,1,2,1,5\nQ,0\n"), "E,5,1,0,0000000000000000\n");
+    assert_eq!(log_of("P,2,2,3,1,6\nQ,1,0\nC,3,1\n"), log_of("P,2,2,3,1,6\nC,3,1\n"));
+    for index in 0..60 {
+        let plan = plan::read(&generator::plan(SEED + 6, index)).unwrap();
+        let [without, with] = [Vec::new(), (0..plan.nodes).collect()].map(|order| Plan { order, ..plan.clone() });
+        let [without, with] = [without, with].map(|plan| String::from_utf8(plan.bytes()).unwrap());
+        assert_eq!(log_of(&with), log_of(&without), "index {index}");
+    }
+}
+
+/// The platform's nodes and messages where each node has the name that `names` gives it. The nodes stand by name; the
+/// messages, without their numbers, in an order of their own.
+fn renamed(platform: &Platform, names: &[u8]) -> impl PartialEq + std::fmt::Debug {
+    let name = |node: u8| names[usize::from(node)];
+    let list = |list: u64| {
+        let listed = (0..platform.plan().nodes).filter(|node| ring::listed(list, *node));
+        listed.fold(0, |list, node| ring::with(list, name(node)))
+    };
+    let rename = |node: &Node| Node {
+        number: name(node.number),
+        emitter: name(node.emitter),
+        observer: name(node.observer),
+        dead_list: list(node.dead_list),
+        ..*node
+    };
+    let content = |content| match content {
+        Content::Report { subject } => Content::Report { subject: name(subject) },
+        other => other,
+    };
+    let mut nodes: Vec<Node> = platform.nodes().iter().map(rename).collect();
+    nodes.sort_by_key(|node| node.number);
+    let mut messages: Vec<(u32, u8, u8, Content)> = platform
+        .messages()
+        .into_iter()
+        .map(|(due, message)| (due, name(message.sender), name(message.receiver), content(message.content)))
+        .collect();
+    messages.sort_unstable();
+    (nodes, messages)
+}
+
+/// A ring in any order does what the ring in number order does in which each node has its place for a number, but for
+/// what goes by number within a tick. Where one node crashes and every delay is D, that plays no part: the messages that
+/// come to a node at one tick change different fields of it, or one in the same way. So after each tick all is the same.
+#[test]
+fn an_order_renames_the_nodes_of_a_run() {
+    let mut random = Random::seeded(SEED);
+    for round in 0..60 {
+        let nodes = random.pick(&[1, 2, 3, 4, 5, 8, 13, 33, 64]);
+        let mut order: Vec<u8> = (0..nodes).collect();
+        random.shuffle(&mut order);
+        let mut places = order.clone();
+        order.iter().zip(0..).for_each(|(node, place)| places[usize::from(*node)] = place);
+        let (period, delay) = (random.range(1, 6) as u32, random.range(1, 6) as u32);
+        let timeout = period + delay + random.range(0, 3) as u32;
+        let crash = Crash { tick: random.range(0, 20) as u32, node: random.below(u64::from(nodes)) as u8 };
+        let moved = Crash { node: places[usize::from(crash.node)], ..crash };
+        let shuffled =
+            Plan { nodes, period, timeout, delay, end: 70, order, crashes: vec![crash], delays: Vec::new() };
+        let plain = Plan { order: Vec::new(), crashes: vec![moved], ..shuffled.clone() };
+        let [mut shuffled, mut plain] = [shuffled, plain].map(Platform::open);
+        let in_numbers: Vec<u8> = (0..nodes).collect();
+        for tick in 0..=70 {
+            for platform in [&mut shuffled, &mut plain] {
+                while platform.next_event().is_some_and(|pending| pending.tick == tick) {
+                    assert!(matches!(platform.step(), Step::Event(_)));
+                }
+            }
+            let case = format!("round {round}, tick {tick}");
+            assert_eq!(shuffled.events_done(), plain.events_done(), "{case}");
+            assert_eq!(renamed(&shuffled, &places), renamed(&plain, &in_numbers), "{case}");
+        }
+        assert_eq!(shuffled.crashes_done(), 1);
+    }
 }
 
 #[test]
@@ -369,7 +482,7 @@ fn held_state(platform: &Platform) -> impl PartialEq + std::fmt::Debug {
 /// Any bytes get a refusal or a run, and an accepted file comes back from the writer.
 #[test]
 fn damaged_files_are_answered() {
-    let mut refused = [0; 7];
+    let mut refused = [0; 14];
     for index in 0..3_000 {
         let file = generator::file(SEED + 3, index, generator::USUAL);
         match plan::read(&file) {
@@ -377,5 +490,7 @@ fn damaged_files_are_answered() {
             Err(refusal) => refused[usize::from(refusal.number)] += 1,
         }
     }
-    assert!(refused[1..].iter().all(|count| *count > 0), "refusals by number: {refused:?}");
+    for number in [1, 2, 3, 4, 5, 6, 13] {
+        assert!(refused[number] > 0, "refusals by number: {refused:?}");
+    }
 }

@@ -1,4 +1,5 @@
--- THE THEOREM: what is rehearsed is what the nodes do, for every accepted file. The statement is `SameAsNodes` in specs/Nodes.antt.
+-- THE THEOREM: what is rehearsed is what the nodes do, for every accepted file whose ring is in number order. The
+-- statement is `SameAsNodes` in specs/Nodes.antt.
 -- Assumes nothing.
 use mathlib.Core.Path.{_≡_, refl, sym, ap, _∙_, subst}
 use mathlib.Core.Bool.{true, false}
@@ -18,7 +19,8 @@ use Rattle.node.proofs.Ranges.{later-range}
 use Rattle.host.proofs.Codec.{decode-encode, encode-sound}
 use Rattle.host.proofs.Turns.{opening-in-range}
 use Rattle.host.proofs.Accepted.{open-accepted}
-use Rattle.plans.specs.Plan.{Plan, planTest}
+use Rattle.ring.specs.Ring.{numbers}
+use Rattle.plans.specs.Plan.{Plan, orderOf, planTest}
 use Rattle.runfile.specs.File.{accepted, fileOf}
 use Rattle.runfile.proofs.RoundTrip.{accepted-plan}
 use Rattle.model.specs.Platform.{InFlight, State, Entry, Outcome, did, ended, refused, alive, start, nodeOf, try, left, steps, after}
@@ -27,12 +29,12 @@ use Rattle.model.specs.Range.{Accepted, Sound}
 use Rattle.model.proofs.RangesKept.{start-node, after-range}
 use Rattle.model.proofs.Reached.{after-inv}
 use Rattle.model.proofs.Plans.{plan-accepted}
-use Rattle.plans.proofs.Tests.{ranges, in-number-order}
+use Rattle.plans.proofs.Tests.{ranges}
 use Rattle.model.proofs.Happened.{Happened, did-happened, after-suc}
 use Rattle.demands.specs.Nodes.{recordOf, NodeCall, callTo, SameEvent, lent, followed, recordAfter, tickOr, ticked, lastTick, Follows, SameAsNodes}
 use Rattle.demands.proofs.OneEvent.{called-live, last-now, leaves-others, event-same}
 
-module _ (p : Plan) (good : planTest p ≡ true) where
+module _ (p : Plan) (good : planTest p ≡ true) (order : orderOf p ≡ numbers 0 (p .n)) where
   abbrev ac : Accepted p
   ac = plan-accepted p good
 
@@ -76,7 +78,7 @@ module _ (p : Plan) (good : planTest p ≡ true) where
 
   opened-fields : (x : ℕ) → x < p .n → openedRecord x (p .n) (p .h) (p .w) ≡ recordOf p x 0 (nodeOf (start p) x)
   unfolding openedRecord recordOf
-  opened-fields x h = ap (recordOf p x 0) (sym (start-node p pl x h ∙ ap (λ (o : List ℕ). opening o (p .h) (p .w) x) (in-number-order p good)))
+  opened-fields x h = ap (recordOf p x 0) (sym (start-node p pl x h ∙ ap (λ (o : List ℕ). opening o (p .h) (p .w) x) order))
 
   opens : (x : ℕ) → x < p .n → (bytes : List ℕ) → length bytes ≡ recordSize
       → (openAnswer bytes x (p .n) (p .h) (p .w) ≡ taken) × (openLeaves bytes x (p .n) (p .h) (p .w) ≡ encode (recordOf p x 0 (nodeOf (start p) x)))
@@ -90,7 +92,7 @@ module _ (p : Plan) (good : planTest p ≡ true) where
   same-at k e s' t x c q last l b ok d part long =
       let h = happened k e s' t in
       subst (λ (z : State). SameEvent p (after p k) e z x c b part) (sym (h .leads))
-      (event-same p good (after p k) (range k) (e .tick) (h .late) (h .end) last l b ok part long (reported k) (e .event) (h .chosen) (h .next) x c q d)
+      (event-same p good (after p k) (range k) (e .tick) (h .late) (h .end) order last l b ok part long (reported k) (e .event) (h .chosen) (h .next) x c q d)
 
   range-at : (k : ℕ) (e : Entry) (s' : State) → try p (after p k) ≡ did e s' → (x : ℕ) (c : NodeCall) → callTo p (after p k) x (e .event) ≡ some c
       → (last : ℕ) → after p k .last ≤ last → last ≤ e .tick → InRange (recordOf p x last (nodeOf (after p k) x))
@@ -188,5 +190,5 @@ module _ (p : Plan) (good : planTest p ≡ true) where
   }
 
 -- WHAT IS REHEARSED IS WHAT THE NODES DO
-pub rehearsed : (file : List ℕ) (p : Plan) → fileOf file ≡ accepted p → SameAsNodes p
-rehearsed file p ok = all-same p (accepted-plan file p ok)
+pub rehearsed : (file : List ℕ) (p : Plan) → fileOf file ≡ accepted p → orderOf p ≡ numbers 0 (p .n) → SameAsNodes p
+rehearsed file p ok order = all-same p (accepted-plan file p ok) order

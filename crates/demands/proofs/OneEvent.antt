@@ -17,9 +17,9 @@ use Rattle.host.specs.declared.Record.{Record}
 use Rattle.host.specs.Record.{encode, decode, sound}
 use Rattle.host.specs.Call.{delivered, withTurn}
 use Rattle.host.proofs.Accepted.{Accepted, deliver-accepted, timers-accepted, fired-watch, fired-heartbeat}
-use Rattle.plans.specs.Plan.{Plan, planTest}
+use Rattle.ring.specs.Ring.{numbers}
+use Rattle.plans.specs.Plan.{Plan, orderOf, planTest}
 use Rattle.model.proofs.Plans.{plan-accepted}
-use Rattle.plans.proofs.Tests.{in-number-order}
 use Rattle.model.specs.Platform.{InFlight, State, Event, crash, message, watch, heartbeat, alive, nextEvent, nodeOf, messageAt}
 use Rattle.model.specs.Platform.{taken, without, received, apply}
 use Rattle.plans.specs.Plain.{Plain}
@@ -102,7 +102,8 @@ module _ (p : Plan) (good : planTest p ≡ true) (s : State) (r : Sound p s) (t 
     adds = refl;
   }
 
-  module _ (last : ℕ) (l : last ≤ t) (b : List ℕ) (ok : sound b ≡ true) (part : List ℕ) (long : partSize ≤ length part) where
+  module _ (order : orderOf p ≡ numbers 0 (p .n)) (last : ℕ) (l : last ≤ t) (b : List ℕ) (ok : sound b ≡ true) (part : List ℕ)
+      (long : partSize ≤ length part) where
     abbrev delivery : ℕ → NodeCall
     delivery i = deliver ((messageAt s i) .kind) ((messageAt s i) .from) ((messageAt s i) .subject)
 
@@ -118,7 +119,7 @@ module _ (p : Plan) (good : planTest p ≡ true) (s : State) (r : Sound p s) (t 
         let k : Record = recordOf p (m .to) last (nodeOf s (m .to)) in
         let about : m .kind ≡ R → (m .subject < p .n) × (m .subject ≡ m .to → ⊥) =
         λ q. (f .subject, λ e. true≢false (sym a ∙ ap (alive p (s .done)) (sym e) ∙ reported m has q)) in
-        let u : delivered k t (m .kind) (m .from) (m .subject) ≡ received p s t m = rw (a, in-number-order p good) in
+        let u : delivered k t (m .kind) (m .from) (m .subject) ≡ received p s t m = rw (a, order) in
         let after : Turn → State = taken p s t (m .to) (without i (s .flight)) in
         subst (λ (v : Turn). SameEvent p s (record { tick = t; event = message i }) (after v) (m .to) (delivery i) b part)
         u (same (m .to) (f .to) last (message i) (delivered k t (m .kind) (m .from) (m .subject)) (delivery i) b part
@@ -130,7 +131,7 @@ module _ (p : Plan) (good : planTest p ≡ true) (s : State) (r : Sound p s) (t 
     watch-same x ch d =
         let k : Record = recordOf p x last (nodeOf s x) in
         subst (λ (v : Turn). SameEvent p s (record { tick = t; event = watch x }) (taken p s t x (s .flight) v) x timers b part)
-        (fired-watch k t (ch .2) ∙ rw (in-number-order p good))
+        (fired-watch k t (ch .2) ∙ rw order)
         (same x (in-n p pl s r x (ch .0)) last (watch x) _ timers b part (timers-accepted b k ok d t l ends part long))
 
     heartbeat-same : (x : ℕ) → Chosen p pl s t (heartbeat x) → nextEvent p s ≡ some (record { tick = t; event = heartbeat x })

@@ -17,7 +17,7 @@ use Rattle.limits.specs.Limits.{recordSize, partSize}
 use Rattle.limits.specs.Refusals.{badRecord, accepted as taken}
 use Rattle.host.specs.Call.{answer, tickTaken, timersAnswer}
 use Rattle.plans.specs.Plan.{Plan, within, startRanges, longEnough, rising, hits, noneTwice, crashOrder, delayOrder, fewDelays, every, startTest, crashTest}
-use Rattle.plans.specs.Plan.{delayTest, planTest, sameNumbers, orderTest}
+use Rattle.plans.specs.Plan.{ringOrder, orderOf, ringTest, delayTest, planTest}
 use Rattle.runfile.specs.Text.{planText}
 use Rattle.runfile.specs.File.{accepted, fileOf}
 use Rattle.runfile.proofs.RoundTrip.{read-back}
@@ -28,12 +28,16 @@ use Rattle.demands.specs.Nodes.{recordOf, callTo, recordAfter, tickOr, t
 use Rattle.demands.proofs.Nodes.{rehearsed}
 
 unfoldable pub two : Plan
-two = record { n = 2; h = 1; w = 2; d = 1; end = 20; order = numbers 0 2; crashes = []; delays = [] }
+two = record { n = 2; h = 1; w = 2; d = 1; end = 20; ring = []; crashes = []; delays = [] }
 
 pub is-accepted : fileOf (planText two) ≡ accepted two
-unfolding two planTest startTest startRanges within longEnough orderTest sameNumbers numbers crashTest every crashOrder rising noneTwice eachOnce
+unfolding two planTest startTest startRanges within longEnough ringTest crashTest every crashOrder rising noneTwice eachOnce
     delayTest delayOrder fewDelays
 is-accepted = read-back two refl
+
+in-number-order : orderOf two ≡ numbers 0 (two .n)
+unfolding two orderOf ringOrder
+in-number-order = refl
 
 -- node 0 after eight events
 unfoldable pub node : Node
@@ -43,7 +47,7 @@ pub ninth : (nodeOf (after two 8) 0 ≡ node)
     × (nextEvent two (after two 8) ≡ some (record { tick = 3; event = heartbeat 0 }))
     × (lastTick two 0 8 ≡ 3)
 unfolding two node keep numbers listed listing unlisted round place ahead back next count powers jumps targets reports opening
-    onHeartbeat onObserver onReport onHeartbeatDue leaving onMessage hits among alive start crashEntries messageEntries timerEntry
+    onHeartbeat onObserver onReport onHeartbeatDue leaving onMessage ringOrder orderOf hits among alive start crashEntries messageEntries timerEntry
     timerEntries pending earlier first upTo nextEvent delayIn delayOf numbered turned without received apply fits tried try left steps after
     callTo tickOr ticked lastTick
 ninth = (refl, refl, refl)
@@ -61,7 +65,7 @@ pub followed-so : (bytes : List ℕ) → length bytes ≡ recordSize → (parts 
     → recordAfter two 0 bytes parts 8 ≡ encode (recordOf two 0 3 node)
 unfolding two
 followed-so bytes size parts long =
-    rw (← ninth .0, ← ninth .2) ((rehearsed (planText two) two is-accepted) .run 0 (omega arith) bytes size parts long .holds 8)
+    rw (← ninth .0, ← ninth .2) ((rehearsed (planText two) two is-accepted in-number-order) .run 0 (omega arith) bytes size parts long .holds 8)
 
 -- and the call of the ninth event takes it
 pub late-tick-taken : timersAnswer (encode (recordOf two 0 3 node)) 3 (replicate partSize 0) ≡ taken

@@ -9,11 +9,11 @@ use Prim.Native.Nat.{ℕ, _+_, _/_, _%_, _^_, _≤_, _<_}
 use lib.Dec.{eqb, leb, ltb}
 use lib.ListN.{length, getD, take}
 use Rattle.limits.specs.Limits.{mostNodes, mostInFlight, lineRoom, recordSize, storeSize, fileRoom}
-use Rattle.ring.specs.Ring.{tableAnswer}
+use Rattle.ring.specs.Ring.{numbers, tableAnswer}
 use Rattle.text.specs.Put.{put}
 use Rattle.text.specs.Number.{decimal}
 use Rattle.text.specs.Hex.{hexOf}
-use Rattle.plans.specs.Plan.{Plan, planTest}
+use Rattle.plans.specs.Plan.{Plan, orderOf, planTest}
 use Rattle.runfile.specs.Text.{planText}
 use Rattle.runfile.specs.File.{FileAnswer, accepted, turnedDown, fileOf}
 use Rattle.logline.specs.declared.Line.{Line}
@@ -62,7 +62,7 @@ pub record TurnsDown (number : ℕ) (places : List Place) (Untouched : Type 0) :
   pub first : number ≡ firstBroken places
   pub untouched : number ≢ 0 → Untouched
 
--- opening: the file's own number, 1 to 6, then the store's length
+-- opening: the file's own number, 1 to 6 or 13, then the store's length
 unfoldable pub fileNumber : FileAnswer → ℕ
 fileNumber (accepted p) = 0
 fileNumber (turnedDown number line) = number
@@ -151,9 +151,10 @@ tablePlaces n d = place (not (leb 1 n && leb n mostNodes)) 3 ∷ place (not (ltb
 pub record Demand1 : Type 0 where
   -- a run file is accepted exactly where it is the text of a plan that the rules allow
   pub fileTaken : (p : Plan) → planTest p ≡ true → fileOf (planText p) ≡ accepted p
-  -- 'run file, length: 0 or above 65,536 bytes' is refused by 1, and any other bad file by 2 to 6 and a line of its own
+  -- 'run file, length: 0 or above 65,536 bytes' is refused by 1, and any other bad file by 2 to 6 or 13 and a line of its own
   pub fileLength : (file : List ℕ) → (leb 1 (length file) && leb (length file) 65536) ≡ false → fileOf file ≡ turnedDown 1 0
-  pub fileNumber : (file : List ℕ) (number line : ℕ) → fileOf file ≡ turnedDown number line → (1 ≤ number) × (number ≤ 6) × (line ≤ 65536)
+  pub fileNumber : (file : List ℕ) (number line : ℕ) → fileOf file ≡ turnedDown number line
+      → (1 ≤ number) × ((number ≤ 6) ⊎ (number ≡ 13)) × (line ≤ 65536)
   pub fileOnly : (file : List ℕ) (p : Plan) → fileOf file ≡ accepted p → (planText p ≡ file) × (planTest p ≡ true)
   -- the platform's calls
   pub opening : (file store : List ℕ) → TurnsDown (openRefusal (openFile file store .answer)) (openPlaces file store) (openFile file store .store ≡ store)
@@ -223,8 +224,9 @@ StepPuts a l size was =
     × (stepSize a was ≡ size)
 
 pub record Demand2 : Type 0 where
-  -- 'We choose time-outs by rehearsal, and one that differs from the nodes chooses wrongly': what is rehearsed is what the nodes do
-  pub nodes : (file : List ℕ) (p : Plan) → fileOf file ≡ accepted p → SameAsNodes p
+  -- 'We choose time-outs by rehearsal, and one that differs from the nodes chooses wrongly': what is rehearsed is what the nodes do, in a
+  -- ring in number order, as node records are
+  pub nodes : (file : List ℕ) (p : Plan) → fileOf file ≡ accepted p → orderOf p ≡ numbers 0 (p .n) → SameAsNodes p
   -- events and lines
   pub events : (file store : List ℕ) (p : Plan) → fileOf file ≡ accepted p → length store ≡ storeSize
       → (cs : List Call) → NextEvents p (after p (eventsOf p cs)) (storeOf file store cs)

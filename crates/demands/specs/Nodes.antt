@@ -1,7 +1,8 @@
 -- WHAT IS REHEARSED IS WHAT THE NODES DO, of bytes: "We choose time-outs by rehearsal, and one that differs from the nodes chooses
 -- wrongly." An event of the platform is a call on the node record of the node whose event it is: the call is accepted, leaves
 -- that node's fields after the event, and puts the messages that the event adds to those in flight. proofs/Nodes.antt proves
--- it for every accepted file. Assumes nothing.
+-- it for every accepted file whose ring is in number order, the order of node records: 'node records and the forwarding table stay in
+-- number order'. Assumes nothing.
 use mathlib.Core.Path.{_≡_}
 use mathlib.Core.Bool.{true, cond, _&&_}
 use mathlib.Core.List.{List, _++_}
@@ -121,7 +122,7 @@ pub record Follows (p : Plan) (x : ℕ) (bytes : List ℕ) (parts : ℕ → List
       → SameEvent p (after p k) e s' x c (recordAfter p x bytes parts k) (parts k)
   pub holds : (k : ℕ) → recordAfter p x bytes parts k ≡ encode (recordOf p x (lastTick p x k) (nodeOf (after p k) x))
 
--- ---- the statement, of an accepted file's plan
+-- ---- the statement, of an accepted file's plan whose ring is in number order
 
 -- A record that holds x's fields with an earlier last tick may be out of range, since a watch is due by 2 × W after the last tick: with
 -- `P,2,1,2,1,20`, after eight events, node 0's watch is due at tick 5, and a record of it with last tick 0 gets 10

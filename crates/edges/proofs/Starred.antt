@@ -1,4 +1,4 @@
--- Document 01's starred edges hold: each definition computes to what the table says. Assumes nothing.
+-- Document 01's starred edges hold, and those of document 02's Q line: each definition computes to what the table says. Assumes nothing.
 use mathlib.Core.Path.{refl}
 use Rattle.ring.specs.Ring.{among, eachOnce, listingAll}
 use Rattle.ring.specs.Ring.{keep, numbers, listed, listing, unlisted, place, round, ahead, back, next, count, powers, jumps, targets}
@@ -7,11 +7,9 @@ use Rattle.text.specs.Number.{digit, decimal}
 use Rattle.text.specs.Hex.{hexByte}
 use Rattle.text.specs.Field.{ends, onto, numberFieldAt}
 use Rattle.runfile.specs.File.{lines, fieldThen, pairOf, crashOf, delayOf, startOf, formOf, rowOf, orElse, startLine, early, crashLine, delayLine, firstLine}
-use Rattle.runfile.specs.File.{laterLine, stepThen, laterLines, allLines, fileOf}
+use Rattle.runfile.specs.File.{numbersThen, ringOf, fresh, ringLine, laterLine, stepThen, laterLines, allLines, fileOf}
 use Rattle.plans.specs.Plan.{within, startRanges, longEnough, crashRange, delayRange, risingFrom, rising, later, hits, noneTwice, crashOrder, above}
-use Rattle.plans.specs.Plan.{withCrashed}
-use Rattle.plans.specs.Plan.{delayOrder}
-use Rattle.plans.specs.Plan.{fewDelays, startPlan, withCrash, withDelay}
+use Rattle.plans.specs.Plan.{withCrashed, delayOrder, fewDelays, startPlan, withRing, withCrash, withDelay, ringOrder, orderOf, every, ringRange}
 use Rattle.logline.specs.Line.{lineText}
 use Rattle.model.specs.Platform.{alive, survivors, crashedList, start, crashEntries, messageEntries, timerEntry, timerEntries, pending, earlier}
 use Rattle.model.specs.Platform.{first, upTo, nextEvent, delayIn, numbered, taken, without, received, apply, fits, tried, try, delayOf as messageDelay}
@@ -19,13 +17,14 @@ use Rattle.model.specs.Lines.{otherOf, lastLine, linesFrom, log, messageDeed, d
 use Rattle.edges.specs.Edges.{dead, targetsOf, backFrom, bytes, judged, logText, written, logOf, workedLog, Edges}
 
 pub edges : Edges
-unfolding among eachOnce listingAll keep numbers listed listing unlisted place round ahead back next count powers jumps targets dead targetsOf
-    backFrom reports nodeOpening onHeartbeat onObserver onReport onHeartbeatDue leaving onMessage digit decimal hexByte numberFieldAt ends within
-    startRanges longEnough crashRange delayRange risingFrom rising later hits noneTwice crashOrder above delayOrder fewDelays onto lines startPlan
-    fieldThen pairOf crashOf delayOf startOf formOf rowOf orElse withCrash withDelay startLine early crashLine delayLine firstLine laterLine
-    stepThen laterLines allLines fileOf lineText alive survivors withCrashed crashedList start crashEntries messageEntries timerEntry timerEntries
-    pending earlier first upTo nextEvent delayIn messageDelay numbered taken without received apply fits tried try otherOf lastLine linesFrom log
-    bytes judged logText written logOf workedLog messageDeed deedOf deedLines
+unfolding among eachOnce listingAll numbersThen ringOf fresh ringLine withRing ringOrder orderOf every ringRange keep numbers listed listing
+    unlisted place round ahead back next count powers jumps targets dead targetsOf backFrom reports nodeOpening onHeartbeat onObserver onReport
+    onHeartbeatDue leaving onMessage digit decimal hexByte numberFieldAt ends within startRanges longEnough crashRange delayRange risingFrom rising
+    later hits noneTwice crashOrder above delayOrder fewDelays onto lines startPlan fieldThen pairOf crashOf delayOf startOf formOf rowOf orElse
+    withCrash withDelay startLine early crashLine delayLine firstLine laterLine stepThen laterLines allLines fileOf lineText alive survivors
+    withCrashed crashedList start crashEntries messageEntries timerEntry timerEntries pending earlier first upTo nextEvent delayIn messageDelay
+    numbered taken without received apply fits tried try otherOf lastLine linesFrom log bytes judged logText written logOf workedLog messageDeed
+    deedOf deedLines
 edges = record {
   worked-log = refl;
   lone-log = refl;
@@ -42,4 +41,12 @@ edges = record {
   delay-6-refused = refl;
   crash-twice-refused = refl;
   crash-falling-refused = refl;
+  ring-taken = refl;
+  ring-log = refl;
+  node-twice-refused = refl;
+  no-node-before-twice = refl;
+  two-numbers-refused = refl;
+  four-numbers-refused = refl;
+  ring-twice-refused = refl;
+  ring-after-crash-refused = refl;
 }

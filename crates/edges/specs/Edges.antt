@@ -1,13 +1,13 @@
--- The table of document 01's starred edges, an entry each with 01's words above it: what a definition gives there. To add
--- one, write its line here and `refl` for it in proofs/Starred.antt. Assumes nothing.
+-- The table of document 01's starred edges, an entry each with 01's words above it: what a definition gives there; and those of document
+-- 02's line Q. To add one, write its line here and `refl` for it in proofs/Starred.antt. Assumes nothing.
 use mathlib.Core.Path.{_≡_}
 use mathlib.Core.List.{List, [], _∷_, _++_}
 use Prim.Native.Nat.{ℕ}
-use Prim.Native.Char.{Char, code}
+use Prim.Native.Char.{code}
 use Prim.Native.String.{String, [] as empty, _∷_ as before}
 use Rattle.ring.specs.Ring.{numbers, listing, place, back, powers, targets}
 use Rattle.runfile.specs.File.{FileAnswer, accepted, turnedDown, fileOf}
-use Rattle.plans.specs.Plan.{startPlan, withDelay}
+use Rattle.plans.specs.Plan.{startPlan, withRing, withDelay}
 use Rattle.logline.specs.declared.Line.{Line}
 use Rattle.logline.specs.Line.{lineText}
 use Rattle.model.specs.Lines.{log}
@@ -88,3 +88,20 @@ pub record Edges : Type 0 where
   -- "after `C,3,1`, both `C,3,1` and `C,3,0` get 5"
   pub crash-twice-refused : judged "P,2,2,3,1,6\nC,3,1\nC,3,1\n" ≡ turnedDown 5 3
   pub crash-falling-refused : judged "P,2,2,3,1,6\nC,3,1\nC,3,0\n" ≡ turnedDown 5 3
+  -- the line Q of document 02, #101: three nodes, the ring 1, 0, 2
+  -- "one line Q with N node numbers parted by commas, each exactly once"
+  pub ring-taken : judged "P,3,2,3,1,2\nQ,1,0,2\n" ≡ accepted (withRing (startPlan 3 2 3 1 2) (1 ∷ 0 ∷ 2 ∷ []))
+  -- "Before, after, ahead and back then follow the ring's order; events, lists and log columns still go by node number"
+  pub ring-log : logOf "P,3,2,3,1,2\nQ,1,0,2\n"
+      ≡ bytes "S,2,0,2,0000000000000000\n"
+      ++ bytes "S,2,1,0,0000000000000000\n"
+      ++ bytes "S,2,2,1,0000000000000000\n"
+      ++ bytes "E,2,3,3,0000000000000000\n"
+  -- "13, Q is not each node once; tried after 3 on the Q line"
+  pub node-twice-refused : judged "P,3,2,3,1,2\nQ,1,0,1\n" ≡ turnedDown 13 2
+  pub no-node-before-twice : judged "P,3,2,3,1,2\nQ,1,1,3\n" ≡ turnedDown 3 2
+  -- form: another count of numbers, and a place that is not right "after P"
+  pub two-numbers-refused : judged "P,3,2,3,1,2\nQ,1,0\n" ≡ turnedDown 2 2
+  pub four-numbers-refused : judged "P,3,2,3,1,2\nQ,1,0,2,1\n" ≡ turnedDown 2 2
+  pub ring-twice-refused : judged "P,3,2,3,1,2\nQ,1,0,2\nQ,1,0,2\n" ≡ turnedDown 2 3
+  pub ring-after-crash-refused : judged "P,3,2,3,1,2\nC,1,0\nQ,1,0,2\n" ≡ turnedDown 2 3

@@ -18,7 +18,7 @@ use Rattle.node.specs.declared.Turned.{Turned}
 use Rattle.limits.specs.Limits.{mostNodes, mostTick, mostInFlight, mostSent}
 use Rattle.node.specs.Node.{Turn, R, silent, places, turned, onMessage, onWatchDue, onHeartbeatDue}
 use Rattle.model.specs.declared.Deed.{Deed}
-use Rattle.plans.specs.Plan.{Plan, planTest}
+use Rattle.plans.specs.Plan.{Plan, planTest, orderOf}
 use Rattle.model.specs.Platform.{InFlight, State, Event, Entry, crash, message, watch, heartbeat, alive, crashedList, nextEvent, nodeOf, messageAt, taken}
 use Rattle.model.specs.Platform.{without, received, apply, tried, try, left, Outcome, did, ended, refused}
 use Rattle.node.specs.Range.{NodeRange}
@@ -115,7 +115,7 @@ module _ (b : List ℕ) (r : Ready b) (t : ℕ) (ev : Event) (next : NextIs b t 
   not-past : stateIn b .last ≤ t
   not-past = not-early (planIn b) pl (stateIn b) so t ev chosen
 
-  ring-few : length (planIn b .order) ≤ mostNodes
+  ring-few : length (orderOf (planIn b)) ≤ mostNodes
   ring-few = rw (pl .order .size) (pl .n≤)
 
   -- a turn that node x may take
@@ -143,7 +143,7 @@ pub record Timer (b : List ℕ) (t x : ℕ) (e : Event) (turn : Plan → Node �
   pub told : (s' : State) → deedOf (planIn b) (stateIn b) s' t e ≡ deed letter t x (other (nodeOf (stateIn b) x)) (nodeOf s' x .list)
 
 module _ (b : List ℕ) (r : Ready b) (t x : ℕ) where
-  pub watch-timer : NextIs b t (watch x) → Timer b t x (watch x) (λ p a. onWatchDue (p .order) (p .w) t x a) W (λ a. a .emitter)
+  pub watch-timer : NextIs b t (watch x) → Timer b t x (watch x) (λ p a. onWatchDue (orderOf p) (p .w) t x a) W (λ a. a .emitter)
   unfolding Chosen apply deedOf
   watch-timer next =
       let ch = chosen b r t (watch x) next in
@@ -272,10 +272,10 @@ module _ (b : List ℕ) (r : Ready b) (t i : ℕ) (next : NextIs b t (message i)
         q = ready-accepted b r .plain
 
         go : (c : Bool) → alive (planIn b) (stateIn b .done) (M .to) ≡ c
-            → SmallNode ((cond c (onMessage (planIn b .order) (planIn b .w) t (M .to) (M .kind) (M .from) (M .subject) (nodeOf (stateIn b) (M .to)))
+            → SmallNode ((cond c (onMessage (orderOf (planIn b)) (planIn b .w) t (M .to) (M .kind) (M .from) (M .subject) (nodeOf (stateIn b) (M .to)))
             (silent (nodeOf (stateIn b) (M .to)))) .node)
             × ((m : Message) → List·Memᴰ m
-            ((cond c (onMessage (planIn b .order) (planIn b .w) t (M .to) (M .kind) (M .from) (M .subject) (nodeOf (stateIn b) (M .to)))
+            ((cond c (onMessage (orderOf (planIn b)) (planIn b .w) t (M .to) (M .kind) (M .from) (M .subject) (nodeOf (stateIn b) (M .to)))
             (silent (nodeOf (stateIn b) (M .to)))) .sends) → SmallMessage m)
         go true e =
             let f = flight-range in

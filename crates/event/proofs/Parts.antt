@@ -5,13 +5,12 @@ use mathlib.Core.Path.{_≡_, sym, ap, ap₂, _∙_}
 use mathlib.Core.Bool.{Bool, true, false, cond}
 use mathlib.Core.List.{List}
 use native.Mathlib.Omega.{arith}
-use lib.ListN.{length, take}
+use lib.ListN.{length}
 use Rattle.limits.specs.Limits.{mostNodes, mostTick}
-use Rattle.ring.specs.Ring.{numbers, listed}
-use Rattle.ring.proofs.Rows.{take-numbers, length-numbers}
+use Rattle.ring.specs.Ring.{listed}
 use Rattle.node.specs.declared.Node.{Node}
 use Rattle.node.specs.Node.{Turn, silent, turned, onMessage}
-use Rattle.plans.specs.Plan.{Plan, planTest}
+use Rattle.plans.specs.Plan.{Plan, planTest, orderOf}
 use Rattle.model.specs.Platform.{InFlight, State, crashedList, delayOf, nodeOf, received}
 use Rattle.plans.specs.Plain.{Plain}
 use Rattle.plans.proofs.Facts.{plan-plain}
@@ -25,28 +24,14 @@ use Rattle.plans.proofs.Tests.{ranges}
 use Rattle.event.proofs.Readiness.{acting-accepted}
 use Rattle.event.proofs.Searching.{dead-of, live-of}
 
--- ---- the ring in number order, of which the code takes the first n of 64
+-- ---- the ring's order, as lent by the store
 
-pub record FirstNodes (b all : List ℕ) (n : ℕ) : Type 0 where
-  pub within : n ≤ length all
-  pub size : n ≡ length (take n all)
-  pub some : 1 ≤ length (take n all)
-  pub few : length (take n all) ≤ mostNodes
-  pub is : take n all ≡ planIn b .order
-
-pub first-nodes : (b : List ℕ) → Acting b → (all : List ℕ) (n : ℕ) → all ≡ numbers 0 mostNodes → n ≡ planIn b .n → FirstNodes b all n
-first-nodes b a all n e ne =
+-- it has one node at least, and 64 at most
+pub order-sized : (b : List ℕ) → Acting b → {order : List ℕ} → order ≡ orderOf (planIn b) → (1 ≤ length order) × (length order ≤ mostNodes)
+order-sized b a {order} e =
     let pl : Plain (planIn b) = acting-accepted b a .plain in
-    let l : n ≤ mostNodes = omega (arith, pl .n≤) in
-    let i : take n all ≡ numbers 0 n = ap (take n) e ∙ take-numbers n mostNodes 0 l in
-    let k : length (take n all) ≡ n = ap length i ∙ length-numbers n 0 in
-    record {
-      within = omega (arith, ap length e ∙ length-numbers mostNodes 0);
-      size = sym k;
-      some = omega (arith, pl .n≥);
-      few = omega arith;
-      is = i ∙ (ap (numbers 0) ne ∙ sym (a .held .fits .order));
-    }
+    let size : length order ≡ planIn b .n = ap length e ∙ pl .order .size in
+    (omega (arith, size, pl .n≥), omega (arith, size, pl .n≤))
 
 -- ---- the tick of an event, and one change after it
 
@@ -83,7 +68,7 @@ module _
     (le : l ≡ listed dead (m .to)) where
   abbrev turnWhere : Bool → Turn
   turnWhere c =
-      cond c (onMessage (planIn b .order) (planIn b .w) t (m .to) (m .kind) (m .from) (m .subject) (nodeOf (stateIn b) (m .to)))
+      cond c (onMessage (orderOf (planIn b)) (planIn b .w) t (m .to) (m .kind) (m .from) (m .subject) (nodeOf (stateIn b) (m .to)))
       (silent (nodeOf (stateIn b) (m .to)))
 
   listed-is : listed (crashedList (planIn b) (stateIn b .done)) (m .to) ≡ l
@@ -94,12 +79,12 @@ module _
   turn-dropped h n ne =
       ap turned (ap silent ne ∙ sym (ap turnWhere (dead-of (planIn b) (acting-accepted b a) (stateIn b .done) (m .to) (listed-is ∙ h))))
 
-  pub turn-delivered : l ≡ false → (n : Node) → n ≡ nodeOf (stateIn b) (m .to) → (order : List ℕ) → order ≡ planIn b .order → (w : ℕ)
+  pub turn-delivered : l ≡ false → (n : Node) → n ≡ nodeOf (stateIn b) (m .to) → (order : List ℕ) → order ≡ orderOf (planIn b) → (w : ℕ)
       → w ≡ planIn b .w
       → turned (onMessage order w t (m .to) (m .kind) (m .from) (m .subject) n) ≡ turned (received (planIn b) (stateIn b) t m)
   unfolding received
   turn-delivered h n ne order oe w we =
       ap turned
       (ap₂ (λ (o : List ℕ) (v : ℕ). onMessage o v t (m .to) (m .kind) (m .from) (m .subject) n) oe we
-      ∙ (ap (onMessage (planIn b .order) (planIn b .w) t (m .to) (m .kind) (m .from) (m .subject)) ne
+      ∙ (ap (onMessage (orderOf (planIn b)) (planIn b .w) t (m .to) (m .kind) (m .from) (m .subject)) ne
       ∙ sym (ap turnWhere (live-of (planIn b) (acting-accepted b a) (stateIn b .done) (m .to) (listed-is ∙ h)))))

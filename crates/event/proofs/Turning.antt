@@ -15,7 +15,7 @@ use Rattle.node.specs.declared.Turned.{Turned}
 use Rattle.node.specs.Node.{Turn, silent, alone, places, turned, onMessage}
 use Rattle.node.proofs.Sends.{message-few}
 use Rattle.limits.specs.Limits.{mostSent, mostNodes, mostInFlight}
-use Rattle.plans.specs.Plan.{Plan, planTest}
+use Rattle.plans.specs.Plan.{Plan, planTest, orderOf}
 use Rattle.model.specs.Platform.{InFlight, State, Event, Entry, alive, delayOf, nextEvent, numbered, nodeOf, taken, received, apply, fits, did, refused}
 use Rattle.model.specs.Platform.{tried, try, left}
 use Rattle.plans.specs.Plain.{Plain}
@@ -130,12 +130,12 @@ did-answer p s b a e s' h q k = rw h (ap Did k, q)
 
 -- ---- how many messages a turn sends
 
-pub received-few : (p : Plan) → length (p .order) ≤ mostNodes → (s : State) (t : ℕ) (m : InFlight)
+pub received-few : (p : Plan) → length (orderOf p) ≤ mostNodes → (s : State) (t : ℕ) (m : InFlight)
     → length ((received p s t m) .sends) ≤ mostSent
 unfolding received
 received-few p few s t m =
-    go (alive p (s .done) (m .to)) (onMessage (p .order) (p .w) t (m .to) (m .kind) (m .from) (m .subject) (nodeOf s (m .to)))
-    (message-few (p .order) few (p .w) t (m .to) (m .kind) (m .from) (m .subject) (nodeOf s (m .to)))
+    go (alive p (s .done) (m .to)) (onMessage (orderOf p) (p .w) t (m .to) (m .kind) (m .from) (m .subject) (nodeOf s (m .to)))
+    (message-few (orderOf p) few (p .w) t (m .to) (m .kind) (m .from) (m .subject) (nodeOf s (m .to)))
   where
     go : (c : Bool) (u : Turn) → length (u .sends) ≤ mostSent → length ((cond c u (silent (nodeOf s (m .to)))) .sends) ≤ mostSent
     go true u h = h

@@ -1,32 +1,26 @@
 -- A plan's tests, row by row: as long as the rows before place i pass, the test of all rows is that of the rows from i on. Assumes nothing.
 use Prim.Native.Nat.{ℕ, zero, suc, _+_, _≤_, _<_}
 use mathlib.Core.Path.{_≡_, refl, sym, ap, _∙_}
-use mathlib.Core.Bool.{Bool, true, false, not, _&&_, and-eq-true-iff, and-true}
-use mathlib.Core.List.{List, [], _∷_}
+use mathlib.Core.Bool.{Bool, true, false, not, _&&_, and-eq-true-iff, and-true, and-false, true≢false}
+use mathlib.Core.List.{List, [], _∷_, _++_}
 use native.Mathlib.Numerals.{add-one}
 use native.Mathlib.Omega.{arith}
 use borrow.Author.Tests.{eq-eqb, ne-eqb, leb-true, le-leb, lt-leb, le-ltb, lt-ltb}
 use lib.Dec.{leb, ltb}
-use lib.ListN.{length, getD, drop, drop-of-length-le}
-use lib.Seq.{drop-cons}
+use lib.ListN.{length, getD, take, drop, drop-of-length-le, take-append-drop}
+use lib.Seq.{drop-cons, take-suc, take-all}
 use Rattle.fields.proofs.Answers.{fails, holds}
 use Rattle.limits.specs.Limits.{mostNodes, mostH, mostW, mostD, mostTick, mostNumber, mostDelays}
 use Rattle.plans.specs.Plan.{Plan, Crash, Delay, within, startRanges, crashRange, delayRange, risingFrom, rising, later, hits, noneTwice, above, delayOrder}
-use Rattle.plans.specs.Plan.{fewDelays, every, orderTest, delayTest}
-use Rattle.plans.proofs.Orders.{number-order-taken}
-use Rattle.ring.specs.Ring.{among, eachOnce}
+use Rattle.plans.specs.Plan.{fewDelays, every, ringCount, ringRange, ringTest, delayTest}
+use Rattle.ring.specs.Ring.{among, eachOnce, listed, listing, listingAll}
+use Rattle.ring.proofs.Once.{listed-all, all-snoc, once-snoc, once-start}
+use Rattle.plans.proofs.Orders.{ring-node}
+use Rattle.plans.proofs.Rows.{every-snoc}
 use Rattle.plans.specs.Plain.{noCrash}
 use Rattle.store.specs.declared.CrashRow.{CrashRow}
 use Rattle.store.specs.declared.DelayRow.{DelayRow}
 use Rattle.store.specs.Inside.{crashRow, delayRow}
-use Rattle.store.specs.Store.{planIn}
-
--- ---- the order
-
--- the plan that a store holds is in number order
-pub order-taken : (b : List ℕ) {r x : Bool} → r ≡ x → r ≡ (orderTest (planIn b) && x)
-unfolding planIn
-order-taken b {r} {x} e = e ∙ sym (ap (λ (t : Bool). t && x) (number-order-taken (planIn b) refl))
 
 -- ---- a row as it was read
 
@@ -87,6 +81,83 @@ module _ {A : Type 0} (after : A → A → Bool) (rows : List A) (i : ℕ) (so-f
       short l zero h = one l h
       short [] (suc i) h = refl
       short (x ∷ l) (suc i) h = short l i (omega arith)
+
+-- ---- the Q line
+
+-- the first i numbers passed, and are seen
+pub record Seen (p : Plan) (ks : List ℕ) (i seen : ℕ) : Type 0 where
+  pub range : ringRange p (take i ks) ≡ true
+  pub once : eachOnce (take i ks) ≡ true
+  pub are : seen ≡ listingAll 0 (take i ks)
+
+module _ (p : Plan) (ks : List ℕ) where
+  pub none-seen : Seen p ks 0 0
+  unfolding ringRange every eachOnce listingAll
+  none-seen = record { range = refl; once = refl; are = refl }
+
+  module _ {i k : ℕ} (inside : i < length ks) (got : k ≡ getD ks i 0) where
+    -- a number that is no node
+    pub ring-above : {n : ℕ} → n ≡ p .n → n ≤ k → false ≡ (ringRange p ks && eachOnce ks)
+    ring-above e h = go (ringRange p ks) refl
+      where
+        go : (t : Bool) → ringRange p ks ≡ t → false ≡ (t && eachOnce ks)
+        go true r = absurd (omega (arith, ring-node p ks r i inside))
+        go false r = refl
+
+    module _ {seen : ℕ} (sofar : Seen p ks i seen) where
+      more : take (i + 1) ks ≡ take i ks ++ (k ∷ [])
+      more = rw (add-one i, got) (take-suc ks i 0 inside)
+
+      -- whether it was seen is whether it stands before
+      before : listed seen k ≡ among (take i ks) k
+      before = rw (sofar .are) (listed-all (take i ks) k)
+
+      -- one that stands twice
+      pub ring-twice : {b : Bool} → b ≡ listed seen k → b ≡ true → false ≡ (ringRange p ks && eachOnce ks)
+      ring-twice told hit = go (eachOnce ks) refl
+        where
+          stands : eachOnce (take (i + 1) ks) ≡ false
+          stands = rw (more, once-snoc (take i ks) k, sofar .once, ← before, ← told, hit)
+
+          go : (t : Bool) → eachOnce ks ≡ t → false ≡ (ringRange p ks && t)
+          go true e =
+              let part = once-start (take (i + 1) ks) (drop (i + 1) ks) (rw (take-append-drop (i + 1) ks) e) in
+              absurd (true≢false (sym part ∙ stands))
+          go false e = sym (and-false (ringRange p ks))
+
+      pub ring-turn : {n : ℕ} → n ≡ p .n → k < n → {b : Bool} → b ≡ listed seen k → b ≡ false → {next : ℕ} → next ≡ listing seen k
+          → Seen p ks (i + 1) next
+      unfolding ringRange
+      ring-turn e h told free listed = record {
+        range = rw more (every-snoc (λ x. ltb x (p .n)) (take i ks) k (sofar .range) (lt-ltb k (p .n) (omega arith)));
+        once = rw (more, once-snoc (take i ks) k, sofar .once, ← before, ← told, free);
+        are = listed ∙ rw (sofar .are, more) (sym (all-snoc (take i ks) 0 k));
+      }
+
+  -- all numbers were seen
+  pub ring-end : {i seen : ℕ} → Seen p ks i seen → length ks ≤ i → true ≡ (ringRange p ks && eachOnce ks)
+  ring-end {i} sofar past =
+      let all : take i ks ≡ ks = take-all i ks past in
+      let range : ringRange p ks ≡ true = rw all at (sofar .range) in
+      let once : eachOnce ks ≡ true = rw all at (sofar .once) in
+      rw (range, once)
+
+-- no Q line; one of another count; the numbers of one
+module _ (p : Plan) {size : ℕ} (read : size ≡ length (p .ring)) where
+  pub ring-none : size ≡ 0 → true ≡ ringTest p
+  unfolding ringTest
+  ring-none e = rw (eq-eqb (length (p .ring)) 0 (sym read ∙ e))
+
+  module _ (some : size ≡ 0 → ⊥) {n : ℕ} (nodes : n ≡ p .n) where
+    pub ring-miscounted : (size ≡ n → ⊥) → false ≡ ringTest p
+    unfolding ringTest ringCount
+    ring-miscounted d =
+        rw (ne-eqb (length (p .ring)) 0 (λ e. some (read ∙ e)), ne-eqb (length (p .ring)) (p .n) (λ e. d (read ∙ e ∙ sym nodes)))
+
+    pub ring-counted : size ≡ n → {r : Bool} → r ≡ (ringRange p (p .ring) && eachOnce (p .ring)) → r ≡ ringTest p
+    unfolding ringTest ringCount
+    ring-counted e told =
+        rw (ne-eqb (length (p .ring)) 0 (λ z. some (read ∙ z)), eq-eqb (length (p .ring)) (p .n) (sym read ∙ e ∙ nodes)) told
 
 -- ---- C rows
 

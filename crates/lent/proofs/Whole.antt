@@ -1,6 +1,6 @@
 -- Number 7's test of a whole store, part by part, as the code goes through it. Assumes nothing.
 use Prim.Native.Nat.{ℕ}
-use mathlib.Core.Path.{_≡_, ap, _∙_}
+use mathlib.Core.Path.{_≡_, sym, ap, _∙_}
 use mathlib.Core.Bool.{Bool, true, false, not, _&&_, and-assoc, and-true}
 use mathlib.Core.List.{List}
 use lib.Dec.{eqb, leb}
@@ -9,8 +9,8 @@ use Rattle.plans.specs.Plan.{planTest}
 use Rattle.limits.specs.Limits.{mostNext, storeSize}
 use Rattle.model.specs.Range.{soundTest, storeTest}
 use Rattle.store.specs.Columns.{Field, restZero, restTest, roomTest, unusedTest}
-use Rattle.store.specs.Store.{spareHead, spareNodes, spareTail, crashTicks, crashNodes, delayNumbers, delayTicks}
-use Rattle.store.specs.Store.{nodeParts, crashParts, delayParts, messageParts, columns, planIn, stateIn, storeInRange}
+use Rattle.store.specs.Store.{spareHead, ringNodes, spareNodes, spareTail, crashTicks, crashNodes, delayNumbers, delayTicks}
+use Rattle.store.specs.Store.{ringParts, nodeParts, crashParts, delayParts, messageParts, columns, planIn, stateIn, storeInRange}
 use Rattle.store.specs.Inside.{Sized}
 use Rattle.store.proofs.Store.{length-nodes, room-parts, room-counts}
 use Rattle.store.proofs.Blank.{unused-parts}
@@ -19,7 +19,8 @@ use Rattle.lent.proofs.Parts.{part-fails, part-holds}
 module _ (b : List ℕ) where
   -- the counts
   pub room-here : roomTest (columns (planIn b) (stateIn b))
-      ≡ (leb (planIn b .n) 64 && (leb (length (planIn b .crashes)) 64 && (leb (length (planIn b .delays)) 2048 && leb (length (stateIn b .flight)) 2048)))
+      ≡ (leb (length (planIn b .ring)) 64 && (leb (planIn b .n) 64
+      && (leb (length (planIn b .crashes)) 64 && (leb (length (planIn b .delays)) 2048 && leb (length (stateIn b .flight)) 2048))))
   room-here = room-parts (planIn b) (stateIn b) ∙ rw (length-nodes b)
 
   -- bytes of a store's length that pass are what the readers ask for
@@ -40,13 +41,19 @@ module _ (b : List ℕ) where
   rowsRest f g n = restZero b f n && restZero b g n
 
   pub unused-here : unusedTest b (columns (planIn b) (stateIn b))
-      ≡ (restZero b spareHead 0 && (restTest nodeParts b (planIn b .n) && (restZero b spareNodes 0
+      ≡ ((restZero b spareHead 0 && restZero b ringNodes (length (planIn b .ring))) && (restTest nodeParts b (planIn b .n) && (restZero b spareNodes 0
       && (rowsRest crashTicks crashNodes (length (planIn b .crashes)) && (rowsRest delayNumbers delayTicks (length (planIn b .delays))
       && (restTest messageParts b (length (stateIn b .flight)) && restZero b spareTail 0))))))
-  unfolding restTest crashParts delayParts
+  unfolding restTest ringParts crashParts delayParts
   unused-here =
       unused-parts b (planIn b) (stateIn b)
-      ∙ rw (length-nodes b, and-true (restZero b crashNodes (length (planIn b .crashes))), and-true (restZero b delayTicks (length (planIn b .delays))))
+      ∙ rw (
+        length-nodes b,
+        and-true (restZero b ringNodes (length (planIn b .ring))),
+        and-true (restZero b crashNodes (length (planIn b .crashes))),
+        and-true (restZero b delayTicks (length (planIn b .delays))),
+      )
+      (sym (and-assoc (restZero b spareHead 0) (restZero b ringNodes (length (planIn b .ring))) _))
 
   -- what was answered of the places after a count that was read
   module _ {a : Bool} {n : ℕ} (told : a ≡ restTest nodeParts b n) (read : n ≡ planIn b .n) where

@@ -1,5 +1,5 @@
 // Number 7's test of a lent store: its length, its counts, what it holds, and that its unused bytes are zero.
-pub mod rows; // rows.rt: whether the P line and the rows of C and L lines are those of a run file
+pub mod rows; // rows.rt: whether the P line, the Q line and the rows of C and L lines are those of a run file
 pub mod state; // state.rt: whether the state is in range
 
 use store::layout;
@@ -11,16 +11,19 @@ ghost use Prim.Native.Nat.{_+_, _*_, _≤_};
 ghost use lib.ListN.{length};
 ghost use lib.Seq.{slice};
 ghost use Rattle.fields.specs.Fields.{zeros};
-ghost use Rattle.limits.specs.Limits.{mostNodes, mostDelays, mostInFlight, storeSize};
+ghost use Rattle.limits.specs.Limits.{mostNodes, mostInFlight, storeSize};
 ghost use Rattle.store.specs.Columns.{field, restZero, restTest, roomTest, unusedTest};
-ghost use Rattle.store.specs.Store.{nodeParts, messageParts, columns, planIn, stateIn, storeInRange};
+ghost use Rattle.store.specs.Store.{spareHead, ringNodes, nodeParts, messageParts, columns, planIn, stateIn, storeInRange};
 ghost use Rattle.store.specs.Inside.{Sized};
 
-// No more nodes, rows and messages than there are places.
+// No more numbers of the Q line, nodes, rows and messages than there are places.
 fn counts_fit(s: &[u8]) -> bool
     requires { ⌜ length (now s) ≡ storeSize ⌝ }
     ensures { λ r. ⌜ r ≡ roomTest (columns (planIn (now (s .entry))) (stateIn (now (s .entry)))) ⌝ }
 {
+    if plan::ring_size(s) > layout::MOST_NODES {
+        return false;
+    }
     if plan::node_count(s) > layout::MOST_NODES {
         return false;
     }
@@ -39,6 +42,23 @@ fn rest_zero(s: &[u8], at: usize, w: usize, places: usize, n: usize) -> bool
     ensures { λ r. ⌜ r ≡ zeros (slice (at + w * n) (at + w * places) (now (s .entry))) ⌝ }
 {
     fields::is_zero(s, at + w * n, at + w * places)
+}
+
+// The head's unused bytes are zero, and the places beyond the last number of the Q line.
+fn ring_rest(s: &[u8]) -> bool
+    requires { ⌜ Sized (now s) ⌝ }
+    ensures { λ r. ⌜ r ≡ (restZero (now (s .entry)) spareHead 0 && restZero (now (s .entry)) ringNodes (length (planIn (now (s .entry)) .ring))) ⌝ }
+{
+    if !fields::is_zero(s, layout::SPARE_HEAD, layout::RING_NODES) {
+        return false;
+    }
+    rest_zero(
+        s,
+        layout::RING_NODES,
+        1,
+        layout::MOST_NODES,
+        plan::ring_size(s),
+    )
 }
 
 // The places beyond the last of n nodes are zero.
@@ -100,7 +120,7 @@ fn unused_zero(s: &[u8]) -> bool
     requires { ⌜ Sized (now s) ⌝ }
     ensures { λ r. ⌜ r ≡ unusedTest (now (s .entry)) (columns (planIn (now (s .entry))) (stateIn (now (s .entry)))) ⌝ }
 {
-    if !fields::is_zero(s, layout::SPARE_HEAD, layout::EMITTERS) {
+    if !ring_rest(s) {
         return false;
     }
     if !nodes_rest(s, plan::node_count(s)) {

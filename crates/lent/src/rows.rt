@@ -1,4 +1,4 @@
-// The first half of number 7's test of a lent store: whether the P line and the rows of C and L lines are those of a run file.
+// The first half of number 7's test of a lent store: whether the P line, the Q line and the rows of C and L lines are those of a run file.
 use limits::MOST_D;
 use limits::MOST_H;
 use limits::MOST_TICK;
@@ -6,10 +6,12 @@ use limits::MOST_W;
 use store::layout;
 use store::plan;
 ghost use mathlib.Core.Path.{_≡_};
+ghost use mathlib.Core.Bool.{_&&_};
 ghost use Prim.Native.Nat.{_+_, _<_};
 ghost use lib.ListN.{length, drop};
 ghost use Rattle.plans.specs.Plan.{within, crashRange, delayRange, rising, later, hits, noneTwice, delayOrder, every, startRanges, startTest, crashTest};
-ghost use Rattle.plans.specs.Plan.{delayTest, planTest};
+ghost use Rattle.plans.specs.Plan.{ringRange, ringTest, delayTest, planTest};
+ghost use Rattle.ring.specs.Ring.{eachOnce};
 ghost use Rattle.plans.specs.Plain.{rowAt};
 ghost use Rattle.limits.specs.Limits.{storeSize};
 ghost use Rattle.store.specs.Store.{planIn};
@@ -57,6 +59,44 @@ fn start_in_range(s: &[u8]) -> bool
         return false;
     }
     plan::period(s) + plan::longest_delay(s) <= plan::time_out(s)
+}
+
+// Whether the numbers of the Q line are nodes, and none stands twice.
+fn ring_nodes_once(s: &[u8]) -> bool
+    requires { ⌜ Sized (now s) ⌝ }
+    ensures { λ r. ⌜ r ≡ (ringRange (planIn (now (s .entry))) (planIn (now (s .entry)) .ring) && eachOnce (planIn (now (s .entry)) .ring)) ⌝ }
+{
+    let n = plan::node_count(s);
+    let size = plan::ring_size(s);
+    let mut seen: u64 = 0;
+    let mut i: usize = 0;
+    while i < size {
+        let k = plan::ring_at(s, i);
+        if n <= k as usize {
+            return false;
+        }
+        if ring::is_listed(seen, k) {
+            return false;
+        }
+        seen = ring::with_listed(seen, k);
+        i += 1;
+    }
+    true
+}
+
+// Whether a run file may hold the Q line, or there is none.
+fn ring_in_range(s: &[u8]) -> bool
+    requires { ⌜ Sized (now s) ⌝ }
+    ensures { λ r. ⌜ r ≡ ringTest (planIn (now (s .entry))) ⌝ }
+{
+    let size = plan::ring_size(s);
+    if size == 0 {
+        return true;
+    }
+    if size != plan::node_count(s) {
+        return false;
+    }
+    ring_nodes_once(s)
 }
 
 // Whether the C row at a place is in range.
@@ -233,6 +273,9 @@ pub fn plan_in_range(s: &[u8]) -> bool
     ensures { λ r. ⌜ r ≡ planTest (planIn (now (s .entry))) ⌝ }
 {
     if !start_in_range(s) {
+        return false;
+    }
+    if !ring_in_range(s) {
         return false;
     }
     if !crash_rows_in_range(s) {

@@ -5,7 +5,7 @@ use mathlib.Core.List.{List, [], _∷_}
 use Prim.Native.Nat.{ℕ}
 use lib.Dec.{ltb}
 use Rattle.limits.specs.Refusals.{accepted, badLength, badForm, outOfRange, shortTimeOut, notRising, manyDelays, badStore, tooMany, shortPart}
-use Rattle.limits.specs.Refusals.{badRecord, badMessage, badTick}
+use Rattle.limits.specs.Refusals.{badRecord, badMessage, badTick, notEachOnce}
 
 unfoldable pub risesFrom : ℕ → List ℕ → Bool
 risesFrom x [] = true
@@ -13,7 +13,7 @@ risesFrom x (y ∷ ys) = ltb x y && risesFrom y ys
 
 pub refusals-differ : risesFrom accepted
     (badLength ∷ badForm ∷ outOfRange ∷ shortTimeOut ∷ notRising ∷ manyDelays ∷ badStore ∷ tooMany ∷ shortPart ∷ badRecord
-    ∷ badMessage ∷ badTick ∷ [])
+    ∷ badMessage ∷ badTick ∷ notEachOnce ∷ [])
     ≡ true
 unfolding risesFrom
 refusals-differ = refl

@@ -1,4 +1,4 @@
--- The numbers of document 01's table 'Where a call is turned down', each once. Assumes nothing.
+-- The numbers of document 01's table 'Where a call is turned down' and those that document 02 adds, each once. Assumes nothing.
 use Prim.Native.Nat.{ℕ}
 
 -- no refusal
@@ -52,3 +52,7 @@ badMessage = 11
 -- 'node call, tick: before the record's last tick, or above 1,000,000'
 abbrev pub badTick : ℕ
 badTick = 12
+
+-- document 02, #101: 'Q is not each node once; tried after 3 on the Q line'
+abbrev pub notEachOnce : ℕ
+notEachOnce = 13

@@ -65,3 +65,5 @@ pub const BAD_RECORD: u64 = 10;
 pub const BAD_MESSAGE: u64 = 11;
 
 pub const BAD_TICK: u64 = 12;
+
+pub const NOT_EACH_ONCE: u64 = 13;

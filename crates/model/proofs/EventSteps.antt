@@ -13,7 +13,7 @@ use Rattle.node.specs.Node.{H, O, R, Turn, silent, alone, due, reports, onMessa
 use Rattle.node.specs.Node.{withHeartbeat, withList}
 use Rattle.node.proofs.Moves.{Heard, renews, unheard, Reported, known, own, relays, Messaged, beats, observes, tells, messaged, other-is-report, beaten}
 use Rattle.node.proofs.Moves.{movedSends, Left, stops, moves, left}
-use Rattle.plans.specs.Plan.{Crash, Plan}
+use Rattle.plans.specs.Plan.{Crash, Plan, orderOf}
 use Rattle.model.specs.Platform.{InFlight, State, Event, alive, survivors, delayOf, numbered, nodeOf, taken, messageAt, without, received, apply}
 use Rattle.model.specs.Platform.{crash as crashE, message as messageE, watch as watchE, heartbeat as beatE}
 use Rattle.plans.specs.Plain.{noCrash, rowAt}
@@ -132,14 +132,14 @@ module _ (p : Plan) (ac : Accepted p) where
         abbrev nx : Node
         nx = nodeOf s x
 
-        abbrev io : InOrder (p .n) (p .order)
+        abbrev io : InOrder (p .n) (orderOf p)
         io = (ac .plain) .order
 
-        abbrev o : InOrder (p .n) (p .order)
+        abbrev o : InOrder (p .n) (orderOf p)
         o = io
 
         abbrev y : ℕ
-        y = newEmitter (p .order) nx
+        y = newEmitter (orderOf p) nx
 
         other : nx .emitter ≢ x
         other = (r .live x alive-x) .observes (λ z. omega arith)
@@ -149,7 +149,7 @@ module _ (p : Plan) (ac : Accepted p) where
 
         -- the new emitter is found going back from the old one, seen from x
         back-found : Found (p .n) o (listed (leftList nx)) x (gap (p .n) o x (nx .emitter)) y
-        back-found = found-back (p .n) (leftList nx) (p .order) io x xN un (nx .emitter) ((r .fields x xN) .emitter) other
+        back-found = found-back (p .n) (leftList nx) (orderOf p) io x xN un (nx .emitter) ((r .fields x xN) .emitter) other
 
         expiry : Expiry (P p ac) (view p s) t x (listed (leftList nx)) y
         expiry = record {
@@ -162,7 +162,7 @@ module _ (p : Plan) (ac : Accepted p) where
         }
 
         -- the node leaves its emitter
-        leaves : (u : Turn) → Left (p .order) (p .w) t x nx u → Does (taken p s t x (s .flight) u)
+        leaves : (u : Turn) → Left (orderOf p) (p .w) t x nx u → Does (taken p s t x (s .flight) u)
         unfolding taken numbered
         leaves u (stops e) = record {
           step = aloneS t x (listed (leftList nx)) record {
@@ -176,7 +176,7 @@ module _ (p : Plan) (ac : Accepted p) where
         }
         leaves u (moves ne) = record {
           step = moves-on t x (listed (leftList nx)) _ (record { number = s .next; kind = O; from = x; to = y; subject = 0; due = t + delayOf p (s .next) })
-              (numbered p t x (suc (s .next)) (reports (nx .emitter) (targets (p .order) (leftList nx) (place (p .order) x)))) record {
+              (numbered p t x (suc (s .next)) (reports (nx .emitter) (targets (orderOf p) (leftList nx) (place (orderOf p) x)))) record {
                 expiry = expiry;
                 other = ne;
                 o-by = refl;
@@ -185,7 +185,7 @@ module _ (p : Plan) (ac : Accepted p) where
                 o-kind = refl;
                 o-to = refl;
                 rs = told p ac s r x t (nx .emitter) (leftList nx) (suc (s .next)) xN un;
-                frame = frame p ac s r t x [] (s .flight) (sending (moved (p .w) t y (leftList nx) nx) (movedSends (p .order) (p .w) t x nx)) _ xN a b
+                frame = frame p ac s r t x [] (s .flight) (sending (moved (p .w) t y (leftList nx) nx) (movedSends (orderOf p) (p .w) t x nx)) _ xN a b
                     (live-is x alive-x (moved (p .w) t y (leftList nx) nx)) (λ g h. inr h) (λ g h. h);
               };
           last = refl;
@@ -195,7 +195,7 @@ module _ (p : Plan) (ac : Accepted p) where
 
       watch-does : (x : ℕ) → Chosen p (ac .plain) s t (watchE x) → Does (apply p s t (watchE x))
       unfolding Chosen apply
-      watch-does x ch = leaves x (in-n p (ac .plain) s r x (ch .0)) (ch .1) (ch .2) (ch .3) _ (left (p .order) (p .w) t x (nodeOf s x))
+      watch-does x ch = leaves x (in-n p (ac .plain) s r x (ch .0)) (ch .1) (ch .2) (ch .3) _ (left (orderOf p) (p .w) t x (nodeOf s x))
 
     -- a message, at the tick at which it is due
     module _ (k : ℕ) (less : k < length (s .flight)) (b : (messageAt s k) .due ≤ p .end)
@@ -283,7 +283,7 @@ module _ (p : Plan) (ac : Accepted p) where
         more = omega arith;
       }
 
-      report-does : alive p (s .done) x ≡ true → m .kind ≡ R → (u : Turn) → Reported (p .order) x (m .subject) n u → Goes u
+      report-does : alive p (s .done) x ≡ true → m .kind ≡ R → (u : Turn) → Reported (orderOf p) x (m .subject) n u → Goes u
       unfolding taken
       report-does l k2 u (known e) = idles l (inr (k2, inl e))
       report-does l k2 u (own e) = idles l (inr (k2, inr e))
@@ -299,7 +299,7 @@ module _ (p : Plan) (ac : Accepted p) where
               fresh = fresh;
               rs = told p ac s r x (m .due) (m .subject) list (s .next) (fl .to) un;
               least = dl;
-              frame = fr (sending (withList n list) (reports (m .subject) (targets (p .order) list (place (p .order) x)))) _ (live l (withList n list));
+              frame = fr (sending (withList n list) (reports (m .subject) (targets (orderOf p) list (place (orderOf p) x)))) _ (live l (withList n list));
             };
             last = refl;
             spaced = λ sp. tt;
@@ -309,10 +309,10 @@ module _ (p : Plan) (ac : Accepted p) where
       message-does : Does (apply p s (m .due) (messageE k))
       unfolding apply received
       message-does =
-          go (alive p (s .done) x) refl (onMessage (p .order) (p .w) (m .due) x (m .kind) (m .from) (m .subject) n)
-          (messaged (p .order) (p .w) (m .due) x (m .kind) (m .from) (m .subject) n)
+          go (alive p (s .done) x) refl (onMessage (orderOf p) (p .w) (m .due) x (m .kind) (m .from) (m .subject) n)
+          (messaged (orderOf p) (p .w) (m .due) x (m .kind) (m .from) (m .subject) n)
         where
-          go : (c : Bool) → alive p (s .done) x ≡ c → (u : Turn) → Messaged (p .order) (p .w) (m .due) x (m .kind) (m .from) (m .subject) n u
+          go : (c : Bool) → alive p (s .done) x ≡ c → (u : Turn) → Messaged (orderOf p) (p .w) (m .due) x (m .kind) (m .from) (m .subject) n u
               → Goes (cond c u (silent n))
           go false l u h = drops l
           go true l u (beats e v h) = heartbeat-does l e v h

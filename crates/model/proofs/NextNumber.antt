@@ -16,7 +16,7 @@ use Rattle.node.specs.Node.{Turn, alone, reports, onMessage, onWatchDue, onHear
 use Rattle.node.proofs.Moves.{Heard, renews, unheard, Reported, known, own, relays, Messaged, beats, observes, tells, messaged, beaten, Left, stops, moves}
 use Rattle.node.proofs.Moves.{left as left-by}
 use Rattle.node.proofs.Sends.{reports-few}
-use Rattle.plans.specs.Plan.{Plan}
+use Rattle.plans.specs.Plan.{Plan, orderOf}
 use Rattle.model.specs.Platform.{InFlight, State, Event, crash, message, watch, heartbeat, alive, delayOf, start, numbered, nodeOf, taken, noMessage}
 use Rattle.model.specs.Platform.{messageAt, without, received, apply, Outcome, try, left, steps, after}
 use Rattle.plans.specs.Plain.{Plain}
@@ -87,8 +87,8 @@ module _ (p : Plan) (pl : Plain p) (t x : ℕ) (n : Node) where
   abbrev cost : Turn → ℕ
   cost u = length (u .sends) + 7 * ringAt t (u .node)
 
-  few : (k d : ℕ) → length (reports k (targets (p .order) d (place (p .order) x))) ≤ 6
-  few k d = reports-few (p .order) (rw (pl .order .size) (pl .n≤)) k d (place (p .order) x)
+  few : (k d : ℕ) → length (reports k (targets (orderOf p) d (place (orderOf p) x))) ≤ 6
+  few k d = reports-few (orderOf p) (rw (pl .order .size) (pl .n≤)) k d (place (orderOf p) x)
 
   not-now : (a : ℕ) → 1 ≤ a → eqb (suc (t + a)) (suc t) ≡ false
   not-now a h = ne-eqb (suc (t + a)) (suc t) (λ e. omega arith)
@@ -100,14 +100,14 @@ module _ (p : Plan) (pl : Plain p) (t x : ℕ) (n : Node) where
   unfolding ringAt one
   beat-cost e = rw (beaten (p .h) t n, not-now (p .h) (pl .h≥), eq-eqb (n .heartbeat) (suc t) e) (omega arith)
 
-  watch-cost : n .watch ≡ suc t → cost (onWatchDue (p .order) (p .w) t x n) ≤ 7 * ringAt t n
+  watch-cost : n .watch ≡ suc t → cost (onWatchDue (orderOf p) (p .w) t x n) ≤ 7 * ringAt t n
   unfolding ringAt one
-  watch-cost e = go (onWatchDue (p .order) (p .w) t x n) (left-by (p .order) (p .w) t x n)
+  watch-cost e = go (onWatchDue (orderOf p) (p .w) t x n) (left-by (orderOf p) (p .w) t x n)
     where
       double : (w : ℕ) → 1 ≤ w → 1 ≤ 2 * w
       double w h = omega arith
 
-      go : (u : Turn) → Left (p .order) (p .w) t x n u → cost u ≤ 7 * ringAt t n
+      go : (u : Turn) → Left (orderOf p) (p .w) t x n u → cost u ≤ 7 * ringAt t n
       go u (stops z) = rw (eq-eqb (n .watch) (suc t) e, off-not-now) (omega arith)
       go u (moves z) =
           rw (eq-eqb (n .watch) (suc t) e, not-now (2 * p .w) (double (p .w) (pl .w≥))) (omega (arith, few (n .emitter) (leftList n)))
@@ -117,17 +117,17 @@ module _ (p : Plan) (pl : Plain p) (t x : ℕ) (n : Node) where
   heartbeat-cost from u (renews e) = rw (not-now (p .w) (pl .w≥)) (omega arith)
   heartbeat-cost from u (unheard e) = omega arith
 
-  report-cost : (subject : ℕ) (u : Turn) → Reported (p .order) x subject n u → cost u ≤ 7 * ringAt t n + 7
+  report-cost : (subject : ℕ) (u : Turn) → Reported (orderOf p) x subject n u → cost u ≤ 7 * ringAt t n + 7
   unfolding ringAt
   report-cost subject u (known e) = omega arith
   report-cost subject u (own e) = omega arith
   report-cost subject u (relays e f) = omega (arith, few subject (listing (n .list) subject))
 
-  message-cost : (kind from subject : ℕ) → cost (onMessage (p .order) (p .w) t x kind from subject n) ≤ 7 * ringAt t n + 7
+  message-cost : (kind from subject : ℕ) → cost (onMessage (orderOf p) (p .w) t x kind from subject n) ≤ 7 * ringAt t n + 7
   unfolding ringAt
-  message-cost kind from subject = go _ (messaged (p .order) (p .w) t x kind from subject n)
+  message-cost kind from subject = go _ (messaged (orderOf p) (p .w) t x kind from subject n)
     where
-      go : (u : Turn) → Messaged (p .order) (p .w) t x kind from subject n u → cost u ≤ 7 * ringAt t n + 7
+      go : (u : Turn) → Messaged (orderOf p) (p .w) t x kind from subject n u → cost u ≤ 7 * ringAt t n + 7
       go u (beats e v h) = heartbeat-cost from v h
       go u (observes e) = omega (arith, one-le (eqb (suc t) (suc t)))
       go u (tells e f v r) = report-cost subject v r
@@ -173,7 +173,7 @@ module _ (p : Plan) (pl : Plain p) where
     unfolding Chosen apply received weight
     event-weight t (crash k) ch = omega arith
     event-weight t (watch x) ch =
-        taken-weight t x (s .flight) (onWatchDue (p .order) (p .w) t x (nodeOf s x)) 0 (in-n p pl s r x (ch .0)) (omega arith)
+        taken-weight t x (s .flight) (onWatchDue (orderOf p) (p .w) t x (nodeOf s x)) 0 (in-n p pl s r x (ch .0)) (omega arith)
         (omega (arith, watch-cost p pl t x (nodeOf s x) (ch .2)))
     event-weight t (heartbeat x) ch =
         taken-weight t x (s .flight) (onHeartbeatDue (p .h) t (nodeOf s x)) 0 (in-n p pl s r x (ch .0)) (omega arith)

@@ -9,7 +9,7 @@ use native.Mathlib.Decide.{decLt}
 use Rattle.ring.specs.Ring.{among, listed, place, back, next, InOrder}
 use Rattle.node.specs.declared.Node.{Node}
 use Rattle.node.specs.Node.{ringed}
-use Rattle.plans.specs.Plan.{Plan, hits}
+use Rattle.plans.specs.Plan.{Plan, hits, orderOf}
 use Rattle.model.specs.Platform.{alive, start, nodeOf}
 use Rattle.plans.specs.Plain.{Plain}
 use Rattle.model.specs.Range.{Accepted}
@@ -36,7 +36,7 @@ module _ (p : Plan) (ac : Accepted p) where
   abbrev pl : Plain p
   pl = ac .plain
 
-  abbrev io : InOrder (p .n) (p .order)
+  abbrev io : InOrder (p .n) (orderOf p)
   io = pl .order
 
   abbrev nd : ℕ → Node
@@ -44,21 +44,21 @@ module _ (p : Plan) (ac : Accepted p) where
 
   -- the neighbours of a node in a ring of two or more
   abbrev before : ℕ → ℕ
-  before j = back (p .order) 0 (place (p .order) j)
+  before j = back (orderOf p) 0 (place (orderOf p) j)
 
   abbrev behind : ℕ → ℕ
-  behind j = next (p .order) 0 (place (p .order) j)
+  behind j = next (orderOf p) 0 (place (orderOf p) j)
 
-  em-is : (j : ℕ) → nd j ≡ ringed (p .order) (p .h) (p .w) j → (nd j) .emitter ≡ before j
+  em-is : (j : ℕ) → nd j ≡ ringed (orderOf p) (p .h) (p .w) j → (nd j) .emitter ≡ before j
   em-is j e = ap (λ (a : Node). a .emitter) e
 
-  ob-is : (j : ℕ) → nd j ≡ ringed (p .order) (p .h) (p .w) j → (nd j) .observer ≡ behind j
+  ob-is : (j : ℕ) → nd j ≡ ringed (orderOf p) (p .h) (p .w) j → (nd j) .observer ≡ behind j
   ob-is j e = ap (λ (a : Node). a .observer) e
 
-  in-ring : (j : ℕ) → 1 < p .n → j < p .n → nd j ≡ ringed (p .order) (p .h) (p .w) j
+  in-ring : (j : ℕ) → 1 < p .n → j < p .n → nd j ≡ ringed (orderOf p) (p .h) (p .w) j
   in-ring j b h = go (shape p pl j)
     where
-      go : Shape p pl j → nd j ≡ ringed (p .order) (p .h) (p .w) j
+      go : Shape p pl j → nd j ≡ ringed (orderOf p) (p .h) (p .w) j
       go (inl x) = x .2
       go (inr x) = absurd (x .1 b h)
 
@@ -91,11 +91,11 @@ module _ (p : Plan) (ac : Accepted p) where
       em j k (inr x) = rw (x .0) (listed-none k)
 
       iN : (j : ℕ) → Shape p pl j → (nd j) .emitter ≢ j → (j < p .n) × ((nd j) .emitter < p .n)
-      iN j (inl x) n = rw (em-is j (x .2)) (x .1, open-back-below (p .n) (p .order) io j (x .1))
+      iN j (inl x) n = rw (em-is j (x .2)) (x .1, open-back-below (p .n) (orderOf p) io j (x .1))
       iN j (inr x) n = absurd (n (rw (x .0)))
 
       bf : (j k : ℕ) → Shape p pl j → gap (p .n) io j ((nd j) .emitter) ≤ gap (p .n) io j k
-      bf j k (inl x) = rw (em-is j (x .2)) (open-back-nearest (p .n) (p .order) io j (x .1) k)
+      bf j k (inl x) = rw (em-is j (x .2)) (open-back-nearest (p .n) (orderOf p) io j (x .1) k)
       bf j k (inr x) = rw (x .0) (go (decLt j (p .n)) (decLt k (p .n)))
         where
           go : Dec (j < p .n) → Dec (k < p .n) → gap (p .n) io j j ≤ gap (p .n) io j k
@@ -105,16 +105,16 @@ module _ (p : Plan) (ac : Accepted p) where
 
       ml : (j : ℕ) → Shape p pl j → (nd ((nd j) .emitter)) .observer ≡ j
       ml j (inl x) =
-          let there : nd (before j) ≡ ringed (p .order) (p .h) (p .w) (before j) =
-          in-ring (before j) (x .0) (open-back-below (p .n) (p .order) io j (x .1)) in
-          rw (em-is j (x .2), ob-is (before j) there) (next-back (p .n) 0 (p .order) io j (x .1) (listed-none j))
+          let there : nd (before j) ≡ ringed (orderOf p) (p .h) (p .w) (before j) =
+          in-ring (before j) (x .0) (open-back-below (p .n) (orderOf p) io j (x .1)) in
+          rw (em-is j (x .2), ob-is (before j) there) (next-back (p .n) 0 (orderOf p) io j (x .1) (listed-none j))
       ml j (inr x) = let e : (nd j) .emitter ≡ j = ap (λ (a : Node). a .emitter) (x .0) in rw (e, x .0)
 
       mr : (j : ℕ) → Shape p pl j → (nd ((nd j) .observer)) .emitter ≡ j
       mr j (inl x) =
-          let there : nd (behind j) ≡ ringed (p .order) (p .h) (p .w) (behind j) =
-          in-ring (behind j) (x .0) (open-next-below (p .n) (p .order) io j (x .1)) in
-          rw (ob-is j (x .2), em-is (behind j) there) (back-next (p .n) 0 (p .order) io j (x .1) (listed-none j))
+          let there : nd (behind j) ≡ ringed (orderOf p) (p .h) (p .w) (behind j) =
+          in-ring (behind j) (x .0) (open-next-below (p .n) (orderOf p) io j (x .1)) in
+          rw (ob-is j (x .2), em-is (behind j) there) (back-next (p .n) 0 (orderOf p) io j (x .1) (listed-none j))
       mr j (inr x) = let e : (nd j) .observer ≡ j = ap (λ (a : Node). a .observer) (x .0) in rw (e, x .0)
 
       ww : (j : ℕ) → Shape p pl j → (nd j) .emitter ≢ j → (isOn ((nd j) .watch) ≡ true) × (tickOf ((nd j) .watch) ≡ p .w)
@@ -126,5 +126,5 @@ module _ (p : Plan) (ac : Accepted p) where
       hh j (inr x) n = absurd (n (rw (x .0)))
 
       of : (j : ℕ) → Shape p pl j → (nd j) .emitter ≡ j → (isOn ((nd j) .watch) ≡ false) × (isOn ((nd j) .heartbeat) ≡ false)
-      of j (inl x) n = absurd (open-back-other (p .n) (p .order) io j (x .1) (x .0) (sym (em-is j (x .2)) ∙ n))
+      of j (inl x) n = absurd (open-back-other (p .n) (orderOf p) io j (x .1) (x .0) (sym (em-is j (x .2)) ∙ n))
       of j (inr x) n = rw (x .0) (refl, refl)

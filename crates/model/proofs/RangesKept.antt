@@ -23,13 +23,12 @@ use Rattle.node.specs.Range.{NodeRange, LiveRange, NotOverdue, Known}
 use Rattle.node.proofs.Moves.{Opened, joins, starts-alone, opened}
 use Rattle.node.proofs.Sends.{Sendable}
 use Rattle.node.proofs.Ranges.{Took, later-range, opening-range, message-took, beat-took, watch-took}
-use Rattle.plans.specs.Plan.{Delay, Plan}
+use Rattle.plans.specs.Plan.{Delay, Plan, orderOf}
 use Rattle.model.specs.Platform.{InFlight, State, Event, Entry, crash, message, watch, heartbeat, alive, delayIn, delayOf, start, nextEvent, numbered}
 use Rattle.model.specs.Platform.{nodeOf, taken, noMessage, messageAt, without, received, apply, fits, Outcome, did, ended, refused, tried, try, left}
 use Rattle.model.specs.Platform.{steps, after}
 use Rattle.plans.specs.Plain.{rowAt, Plain}
 use Rattle.model.specs.Range.{FlightRange, Rises, NotBefore, Sound}
-use Rattle.ring.proofs.Neighbours.{open-next-below, open-back-below, open-back-other, open-next-other}
 use Rattle.ring.proofs.Lists.{listed-none}
 use Rattle.model.proofs.NextEvent.{alive-other, alive-hit, Chosen, Best, best}
 
@@ -162,7 +161,7 @@ at-mem ms i h = at-in noMessage ms i h
 -- ---- an event
 
 module _ (p : Plan) (pl : Plain p) (s : State) (r : Sound p s) where
-  abbrev io : InOrder (p .n) (p .order)
+  abbrev io : InOrder (p .n) (orderOf p)
   io = pl .order
 
   pub in-n : (x : ℕ) → x < length (s .nodes) → x < p .n
@@ -255,18 +254,18 @@ module _ (p : Plan) (pl : Plain p) (s : State) (r : Sound p s) where
       Takes u = Took (p .n) (p .h) (p .w) (s .last) t x (nodeOf s x) u
 
       pub received-took : (kind from subject : ℕ) → Known kind → from < p .n → from ≢ x → subject < p .n
-          → Takes (onMessage (p .order) (p .w) t x kind from subject (nodeOf s x))
+          → Takes (onMessage (orderOf p) (p .w) t x kind from subject (nodeOf s x))
       received-took kind from subject k fN ne sN =
-          message-took (p .n) (p .order) io x xN (pl .n≤) (p .h) (p .w) (s .last) t (nodeOf s x) (r .fields x xN) (r .live x a) kind from subject k fN ne
+          message-took (p .n) (orderOf p) io x xN (pl .n≤) (p .h) (p .w) (s .last) t (nodeOf s x) (r .fields x xN) (r .live x a) kind from subject k fN ne
           (λ q. sN)
 
-      pub watch-taken : (nodeOf s x) .watch ≡ suc t → Takes (onWatchDue (p .order) (p .w) t x (nodeOf s x))
+      pub watch-taken : (nodeOf s x) .watch ≡ suc t → Takes (onWatchDue (orderOf p) (p .w) t x (nodeOf s x))
       watch-taken e =
-          watch-took (p .n) (p .order) io x xN (pl .n≤) (p .h) (p .w) (s .last) t (nodeOf s x) (r .fields x xN) (r .live x a) (λ z. omega arith)
+          watch-took (p .n) (orderOf p) io x xN (pl .n≤) (p .h) (p .w) (s .last) t (nodeOf s x) (r .fields x xN) (r .live x a) (λ z. omega arith)
 
       pub beat-taken : (nodeOf s x) .heartbeat ≡ suc t → Takes (onHeartbeatDue (p .h) t (nodeOf s x))
       beat-taken e =
-          beat-took (p .n) (p .order) io x xN (pl .n≤) (p .h) (p .w) (s .last) t (nodeOf s x) (r .fields x xN) (r .live x a) (λ z. omega arith)
+          beat-took (p .n) (orderOf p) io x xN (pl .n≤) (p .h) (p .w) (s .last) t (nodeOf s x) (r .fields x xN) (r .live x a) (λ z. omega arith)
 
       -- a timer of it is not overdue, as no event is left before t
       in-time : (c m : ℕ) → NotBefore p s c m t → (u : Turn) → Takes u → LiveRange x (u .node) × NotOverdue t (u .node)
@@ -282,7 +281,7 @@ module _ (p : Plan) (pl : Plain p) (s : State) (r : Sound p s) where
       turned u = taken p s t (m .to) (without i (s .flight)) u
 
       abbrev turn : Bool → Turn
-      turn b = cond b (onMessage (p .order) (p .w) t (m .to) (m .kind) (m .from) (m .subject) (nodeOf s (m .to))) (silent (nodeOf s (m .to)))
+      turn b = cond b (onMessage (orderOf p) (p .w) t (m .to) (m .kind) (m .from) (m .subject) (nodeOf s (m .to))) (silent (nodeOf s (m .to)))
 
       f : FlightRange p (s .last) m
       f = r .flying m (at-mem (s .flight) i less)
@@ -353,13 +352,13 @@ getD-map f (suc n) j (suc i) z h = let e : suc j + i ≡ j + suc i = omega arith
 module _ (p : Plan) (pl : Plain p) where
   abbrev pub Shape : ℕ → Type 0
   Shape j =
-      ((1 < p .n) × (j < p .n) × (nodeOf (start p) j ≡ ringed (p .order) (p .h) (p .w) j))
+      ((1 < p .n) × (j < p .n) × (nodeOf (start p) j ≡ ringed (orderOf p) (p .h) (p .w) j))
       ⊎ ((nodeOf (start p) j ≡ alone j 0) × (1 < p .n → ¬ (j < p .n)))
 
   -- a node at opening
-  pub start-node : (j : ℕ) → j < p .n → nodeOf (start p) j ≡ opening (p .order) (p .h) (p .w) j
+  pub start-node : (j : ℕ) → j < p .n → nodeOf (start p) j ≡ opening (orderOf p) (p .h) (p .w) j
   unfolding start
-  start-node j h = getD-map (opening (p .order) (p .h) (p .w)) (p .n) 0 j (alone j 0) h ∙ ap (opening (p .order) (p .h) (p .w)) (zero-add j)
+  start-node j h = getD-map (opening (orderOf p) (p .h) (p .w)) (p .n) 0 j (alone j 0) h ∙ ap (opening (orderOf p) (p .h) (p .w)) (zero-add j)
 
   -- there is none from n on
   start-none : (j : ℕ) → ¬ (j < p .n) → nodeOf (start p) j ≡ alone j 0
@@ -369,24 +368,24 @@ module _ (p : Plan) (pl : Plain p) where
   pub shape : (j : ℕ) → Shape j
   shape j = go (decLt j (p .n))
     where
-      size : length (p .order) ≡ p .n
+      size : length (orderOf p) ≡ p .n
       size = pl .order .size
 
-      made : (a : Node) → Opened (p .order) (p .h) (p .w) j a → j < p .n → nodeOf (start p) j ≡ a → Shape j
+      made : (a : Node) → Opened (orderOf p) (p .h) (p .w) j a → j < p .n → nodeOf (start p) j ≡ a → Shape j
       made a (joins two) jN e = inl (rw size at two, jN, e)
       made a (starts-alone one) jN e = inr (e, λ two. absurd (omega (arith, size)))
 
       go : Dec (j < p .n) → Shape j
       go (no out) = inr (start-none j out, λ two. out)
-      go (yes jN) = made _ (opened (p .order) (p .h) (p .w) j) jN (start-node j jN)
+      go (yes jN) = made _ (opened (orderOf p) (p .h) (p .w) j) jN (start-node j jN)
 
   pub start-range : Sound p (start p)
   unfolding start Rises
   start-range = record {
     done = omega arith;
     last = omega arith;
-    nodes = length-map (numbers 0 (p .n)) (opening (p .order) (p .h) (p .w)) ∙ length-numbers (p .n) 0;
-    fields = λ j jN. rw (start-node j jN) ((opening-range (p .n) (p .order) (pl .order) j jN (p .h) (p .w)) .0);
+    nodes = length-map (numbers 0 (p .n)) (opening (orderOf p) (p .h) (p .w)) ∙ length-numbers (p .n) 0;
+    fields = λ j jN. rw (start-node j jN) ((opening-range (p .n) (orderOf p) (pl .order) j jN (p .h) (p .w)) .0);
     live = λ j a. lives j (decLt j (p .n));
     flying = λ m h. absurd (List·Memᴰ·not-nil h);
     rises = omega arith;
@@ -395,7 +394,7 @@ module _ (p : Plan) (pl : Plain p) where
   }
     where
       lives : (j : ℕ) → Dec (j < p .n) → LiveRange j (nodeOf (start p) j)
-      lives j (yes jN) = rw (start-node j jN) ((opening-range (p .n) (p .order) (pl .order) j jN (p .h) (p .w)) .1)
+      lives j (yes jN) = rw (start-node j jN) ((opening-range (p .n) (orderOf p) (pl .order) j jN (p .h) (p .w)) .1)
       lives j (no out) =
           rw (start-none j out) (record { lists = listed-none j; observes = λ z. absurd (z refl); sends = λ z. absurd (z refl) })
 

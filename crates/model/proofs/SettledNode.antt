@@ -2,21 +2,20 @@
 -- Assumes nothing.
 use mathlib.Core.Path.{_≡_, refl, sym, ap, _∙_}
 use mathlib.Core.Logic.{_≢_}
-use mathlib.Core.Bool.{Bool, true, false, not, _||_, true≢false, Bool·not-not}
-use mathlib.Core.List.{List, [], _∷_, reverse}
+use mathlib.Core.Bool.{Bool, true, false, not, true≢false, Bool·not-not}
+use mathlib.Core.List.{List, reverse}
 use Prim.Native.Nat.{ℕ, suc, _^_, _<_}
 use native.Mathlib.Omega.{arith}
 use lib.ListN.{length, getD, take, length-take}
 use lib.Seq.{getD-take}
-use lib.Dec.{eqb}
 use lib.Pow.{pow-pos}
 use Rattle.plans.proofs.Listed.{listed-hits, with-small}
-use Rattle.ring.specs.Ring.{keep, none, listed, listing, round, place, InOrder}
+use Rattle.ring.specs.Ring.{keep, none, listed, round, place, InOrder}
 use Rattle.ring.proofs.Unlisted.{countBy, backBy, nextBy, nextBy-back, countBy-some}
 use Rattle.ring.proofs.GoingBack.{backBy-only}
 use Rattle.ring.proofs.Laws.{keep-ext}
-use Rattle.ring.proofs.Lists.{listed-listing, listing-lt, listed-none, listed-ext}
-use Rattle.plans.specs.Plan.{Plan, Crash, hits}
+use Rattle.ring.proofs.Lists.{listed-ext}
+use Rattle.plans.specs.Plan.{Plan, hits, orderOf}
 use Rattle.model.specs.Platform.{State, alive, nextSurvivor, survivorBefore, crashedList, nodeOf}
 use Rattle.plans.specs.Plain.{noCrash}
 use Rattle.model.specs.Range.{Accepted, Sound}
@@ -26,7 +25,7 @@ use Rattle.model.proofs.SpacedRuns.{SettledIn}
 use Rattle.model.proofs.Viewed.{P, view}
 
 module _ (p : Plan) (ac : Accepted p) where
-  abbrev io' : InOrder (p .n) (p .order)
+  abbrev io' : InOrder (p .n) (orderOf p)
   io' = (ac .plain) .order
 
   -- the crashed list holds the crashed nodes
@@ -52,18 +51,18 @@ module _ (p : Plan) (ac : Accepted p) where
     up-is k h = ap not h
 
     some-live : 0 < countBy (p .n) dead
-    some-live = countBy-some (p .n) dead (p .order) io' j jN (up-is j l)
+    some-live = countBy-some (p .n) dead (orderOf p) io' j jN (up-is j l)
 
     kept : (xs : List ℕ) → keep (λ k. not (dead k)) xs ≡ keep (alive p (s .done)) xs
     kept xs = keep-ext (λ k. not (dead k)) (alive p (s .done)) xs (λ k. Bool·not-not (alive p (s .done) k))
 
-    before-is : backBy (p .order) dead (place (p .order) j) ≡ survivorBefore p (s .done) j
+    before-is : backBy (orderOf p) dead (place (orderOf p) j) ≡ survivorBefore p (s .done) j
     unfolding survivorBefore backBy
-    before-is = ap (λ (xs : List ℕ). getD xs 0 none) (kept (reverse (round (p .order) (place (p .order) j))))
+    before-is = ap (λ (xs : List ℕ). getD xs 0 none) (kept (reverse (round (orderOf p) (place (orderOf p) j))))
 
-    after-is : nextBy (p .order) dead (place (p .order) j) ≡ nextSurvivor p (s .done) j
+    after-is : nextBy (orderOf p) dead (place (orderOf p) j) ≡ nextSurvivor p (s .done) j
     unfolding nextSurvivor nextBy
-    after-is = ap (λ (xs : List ℕ). getD xs 0 none) (kept (round (p .order) (suc (place (p .order) j))))
+    after-is = ap (λ (xs : List ℕ). getD xs 0 none) (kept (round (orderOf p) (suc (place (orderOf p) j))))
 
     pub settled-at : SettledAt p s j
     settled-at = record { list = lst; emitter = em; observer = ob }
@@ -90,8 +89,8 @@ module _ (p : Plan) (ac : Accepted p) where
         ob =
             let o : ℕ = (nodeOf s j) .observer in
             let u : dead o ≡ false = up-is o (st .emits .1) in
-            let e : j ≡ backBy (p .order) dead (place (p .order) o) =
+            let e : j ≡ backBy (orderOf p) dead (place (orderOf p) o) =
             backBy-only (p .n) io' dead o (st .emits .0) some-live j (up-is j l) (λ k h. ap not (st .ahead k h)) in
-            sym (nextBy-back (p .n) dead (p .order) io' o (st .emits .0) u)
-            ∙ ap (λ (z : ℕ). nextBy (p .order) dead (place (p .order) z)) (sym e)
+            sym (nextBy-back (p .n) dead (orderOf p) io' o (st .emits .0) u)
+            ∙ ap (λ (z : ℕ). nextBy (orderOf p) dead (place (orderOf p) z)) (sym e)
             ∙ after-is

@@ -16,7 +16,7 @@ use Rattle.node.specs.declared.Node.{Node}
 use Rattle.node.specs.declared.Message.{Message}
 use Rattle.node.specs.Node.{R, Turn, reports, message}
 use Rattle.node.proofs.Sends.{report-of, report-to, target-apart}
-use Rattle.plans.specs.Plan.{Crash, Plan, hits}
+use Rattle.plans.specs.Plan.{Crash, Plan, hits, orderOf}
 use Rattle.model.specs.Platform.{InFlight, State, alive, numbered, nodeOf, taken}
 use Rattle.plans.specs.Plain.{noCrash, Plain}
 use Rattle.model.specs.Range.{Accepted, NotBefore, Sound}
@@ -48,7 +48,7 @@ module _ (p : Plan) (ac : Accepted p) where
   abbrev pub pl : Plain p
   pl = ac .plain
 
-  abbrev o : InOrder (p .n) (p .order)
+  abbrev o : InOrder (p .n) (orderOf p)
   o = pl .order
 
   pub planned-N : (k : ℕ) → hits (p .crashes) k ≡ true → k < p .n
@@ -68,7 +68,7 @@ module _ (p : Plan) (ac : Accepted p) where
     gap-cyc = gap-cyc (p .n) o;
     gap-add = gap-add (p .n) o;
     cnt = countBy (p .n);
-    ahead = λ l x k. aheadBy (p .order) l (place (p .order) x) k;
+    ahead = λ l x k. aheadBy (orderOf p) l (place (orderOf p) x) k;
     hops = λ l f fs. hops (p .n) o l f fs;
     ahead-is = λ l f fs. ahead-iter (p .n) o l f fs;
     log = jumps;
@@ -165,7 +165,7 @@ module _ (p : Plan) (ac : Accepted p) (s : State) (r : Sound p s) where
   -- reports of k to the forward targets of x, by a list d that does not have it
   module _ (x t k d nr : ℕ) (xN : x < p .n) (un : listed d x ≡ false) where
     abbrev ring : List ℕ
-    ring = p .order
+    ring = orderOf p
 
     abbrev to : List ℕ
     to = targets ring d (place ring x)

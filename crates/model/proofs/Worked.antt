@@ -1,8 +1,8 @@
--- A file with a crash whose settled state is computed and meets every hypothesis of `settling`, and the S of document 01's edge.
--- Assumes nothing.
+-- A file with a crash, in number order and shuffled, whose settled state is computed and meets every hypothesis of `settling`, and the S of
+-- document 01's edge. Assumes nothing.
 use mathlib.Core.Path.{_≡_, refl, sym, subst}
 use mathlib.Core.Bool.{true}
-use mathlib.Core.List.{List, [], _∷_}
+use mathlib.Core.List.{List, [], _∷_, map}
 use mathlib.Core.Option.{none}
 use Prim.Native.Nat.{ℕ, _<_}
 use native.Mathlib.Omega.{arith}
@@ -11,8 +11,8 @@ use Rattle.node.specs.declared.Node.{Node}
 use Rattle.node.specs.Node.{reports, opening, onHeartbeat, onObserver, onReport, onHeartbeatDue, onMessage, leaving}
 use Rattle.model.specs.Platform.{alive, survivors, start, crashEntries, messageEntries, timerEntry, timerEntries, pending, earlier, first, upTo}
 use Rattle.model.specs.Platform.{nextEvent, delayIn, delayOf, numbered, nodeOf, taken, without, received, apply, fits, tried, try, left, steps, after}
-use Rattle.plans.specs.Plan.{sameNumbers, orderTest, Plan, within, startRanges, longEnough, crashRange, risingFrom, rising, hits, noneTwice, crashOrder}
-use Rattle.plans.specs.Plan.{delayOrder, fewDelays, every, startTest, crashTest, delayTest, planTest}
+use Rattle.plans.specs.Plan.{Plan, within, startRanges, longEnough, crashRange, risingFrom, rising, hits, noneTwice, crashOrder}
+use Rattle.plans.specs.Plan.{ringOrder, orderOf, ringTest, ringCount, ringRange, delayOrder, fewDelays, every, startTest, crashTest, delayTest, planTest}
 use Rattle.model.specs.Range.{Accepted, NotBefore}
 use Rattle.model.specs.Claims.{S, settledBy, Spaced, NoneLeftBefore, SettledAt}
 use Rattle.model.proofs.NextEvent.{Best, best}
@@ -23,7 +23,7 @@ use Rattle.model.proofs.Search.{none-left-before}
 -- ---- 63 survivors, W 100, D 5: S is 140
 
 unfoldable pub wide : Plan
-wide = record { n = 64; h = 1; w = 100; d = 5; end = 10; order = numbers 0 64; crashes = record { tick = 1; node = 9 } ∷ []; delays = [] }
+wide = record { n = 64; h = 1; w = 100; d = 5; end = 10; ring = []; crashes = record { tick = 1; node = 9 } ∷ []; delays = [] }
 
 pub wide-S : S wide (survivors wide 1) ≡ 140
 unfolding wide keep numbers powers jumps hits among alive survivors S
@@ -31,41 +31,60 @@ wide-S = refl
 
 -- ---- a file that settles: P,4,2,4,2,16 and C,5,2. S is 4 + (2 + 2) × 2 = 12, and all that is due before 17 is done
 
-unfoldable pub four : Plan
-four = record { n = 4; h = 2; w = 4; d = 2; end = 16; order = numbers 0 4; crashes = record { tick = 5; node = 2 } ∷ []; delays = [] }
+-- with these numbers as its Q line, none where it has none
+unfoldable pub four : List ℕ → Plan
+four ring = record { n = 4; h = 2; w = 4; d = 2; end = 16; ring = ring; crashes = record { tick = 5; node = 2 } ∷ []; delays = [] }
 
-unfoldable pub fields : Node → List ℕ
-fields a = a .emitter ∷ a .observer ∷ a .list ∷ []
+abbrev shuffled : List ℕ
+shuffled = 0 ∷ 2 ∷ 3 ∷ 1 ∷ []
 
--- the settled state: nodes 0, 1 and 3 list node 2, and are neighbours in the ring 0, 1, 3
-pub four-state : (fields (nodeOf (after four 200) 0) ≡ 3 ∷ 1 ∷ 4 ∷ [])
-    × (fields (nodeOf (after four 200) 1) ≡ 0 ∷ 3 ∷ 4 ∷ [])
-    × (fields (nodeOf (after four 200) 3) ≡ 1 ∷ 0 ∷ 4 ∷ [])
-    × ((after four 200) .done ≡ 1)
-    × (settledBy four 0 ≡ 17)
-    × (nextEvent four (after four 200) ≡ none)
-unfolding four fields keep numbers listed listing unlisted round place ahead back next count powers jumps targets reports opening onHeartbeat
-    onObserver onReport onHeartbeatDue leaving onMessage hits among alive survivors start crashEntries messageEntries timerEntry timerEntries pending
-    earlier first upTo nextEvent delayIn delayOf numbered taken without received apply fits tried try left steps after S settledBy
-four-state = (refl, refl, refl, refl, refl, refl)
+-- emitter, observer and list of node k at the end
+unfoldable pub endOf : List ℕ → ℕ → List ℕ
+endOf ring k = let a : Node = nodeOf (after (four ring) 200) k in a .emitter ∷ a .observer ∷ a .list ∷ []
 
-pub four-accepted : Accepted four
-unfolding four planTest startTest startRanges within longEnough orderTest sameNumbers numbers crashTest every crashRange crashOrder rising risingFrom
-    noneTwice eachOnce hits among delayTest delayOrder fewDelays
-four-accepted = plan-accepted four refl
+-- the settled state, of survivors whose fields are these
+pub record Ends (ring : List ℕ) (fields : List (List ℕ)) : Type 0 where
+  pub nodes : map (endOf ring) (0 ∷ 1 ∷ 3 ∷ []) ≡ fields
+  pub done : (after (four ring) 200) .done ≡ 1
+  pub by : settledBy (four ring) 0 ≡ 17
+  pub end : nextEvent (four ring) (after (four ring) 200) ≡ none
 
-four-left : NotBefore four (after four 200) 17 17 17
-unfolding Best four
-four-left = subst (Best four (four-accepted .plain) (after four 200)) (four-state .5) (best four (four-accepted .plain) (after four 200))
+-- nodes 0, 1 and 3 list node 2, and are neighbours in the ring 0, 1, 3; in the shuffled one, in the ring 0, 3, 1
+pub four-ends : Ends [] ((3 ∷ 1 ∷ 4 ∷ []) ∷ (0 ∷ 3 ∷ 4 ∷ []) ∷ (1 ∷ 0 ∷ 4 ∷ []) ∷ [])
+    × Ends shuffled ((1 ∷ 3 ∷ 4 ∷ []) ∷ (3 ∷ 0 ∷ 4 ∷ []) ∷ (0 ∷ 1 ∷ 4 ∷ []) ∷ [])
+unfolding four endOf keep numbers listed listing unlisted round place ahead back next count powers jumps targets reports opening onHeartbeat
+    onObserver onReport onHeartbeatDue leaving onMessage ringOrder orderOf hits among alive survivors start crashEntries messageEntries
+    timerEntry timerEntries pending earlier first upTo nextEvent delayIn delayOf numbered taken without received apply fits tried try left
+    steps after S settledBy
+four-ends =
+    (record { nodes = refl; done = refl; by = refl; end = refl }, record { nodes = refl; done = refl; by = refl; end = refl })
 
-four-spaced : Spaced four 1
-unfolding Spaced
-four-spaced i h = absurd (omega arith)
+pub four-accepted : Accepted (four []) × Accepted (four shuffled)
+unfolding four planTest startTest startRanges within longEnough ringTest ringCount ringRange crashTest every crashRange crashOrder rising
+    risingFrom noneTwice eachOnce hits among delayTest delayOrder fewDelays
+four-accepted = (plan-accepted (four []) refl, plan-accepted (four shuffled) refl)
 
 -- the same by the theorem: its hypotheses are met
-pub four-settled : (j : ℕ) → j < 4 → alive four ((after four 200) .done) j ≡ true → SettledAt four (after four 200) j
-unfolding four
-four-settled j h l =
-    (settling four four-accepted 200) .settled 0 (four-state .3) four-spaced
-    (subst (NoneLeftBefore four (after four 200)) (sym (four-state .4)) (none-left-before four (four-accepted .plain) (after four 200) 17 four-left)) j h
-    l
+module _ (ring : List ℕ) (fields : List (List ℕ)) (accepted : Accepted (four ring)) (ends : Ends ring fields) where
+  abbrev p : Plan
+  p = four ring
+
+  none-left : NotBefore p (after p 200) 17 17 17
+  unfolding Best four
+  none-left = subst (Best p (accepted .plain) (after p 200)) (ends .end) (best p (accepted .plain) (after p 200))
+
+  spaced : Spaced p 1
+  unfolding Spaced
+  spaced i h = absurd (omega arith)
+
+  settles : (j : ℕ) → j < 4 → alive p ((after p 200) .done) j ≡ true → SettledAt p (after p 200) j
+  unfolding four
+  settles j h l =
+      let left = none-left-before p (accepted .plain) (after p 200) 17 none-left in
+      (settling p accepted 200) .settled 0 (ends .done) spaced (subst (NoneLeftBefore p (after p 200)) (sym (ends .by)) left) j h l
+
+pub four-settles : (j : ℕ) → j < 4
+    → (alive (four []) ((after (four []) 200) .done) j ≡ true → SettledAt (four []) (after (four []) 200) j)
+    × (alive (four shuffled) ((after (four shuffled) 200) .done) j ≡ true → SettledAt (four shuffled) (after (four shuffled) 200) j)
+four-settles j h =
+    (settles [] _ (four-accepted .0) (four-ends .0) j h, settles shuffled _ (four-accepted .1) (four-ends .1) j h)

@@ -10,7 +10,7 @@ use Rattle.ring.specs.Ring.{keep, numbers, round, place, none as nobody}
 use Rattle.node.specs.declared.Node.{Node}
 use Rattle.node.specs.declared.Message.{Message}
 use Rattle.node.specs.Node.{Turn, silent, alone, opening, onMessage, onWatchDue, onHeartbeatDue}
-use Rattle.plans.specs.Plan.{Crash, Delay, Plan, hits, withCrashed}
+use Rattle.plans.specs.Plan.{Crash, Delay, Plan, hits, withCrashed, orderOf}
 use Rattle.limits.specs.Limits.{mostInFlight, lineRoom}
 
 -- ---- the state
@@ -56,11 +56,11 @@ survivors p done = length (keep (alive p done) (numbers 0 (p .n)))
 
 -- the next survivor is the first one ahead in the ring; a lone survivor is it to itself
 unfoldable pub nextSurvivor : Plan → ℕ → ℕ → ℕ
-nextSurvivor p done j = getD (keep (alive p done) (round (p .order) (suc (place (p .order) j)))) 0 nobody
+nextSurvivor p done j = getD (keep (alive p done) (round (orderOf p) (suc (place (orderOf p) j)))) 0 nobody
 
 -- the survivor before is the first one going back
 unfoldable pub survivorBefore : Plan → ℕ → ℕ → ℕ
-survivorBefore p done j = getD (keep (alive p done) (reverse (round (p .order) (place (p .order) j)))) 0 nobody
+survivorBefore p done j = getD (keep (alive p done) (reverse (round (orderOf p) (place (orderOf p) j)))) 0 nobody
 
 -- the crashed nodes as a dead list
 unfoldable pub crashedList : Plan → ℕ → ℕ
@@ -70,7 +70,7 @@ crashedList p done = withCrashed 0 (take done (p .crashes))
 
 -- the state that opening makes of an accepted plan
 unfoldable pub start : Plan → State
-start p = record { done = 0; last = 0; next = 0; nodes = map (opening (p .order) (p .h) (p .w)) (numbers 0 (p .n)); flight = [] }
+start p = record { done = 0; last = 0; next = 0; nodes = map (opening (orderOf p) (p .h) (p .w)) (numbers 0 (p .n)); flight = [] }
 
 -- ---- what is pending, in the order of one tick
 
@@ -168,12 +168,12 @@ without i l = take i l ++ drop (suc i) l
 -- a message is delivered; to a crashed node it is dropped
 unfoldable pub received : Plan → State → ℕ → InFlight → Turn
 received p s t m =
-    cond (alive p (s .done) (m .to)) (onMessage (p .order) (p .w) t (m .to) (m .kind) (m .from) (m .subject) (nodeOf s (m .to))) (silent (nodeOf s (m .to)))
+    cond (alive p (s .done) (m .to)) (onMessage (orderOf p) (p .w) t (m .to) (m .kind) (m .from) (m .subject) (nodeOf s (m .to))) (silent (nodeOf s (m .to)))
 
 unfoldable pub apply : Plan → State → ℕ → Event → State
 apply p s t (crash k) = record { done = suc (s .done); last = t; next = s .next; nodes = s .nodes; flight = s .flight }
 apply p s t (message i) = taken p s t ((messageAt s i) .to) (without i (s .flight)) (received p s t (messageAt s i))
-apply p s t (watch x) = taken p s t x (s .flight) (onWatchDue (p .order) (p .w) t x (nodeOf s x))
+apply p s t (watch x) = taken p s t x (s .flight) (onWatchDue (orderOf p) (p .w) t x (nodeOf s x))
 apply p s t (heartbeat x) = taken p s t x (s .flight) (onHeartbeatDue (p .h) t (nodeOf s x))
 
 -- ---- events done

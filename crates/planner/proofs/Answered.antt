@@ -13,7 +13,7 @@ use Rattle.platform.specs.declared.Ran.{Ran}
 use Rattle.platform.specs.declared.Ran.the-variants.{Done as Finished, Spent, Refused as Unrun}
 use Rattle.platform.specs.declared.Wrote.{Wrote}
 use Rattle.platform.specs.declared.Wrote.the-variants.{Bytes, Refused as Unwritten}
-use Rattle.platform.specs.Calls.{AfterOpen, AfterStep, AfterRun, AfterWrite, openFile, stepRefusal, runRefusal, writeRefusal}
+use Rattle.platform.specs.Calls.{AfterStep, AfterRun, AfterWrite, openFile, stepRefusal, runRefusal, writeRefusal}
 use Rattle.limits.specs.Refusals.{tooMany}
 use Rattle.platform.proofs.Opening.{opening-small}
 use Rattle.planner.specs.Answers.{numberAndLine, stepLetter, stepTick, stepNode, stepOther, stepSize}
@@ -32,7 +32,7 @@ module _ (file before : List ℕ) (r : Opened) (e : r ≡ openFile file before .
   unopened {number} {line} s left h = let a : openFile file before .answer ≡ Unopened number line = sym e ∙ h in (rw a, left)
 
   -- the number and the line are small, so that the answer fits
-  sum-small : {number line : ℕ} → r ≡ Unopened number line → (number ≤ 7) × (line ≤ 65536)
+  sum-small : {number line : ℕ} → r ≡ Unopened number line → (number ≤ 13) × (line ≤ 65536)
   sum-small {number} {line} h = let s = opening-small file before number line (sym e ∙ h) in (s .1, s .2)
 
   pub line-fits : (number line : ℕ) → r ≡ Unopened number line → 256 * line < 2 ^ 64

@@ -1,6 +1,6 @@
 pub mod Bools
-pub mod Orders
 pub mod Rows
+pub mod Orders
 pub mod Listed
 pub mod Tests
 pub mod Few

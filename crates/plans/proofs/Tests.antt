@@ -1,18 +1,19 @@
 -- The parts of the test of a plan, and the ranges of its P line as facts. Assumes nothing.
 use Prim.Native.Nat.{ℕ, _+_, _≤_, _<_}
 use native.Mathlib.Omega.{arith}
-use mathlib.Core.Path.{_≡_}
+use mathlib.Core.Path.{_≡_, refl}
 use mathlib.Core.Bool.{true}
-use mathlib.Core.List.{[], _∷_, _++_}
+use mathlib.Core.List.{List, [], _∷_, _++_}
 use mathlib.Mathlib.Data.Bool.Basic.{and-elim-left, and-elim-right}
-use borrow.Author.Tests.{leb-true}
+use borrow.Author.Tests.{leb-true, eqb-true}
 use lib.Dec.{leb}
-use lib.ListN.{length}
+use lib.ListN.{length, getD}
 use Rattle.limits.specs.Limits.{mostNodes, mostH, mostW, mostD, mostTick, mostNumber, mostDelays}
 use Rattle.plans.specs.Plan.{Crash, Delay, Plan, withCrash, withDelay, within, startRanges, longEnough, crashRange, delayRange, crashOrder, delayOrder}
-use Rattle.plans.specs.Plan.{fewDelays, every, startTest, orderTest, crashTest, delayTest, planTest}
-use Rattle.ring.specs.Ring.{numbers, InOrder}
-use Rattle.plans.proofs.Orders.{order-numbered, order-once}
+use Rattle.plans.specs.Plan.{fewDelays, every, startTest, ringTest, crashTest, delayTest, planTest}
+use Rattle.plans.specs.Plan.{startPlan, withRing, orderOf, ringCount, ringRange, rising, noneTwice}
+use Rattle.ring.specs.Ring.{eachOnce, InOrder}
+use Rattle.plans.proofs.Orders.{ring-taken, ring-few, ring-below, order-once}
 use Rattle.plans.proofs.Rows.{every-snoc, crash-row, delay-row}
 
 -- ---- the P line
@@ -61,7 +62,7 @@ ranges-of p e =
 -- the parts of the test of a plan
 pub record Tests (p : Plan) : Type 0 where
   pub start : startTest p ≡ true
-  pub order : orderTest p ≡ true
+  pub ring : ringTest p ≡ true
   pub crashes : every (crashRange p) (p .crashes) ≡ true
   pub crash-order : crashOrder (p .crashes) ≡ true
   pub delays : every (delayRange p) (p .delays) ≡ true
@@ -72,13 +73,13 @@ pub tests-of : (p : Plan) → planTest p ≡ true → Tests p
 unfolding planTest crashTest delayTest
 tests-of p e =
     let later = and-elim-right (startTest p) _ e in
-    let rest = and-elim-right (orderTest p) _ later in
+    let rest = and-elim-right (ringTest p) _ later in
     let crashes = and-elim-left (crashTest p) (delayTest p) rest in
     let delays = and-elim-right (crashTest p) (delayTest p) rest in
     let more = and-elim-right (every (delayRange p) (p .delays)) _ delays in
     record {
       start = and-elim-left (startTest p) _ e;
-      order = and-elim-left (orderTest p) _ later;
+      ring = and-elim-left (ringTest p) _ later;
       crashes = and-elim-left (every (crashRange p) (p .crashes)) _ crashes;
       crash-order = and-elim-right (every (crashRange p) (p .crashes)) _ crashes;
       delays = and-elim-left (every (delayRange p) (p .delays)) _ delays;
@@ -88,7 +89,7 @@ tests-of p e =
 
 of-tests : (p : Plan) → Tests p → planTest p ≡ true
 unfolding planTest crashTest delayTest
-of-tests p t = rw (t .start, t .order, t .crashes, t .crash-order, t .delays, t .delay-order, t .few)
+of-tests p t = rw (t .start, t .ring, t .crashes, t .crash-order, t .delays, t .delay-order, t .few)
 
 module _ (p : Plan) (good : planTest p ≡ true) where
   pub ranges-good : startRanges p ≡ true
@@ -104,12 +105,15 @@ module _ (p : Plan) (good : planTest p ≡ true) where
   long-enough = leb-true _ _ (and-elim-right (startRanges p) _ (tests-of p good .start))
 
   -- the order has each node once
-  pub in-order : InOrder (p .n) (p .order)
-  in-order = order-once p (tests-of p good .order)
+  pub in-order : InOrder (p .n) (orderOf p)
+  in-order = order-once p (tests-of p good .ring)
 
-  -- which order it is: for what writes an order or takes it from elsewhere
-  pub in-number-order : p .order ≡ numbers 0 (p .n)
-  in-number-order = order-numbered p (tests-of p good .order)
+  -- the numbers of the Q line: no more than nodes, and each below N
+  pub few-ring : length (p .ring) ≤ p .n
+  few-ring = ring-few p (tests-of p good .ring)
+
+  pub ring-nodes : (q : ℕ) → q < length (p .ring) → getD (p .ring) q 0 < p .n
+  ring-nodes = ring-below p (tests-of p good .ring)
 
   pub few-delays : length (p .delays) ≤ mostDelays
   unfolding fewDelays
@@ -119,16 +123,31 @@ module _ (p : Plan) (good : planTest p ≡ true) where
   pub delays-rise : delayOrder (p .delays) ≡ true
   delays-rise = tests-of p good .delay-order
 
--- ---- one row more
+-- ---- a Q line, and one row more
+
+pub ring-good : (p : Plan) (ks : List ℕ) → planTest p ≡ true → ringCount p ks ≡ true → ringRange p ks ≡ true → eachOnce ks ≡ true
+    → planTest (withRing p ks) ≡ true
+unfolding withRing startTest ringCount ringRange startRanges longEnough crashRange delayRange
+ring-good p ks g count range once =
+    let t = tests-of p g in
+    of-tests (withRing p ks) (record {
+      start = t .start;
+      ring = ring-taken (withRing p ks) (record { size = eqb-true (length ks) (p .n) count; range = range; once = once });
+      crashes = t .crashes;
+      crash-order = t .crash-order;
+      delays = t .delays;
+      delay-order = t .delay-order;
+      few = t .few;
+    })
 
 pub crash-good : (p : Plan) (r : Crash) → planTest p ≡ true → crashRange p r ≡ true → crashOrder (p .crashes ++ (r ∷ [])) ≡ true
     → planTest (withCrash p r) ≡ true
-unfolding withCrash startTest orderTest startRanges longEnough crashRange delayRange
+unfolding withCrash startTest ringTest ringCount ringRange startRanges longEnough crashRange delayRange
 crash-good p r g range order =
     let t = tests-of p g in
     of-tests (withCrash p r) (record {
       start = t .start;
-      order = t .order;
+      ring = t .ring;
       crashes = every-snoc (crashRange p) (p .crashes) r (t .crashes) range;
       crash-order = order;
       delays = t .delays;
@@ -138,17 +157,33 @@ crash-good p r g range order =
 
 pub delay-good : (p : Plan) (r : Delay) → planTest p ≡ true → delayRange p r ≡ true → delayOrder (p .delays ++ (r ∷ [])) ≡ true
     → fewDelays (p .delays ++ (r ∷ [])) ≡ true → planTest (withDelay p r) ≡ true
-unfolding withDelay startTest orderTest startRanges longEnough crashRange delayRange
+unfolding withDelay startTest ringTest ringCount ringRange startRanges longEnough crashRange delayRange
 delay-good p r g range order few =
     let t = tests-of p g in
     of-tests (withDelay p r) (record {
       start = t .start;
-      order = t .order;
+      ring = t .ring;
       crashes = t .crashes;
       crash-order = t .crash-order;
       delays = every-snoc (delayRange p) (p .delays) r (t .delays) range;
       delay-order = order;
       few = few;
+    })
+
+-- ---- no row
+
+pub head-good : (p : Plan) → planTest p ≡ true → planTest (withRing (startPlan (p .n) (p .h) (p .w) (p .d) (p .end)) (p .ring)) ≡ true
+unfolding withRing startPlan startTest ringTest ringCount ringRange startRanges longEnough crashOrder delayOrder rising noneTwice eachOnce fewDelays every
+head-good p g =
+    let t = tests-of p g in
+    of-tests (withRing (startPlan (p .n) (p .h) (p .w) (p .d) (p .end)) (p .ring)) (record {
+      start = t .start;
+      ring = t .ring;
+      crashes = refl;
+      crash-order = refl;
+      delays = refl;
+      delay-order = refl;
+      few = refl;
     })
 
 -- ---- rows of a P line in range

@@ -5,7 +5,7 @@ use Prim.Native.Nat.{ℕ, _≤_, _<_}
 use lib.ListN.{length, getD}
 use Rattle.limits.specs.Limits.{mostNodes, mostTick}
 use Rattle.ring.specs.Ring.{InOrder}
-use Rattle.plans.specs.Plan.{Crash, Delay, Plan}
+use Rattle.plans.specs.Plan.{Crash, Delay, Plan, orderOf}
 
 abbrev pub noCrash : Crash
 noCrash = record { tick = 0; node = 0 }
@@ -23,7 +23,7 @@ pub record Plain (p : Plan) : Type 0 where
   pub w≥ : 1 ≤ p .w
   pub d≥ : 1 ≤ p .d
   pub end≤ : p .end ≤ mostTick
-  pub order : InOrder (p .n) (p .order)
+  pub order : InOrder (p .n) (orderOf p)
   pub node : (i : ℕ) → i < length (p .crashes) → (rowAt p i) .node < p .n
   pub tick : (i : ℕ) → i < length (p .crashes) → (rowAt p i) .tick ≤ p .end
   pub rising : (i j : ℕ) → i < j → j < length (p .crashes) → (rowAt p i) .tick ≤ (rowAt p j) .tick

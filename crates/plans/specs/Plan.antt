@@ -1,5 +1,6 @@
--- What a run file plans, and which plans a run file may hold: document 01's 'Run file and log'. Assumes nothing.
-use mathlib.Core.Bool.{Bool, true, false, _&&_, _||_}
+-- What a run file plans, and which plans a run file may hold: document 01's 'Run file and log', document 02's #101 for the line Q.
+-- Assumes nothing.
+use mathlib.Core.Bool.{Bool, true, _&&_, _||_}
 use mathlib.Core.List.{List, [], _∷_, _++_, map}
 use Prim.Native.Nat.{ℕ, _+_}
 use lib.Dec.{eqb, leb, ltb}
@@ -17,22 +18,35 @@ pub record Delay : Type 0 where
   pub number : ℕ
   pub delay : ℕ
 
--- a run file: the values of its P line, the ring's order, the rows of its C lines and of its L lines
+-- a run file: the values of its P line, the numbers of its Q line, none where there is no such line, the rows of its C lines and of its L
+-- lines
 pub record Plan : Type 0 where
   pub n : ℕ
   pub h : ℕ
   pub w : ℕ
   pub d : ℕ
   pub end : ℕ
-  pub order : List ℕ
+  pub ring : List ℕ
   pub crashes : List Crash
   pub delays : List Delay
 
--- the plan of a P line, in number order and without rows
+-- the plan of a P line, without a Q line and rows
 unfoldable pub startPlan : ℕ → ℕ → ℕ → ℕ → ℕ → Plan
-startPlan n h w d end = record { n = n; h = h; w = w; d = d; end = end; order = numbers 0 n; crashes = []; delays = [] }
+startPlan n h w d end = record { n = n; h = h; w = w; d = d; end = end; ring = []; crashes = []; delays = [] }
 
--- a plan with a C line more, and with an L line more
+-- a plan with a Q line, with a C line more, and with an L line more
+unfoldable pub withRing : Plan → List ℕ → Plan
+withRing p ks = record {
+  n = p .n;
+  h = p .h;
+  w = p .w;
+  d = p .d;
+  end = p .end;
+  ring = ks;
+  crashes = p .crashes;
+  delays = p .delays;
+}
+
 unfoldable pub withCrash : Plan → Crash → Plan
 withCrash p r = record {
   n = p .n;
@@ -40,7 +54,7 @@ withCrash p r = record {
   w = p .w;
   d = p .d;
   end = p .end;
-  order = p .order;
+  ring = p .ring;
   crashes = p .crashes ++ (r ∷ []);
   delays = p .delays;
 }
@@ -52,10 +66,23 @@ withDelay p r = record {
   w = p .w;
   d = p .d;
   end = p .end;
-  order = p .order;
+  ring = p .ring;
   crashes = p .crashes;
   delays = p .delays ++ (r ∷ []);
 }
+
+-- 'the ring in that order': the numbers of the Q line, and number order where there is none
+unfoldable pub ringOrder : List ℕ → ℕ → List ℕ
+ringOrder [] n = numbers 0 n
+ringOrder (k ∷ ks) n = k ∷ ks
+
+unfoldable pub orderOf : Plan → List ℕ
+orderOf p = ringOrder (p .ring) (p .n)
+
+-- all rows pass a test
+unfoldable pub every : {A : Type 0} → (A → Bool) → List A → Bool
+every test [] = true
+every test (x ∷ xs) = test x && every test xs
 
 -- ---- ranges: 'H 1 to 1,000; W 1 to 65,535; D 1 to 255; end 0 to 1,000,000; tick 0 to end; number 0 to 999,999; delay 1 to D'
 
@@ -72,6 +99,13 @@ startRanges p =
 unfoldable pub longEnough : Plan → Bool
 longEnough p = leb (p .h + p .d) (p .w)
 
+-- 'N node numbers': as many as there are nodes, and each is one
+unfoldable pub ringCount : Plan → List ℕ → Bool
+ringCount p ks = eqb (length ks) (p .n)
+
+unfoldable pub ringRange : Plan → List ℕ → Bool
+ringRange p ks = every (λ k. ltb k (p .n)) ks
+
 -- the ranges of a C line: 'tick 0 to end', 'node not below N'
 unfoldable pub crashRange : Plan → Crash → Bool
 crashRange p r = leb (r .tick) (p .end) && ltb (r .node) (p .n)
@@ -79,19 +113,6 @@ crashRange p r = leb (r .tick) (p .end) && ltb (r .node) (p .n)
 -- the ranges of an L line
 unfoldable pub delayRange : Plan → Delay → Bool
 delayRange p r = leb (r .number) mostNumber && within 1 (p .d) (r .delay)
-
--- ---- the ring's order
-
--- two lists have the same numbers at the same places
-unfoldable pub sameNumbers : List ℕ → List ℕ → Bool
-sameNumbers [] [] = true
-sameNumbers [] (y ∷ ys) = false
-sameNumbers (x ∷ xs) [] = false
-sameNumbers (x ∷ xs) (y ∷ ys) = eqb x y && sameNumbers xs ys
-
--- the orders that a run file may give: number order
-unfoldable pub orderTest : Plan → Bool
-orderTest p = sameNumbers (p .order) (numbers 0 (p .n))
 
 -- ---- orders of lines
 
@@ -142,14 +163,12 @@ fewDelays rs = leb (length rs) mostDelays
 
 -- ---- the whole test
 
--- all rows pass a test
-unfoldable pub every : {A : Type 0} → (A → Bool) → List A → Bool
-every test [] = true
-every test (x ∷ xs) = test x && every test xs
-
--- a run file may hold the plan's P line, its C lines and its L lines
+-- a run file may hold the plan's P line; its Q line, where it has one; its C lines and its L lines
 unfoldable pub startTest : Plan → Bool
 startTest p = startRanges p && longEnough p
+
+unfoldable pub ringTest : Plan → Bool
+ringTest p = eqb (length (p .ring)) 0 || (ringCount p (p .ring) && (ringRange p (p .ring) && eachOnce (p .ring)))
 
 unfoldable pub crashTest : Plan → Bool
 crashTest p = every (crashRange p) (p .crashes) && crashOrder (p .crashes)
@@ -159,4 +178,4 @@ delayTest p = every (delayRange p) (p .delays) && (delayOrder (p .delays) && few
 
 -- a run file may hold the plan
 unfoldable pub planTest : Plan → Bool
-planTest p = startTest p && (orderTest p && (crashTest p && delayTest p))
+planTest p = startTest p && (ringTest p && (crashTest p && delayTest p))

@@ -1,13 +1,13 @@
 -- An accepted file's rows, put into a store one after another. Assumes nothing.
 use mathlib.Core.Path.{_≡_, refl, sym, ap, _∙_}
 use mathlib.Core.Bool.{Bool, true, false, cond}
-use mathlib.Core.List.{List}
+use mathlib.Core.List.{List, _++_, append-nil}
 use Prim.Native.Nat.{ℕ, suc, _+_, _≤_, _<_}
 use native.Mathlib.Numerals.{add-one}
 use native.Mathlib.Omega.{arith}
 use borrow.Author.Tests.{eq-eqb, ne-eqb}
 use lib.Dec.{eqb}
-use lib.ListN.{length}
+use lib.ListN.{length, getD, length-append}
 use Rattle.plans.specs.Plan.{Plan, planTest, startPlan}
 use Rattle.plans.specs.Plain.{noCrash, rowAt}
 use Rattle.store.specs.Inside.{delayAt}
@@ -15,21 +15,25 @@ use Rattle.runfile.specs.File.{FileAnswer, accepted, fileOf, turnedDown}
 use Rattle.runfile.specs.declared.Fields.{Fields}
 use Rattle.runfile.specs.declared.Outline.{Outline}
 use Rattle.runfile.specs.declared.Read.the-variants.{Accepted as Read·Accepted, Refused as Read·Refused}
-use Rattle.runfile.specs.Reader.{outlineOf, readOf, fieldsAt, crashPlace, delayPlace}
-use Rattle.plans.proofs.Tests.{Ranges, ranges, in-number-order, few-delays}
+use Rattle.runfile.specs.declared.Entry.{Entry}
+use Rattle.runfile.specs.Reader.{outlineOf, readOf, entryAt, fieldsAt, ringPlace, crashPlace, delayPlace}
+use Rattle.plans.proofs.Tests.{Ranges, ranges, few-ring, few-delays}
 use Rattle.plans.proofs.Few.{crashes-few}
-use Rattle.runfile.proofs.Refusals.{refusal-small}
+use Rattle.runfile.proofs.Refusals.{refusal-small, refusal-most}
 use Rattle.runfile.proofs.RoundTrip.{accepted-plan}
-use Rattle.runfile.proofs.Places.{crash-place-first, crash-place-last, crash-at, delay-at}
+use Rattle.runfile.proofs.Places.{ring-place-first, ring-place-last, crash-place-first, crash-place-last, ring-at, crash-at, delay-at}
+use Rattle.runfile.proofs.Size.{plan-size}
+use Rattle.runfile.specs.Text.{startText, ringText, headText, crashText, delayText, rowsText, planText}
 use Rattle.model.specs.Platform.{start}
 use Rattle.limits.specs.Limits.{storeSize}
-use Rattle.store.specs.Store.{encode}
+use Rattle.store.specs.Store.{encode, planIn}
 use Rattle.platform.specs.declared.Opened.the-variants.{Ready, Refused as Unopened}
 use Rattle.platform.specs.Calls.{AfterOpen, openPlan, openAnswer, openFile}
 use Rattle.limits.specs.Refusals.{badStore}
-use Rattle.store.specs.Filling.{putCrash, putDelay, filled}
+use Rattle.store.specs.Filling.{putRing, putCrash, putDelay, unopened, begun, Unopened as NotOpened, rowsUpTo, filled}
 use Rattle.platform.specs.Accepts.{planned, planOf, Accepts}
-use Rattle.store.proofs.Filling.{none-filled, crash-filled, delay-filled, all-filled}
+use Rattle.store.proofs.Filling.{none-begun, ring-begun, none-filled, crash-filled, delay-filled, all-filled}
+use Rattle.store.proofs.Opening.{begun-unopened}
 
 module _ (file : List ℕ) (ok : Accepts file) where
   abbrev p : Plan
@@ -42,11 +46,59 @@ module _ (file : List ℕ) (ok : Accepts file) where
   pub bounds : Ranges p
   bounds = ranges p good
 
+  pub ring-fits : length (p .ring) ≤ 64
+  ring-fits = omega (arith, few-ring p good, bounds .n-high)
+
   pub crashes-fit : length (p .crashes) ≤ 64
   crashes-fit = omega (arith, crashes-few p good, bounds .n-high)
 
   pub delays-fit : length (p .delays) ≤ 2048
   delays-fit = few-delays p good
+
+  -- a number of the file's Q line has its place in the store; it is put there, and the place of the next one is known
+  module _ (i : ℕ) {count : ℕ} (less : i < count) (all : count ≡ length (p .ring)) where
+    pub number-fits : i < 64
+    number-fits = omega (arith, ring-fits)
+
+    module _ {at : ℕ} {number : Entry} (place : at ≡ ringPlace p i) (got : number ≡ entryAt file at) where
+      got-number : number ≡ record { value = getD (p .ring) i 0; next = ringPlace p (suc i) }
+      got-number = got ∙ ap (entryAt file) place ∙ ring-at file p ok i (omega arith)
+
+      pub number-next : number .next ≡ ringPlace p (i + 1)
+      number-next = ap (λ (e : Entry). e .next) got-number ∙ ap (ringPlace p) (sym (add-one i))
+
+      pub number-put : {s t : List ℕ} → s ≡ begun p i → t ≡ putRing s i (number .value) → t ≡ begun p (i + 1)
+      number-put before put = put ∙ rw (before, got-number) (ring-begun p (bounds .n-high) ring-fits i (omega arith))
+
+  -- the places of the P line's end, of the Q line's end and of the first row
+  heads-small : length (headText p) ≤ 27678
+  unfolding planText
+  heads-small =
+      omega (arith, plan-size p good .1, length-append (headText p) (rowsText crashText (p .crashes) ++ rowsText delayText (p .delays)))
+
+  first-row : crashPlace p 0 ≡ length (headText p)
+  unfolding crashPlace rowsText
+  first-row = ap length (append-nil (headText p))
+
+  pub start-small : length (startText p) < 65536
+  unfolding headText
+  start-small = omega (arith, heads-small, length-append (startText p) (ringText (p .ring)))
+
+  module _ {count : ℕ} (all : count ≡ length (p .ring)) where
+    -- without a Q line
+    pub line-none : count ≡ 0 → {first : ℕ} → first ≡ length (startText p) → first ≡ crashPlace p 0
+    line-none none e = e ∙ sym (crash-place-first p (sym all ∙ none))
+
+    -- with one
+    pub line-first : {first : ℕ} → first ≡ length (startText p) → first + 1 ≡ ringPlace p 0
+    line-first e = ap (λ (k : ℕ). k + 1) e ∙ sym (ring-place-first p)
+
+    module _ (some : count ≡ 0 → ⊥) {end : ℕ} (at : end ≡ ringPlace p count) where
+      pub line-last : end + 1 ≡ crashPlace p 0
+      line-last = ap (λ (k : ℕ). k + 1) (at ∙ ap (ringPlace p) all) ∙ ring-place-last p (λ z. some (all ∙ z))
+
+      pub line-small : end < 65536
+      line-small = omega (arith, line-last, first-row, heads-small)
 
   -- a C row of the file has its place in the store; it is put there, and the place of the next one is known
   module _ (i : ℕ) {count : ℕ} (less : i < count) (all : count ≡ length (p .crashes)) where
@@ -62,7 +114,7 @@ module _ (file : List ℕ) (ok : Accepts file) where
       crash-next = ap (λ (r : Fields). r .next) got-crash ∙ ap (crashPlace p) (sym (add-one i))
 
       pub crash-put : {s t : List ℕ} → s ≡ filled p i 0 → t ≡ putCrash s i (row .first) (row .second) → t ≡ filled p (i + 1) 0
-      crash-put before put = put ∙ rw (before, got-crash) (crash-filled p (bounds .n-high) crashes-fit delays-fit i noCrash (omega arith))
+      crash-put before put = put ∙ rw (before, got-crash) (crash-filled p (bounds .n-high) ring-fits crashes-fit delays-fit i noCrash (omega arith))
 
   -- the same of an L row
   module _ (i : ℕ) {count : ℕ} (less : i < count) (all : count ≡ length (p .delays)) where
@@ -80,7 +132,7 @@ module _ (file : List ℕ) (ok : Accepts file) where
       pub delay-put : {s t : List ℕ} → s ≡ filled p (length (p .crashes)) i → t ≡ putDelay s i (row .first) (row .second)
           → t ≡ filled p (length (p .crashes)) (i + 1)
       delay-put before put =
-          put ∙ rw (before, got-delay) (delay-filled p (bounds .n-high) crashes-fit delays-fit i (record { number = 0; delay = 0 }) (omega arith))
+          put ∙ rw (before, got-delay) (delay-filled p (bounds .n-high) ring-fits crashes-fit delays-fit i (record { number = 0; delay = 0 }) (omega arith))
 
 -- ---- the end of a loop that counts
 
@@ -91,30 +143,46 @@ at-end f {x} {i} {count} h k e = let same : i ≡ count = omega arith in e ∙ a
 
 module _ (file : List ℕ) (ok : Accepts file) (o : Outline) (same : o ≡ outlineOf (planOf file)) where
   -- the P line is in range, as its writer asks
-  pub outlined : (o .n ≤ 64) × (o .h ≤ 1000) × (o .w ≤ 65535)
+  pub outlined : o .n ≤ 64
   unfolding outlineOf
-  outlined =
-      let b = bounds file ok in
-      rw same (b .n-high, b .h-high, b .w-high)
+  outlined = rw same (bounds file ok .n-high)
 
-  pub outlined-crashes : (o .rows ≡ crashPlace (planOf file) 0) × (o .crashes ≡ length (planOf file .crashes))
+  pub outlined-ring : (o .rows ≡ length (startText (planOf file))) × (o .ring ≡ length (planOf file .ring))
   unfolding outlineOf
-  outlined-crashes = (ap (λ (x : Outline). x .rows) same ∙ sym (crash-place-first (planOf file)), ap (λ (x : Outline). x .crashes) same)
+  outlined-ring = (ap (λ (x : Outline). x .rows) same, ap (λ (x : Outline). x .ring) same)
+
+  outlined-crashes : o .crashes ≡ length (planOf file .crashes)
+  unfolding outlineOf
+  outlined-crashes = ap (λ (x : Outline). x .crashes) same
+
+  pub outlined-rows : {at : ℕ} → at ≡ crashPlace (planOf file) 0
+      → (at ≡ crashPlace (planOf file) 0) × (o .crashes ≡ length (planOf file .crashes))
+  outlined-rows e = (e, outlined-crashes)
 
   pub outlined-delays : {at : ℕ} → at ≡ crashPlace (planOf file) (o .crashes)
       → (at ≡ delayPlace (planOf file) 0) × (o .delays ≡ length (planOf file .delays))
   unfolding outlineOf
   outlined-delays e =
-      (e ∙ ap (crashPlace (planOf file)) (outlined-crashes .1) ∙ crash-place-last (planOf file), ap (λ (x : Outline). x .delays) same)
+      (e ∙ ap (crashPlace (planOf file)) outlined-crashes ∙ crash-place-last (planOf file), ap (λ (x : Outline). x .delays) same)
 
-  -- the store of the P line alone; with the C rows; with all rows
-  pub started : {s : List ℕ} → s ≡ encode (startPlan (o .n) (o .h) (o .w) (o .d) (o .end)) (start (startPlan (o .n) (o .h) (o .w) (o .d) (o .end)))
-      → s ≡ filled (planOf file) 0 0
+  -- the store of the P line alone; with the Q line; with the nodes; with the C rows; with all rows
+  pub started : {s : List ℕ} → s ≡ encode (startPlan (o .n) (o .h) (o .w) (o .d) (o .end)) (unopened (startPlan (o .n) (o .h) (o .w) (o .d) (o .end)))
+      → s ≡ begun (planOf file) 0
   unfolding outlineOf
-  started e = e ∙ rw same (none-filled (planOf file) (in-number-order (planOf file) (accepted-plan file (planOf file) ok)))
+  started e = e ∙ rw same (none-begun (planOf file))
+
+  module _ {s : List ℕ} (is : s ≡ begun (planOf file) (o .ring)) where
+    ready : NotOpened s × (planIn s ≡ rowsUpTo (planOf file) 0 0)
+    ready = begun-unopened (planOf file) (good file ok) (is ∙ ap (begun (planOf file)) (outlined-ring .1))
+
+    pub ringed : NotOpened s
+    ringed = ready .0
+
+    pub opened : {t : List ℕ} → t ≡ encode (planIn s) (start (planIn s)) → t ≡ filled (planOf file) 0 0
+    opened e = e ∙ rw (ready .1) (none-filled (planOf file))
 
   pub crashed : {s : List ℕ} → s ≡ filled (planOf file) (o .crashes) 0 → s ≡ filled (planOf file) (length (planOf file .crashes)) 0
-  crashed e = e ∙ ap (λ (k : ℕ). filled (planOf file) k 0) (outlined-crashes .1)
+  crashed e = e ∙ ap (λ (k : ℕ). filled (planOf file) k 0) outlined-crashes
 
   pub whole : {s : List ℕ} → s ≡ filled (planOf file) (length (planOf file .crashes)) (o .delays) → s ≡ encode (planOf file) (start (planOf file))
   unfolding outlineOf
@@ -157,9 +225,9 @@ module _ (file store : List ℕ) where
   unfolding openPlan
   open-ready ok h e = rw (open-plan ok, eq-eqb (length store) storeSize h) (refl, e)
 
--- a refused startPlan has a number of 1 to 7 and a line of at most 65,536
+-- a refused opening has a number of 1 to 13 and a line of at most 65,536
 pub opening-small : (file store : List ℕ) (number line : ℕ) → openFile file store .answer ≡ Unopened number line
-    → (1 ≤ number) × (number ≤ 7) × (line ≤ 65536)
+    → (1 ≤ number) × (number ≤ 13) × (line ≤ 65536)
 unfolding openFile openAnswer openPlan
 opening-small file store number line e = go (fileOf file) refl e
   where
@@ -167,14 +235,15 @@ opening-small file store number line e = go (fileOf file) refl e
     ready after t = cond t after (record { answer = Unopened badStore 0; store = store })
 
     tested : (p : Plan) (t : Bool) → ready (record { answer = Ready; store = encode p (start p) }) t .answer ≡ Unopened number line
-        → (1 ≤ number) × (number ≤ 7) × (line ≤ 65536)
+        → (1 ≤ number) × (number ≤ 13) × (line ≤ 65536)
     tested p true h = let z : _≡_ {A = ℕ} 0 1 = cc in absurd (omega arith)
     tested p false h = let a : badStore ≡ number = cc in let b : _≡_ {A = ℕ} 0 line = cc in omega arith
 
-    go : (a : FileAnswer) → fileOf file ≡ a → openAnswer a store .answer ≡ Unopened number line → (1 ≤ number) × (number ≤ 7) × (line ≤ 65536)
+    go : (a : FileAnswer) → fileOf file ≡ a → openAnswer a store .answer ≡ Unopened number line
+        → (1 ≤ number) × (number ≤ 13) × (line ≤ 65536)
     go (accepted p) same h = tested p (eqb (length store) storeSize) h
     go (turnedDown k l) same h =
         let a : k ≡ number = cc in
         let b : l ≡ line = cc in
         let s = refusal-small file k l same in
-        omega (arith, s .0, s .1, s .2)
+        omega (arith, s .0, refusal-most file k l same, s .2)

@@ -9,8 +9,10 @@ use lib.Seq.{take-suc, take-all}
 use Rattle.text.specs.Put.{Put}
 use Rattle.text.proofs.PutLaws.{put-then, put-text, put-none}
 use Rattle.plans.specs.Plan.{Plan, startPlan}
-use Rattle.runfile.specs.Text.{startText, crashText, delayText, rowsText, planText}
+use Rattle.text.specs.Field.{field, lineFeed}
+use Rattle.runfile.specs.Text.{letterQ, startText, ringText, headText, crashText, delayText, rowsText, planText}
 use Rattle.runfile.proofs.RoundTrip.{rows-append}
+use Rattle.runfile.proofs.Writing.{ring-parts, ring-none}
 use Rattle.plans.specs.Plain.{noCrash, rowAt}
 use Rattle.store.specs.declared.CrashRow.{CrashRow}
 use Rattle.store.specs.declared.DelayRow.{DelayRow}
@@ -55,7 +57,42 @@ module _ {A : Type 0} (text : A → List ℕ) (xs : List A) where
       → Put l at (rowsText text xs) r m
   rows-end i all h p = put-text (ap (rowsText text) (take-all i xs (omega arith))) p
 
--- ---- the rows of a store's plan
+-- ---- the numbers of a store's Q line, and its rows
+
+module _ (p : Plan) (i : ℕ) {l m : List ℕ} {count at r : ℕ} (all : count ≡ length (p .ring))
+    (room : at + length (rowsText field (p .ring)) ≤ length l)
+    (put : Put l at (rowsTo field (p .ring) i) r m) {k : ℕ} (e : k ≡ getD (p .ring) i 0) where
+  pub number-room : i < count → length m ≡ length l → r + length (field k) ≤ length m
+  number-room h same = rw e (rows-room field (p .ring) i 0 (omega arith) room same put)
+
+  pub number-written : {o : List ℕ} {q : ℕ} → i < count → Put m r (field k) q o → Put l at (rowsTo field (p .ring) (i + 1)) q o
+  number-written h s = rows-turn field (p .ring) i 0 (omega arith) room put (rw e at s)
+
+-- a Q line of numbers that are there: its letter, its numbers, its end
+module _ (ks : List ℕ) {size : ℕ} (read : size ≡ length ks) where
+  pub line-none : size ≡ 0 → (l : List ℕ) (at : ℕ) → Put l at (ringText ks) at l
+  line-none e l at = put-text (sym (ring-none ks (sym read ∙ e))) (put-none l at)
+
+  module _ (some : size ≡ 0 → ⊥) (l : List ℕ) (at : ℕ) (room : at + length (ringText ks) ≤ length l) where
+    parts : ringText ks ≡ (letterQ ∷ []) ++ (rowsText field ks ++ (lineFeed ∷ []))
+    parts = ring-parts ks (λ z. some (read ∙ z))
+
+    line-sizes : length (ringText ks) ≡ 1 + length (rowsText field ks) + 1
+    line-sizes = ap length parts ∙ simp length-append (omega arith)
+
+    pub letter-room : at + length (letterQ ∷ []) ≤ length l
+    letter-room = omega (arith, line-sizes)
+
+    module _ {m : List ℕ} {r : ℕ} (put : Put l at (letterQ ∷ []) r m) (same : length m ≡ length l) where
+      pub numbers-room : r + length (rowsText field ks) ≤ length m
+      numbers-room = omega (arith, line-sizes, put .next)
+
+      module _ {k : List ℕ} {q : ℕ} (then : Put m r (rowsText field ks) q k) where
+        pub end-room : length k ≡ length m → q + length (lineFeed ∷ []) ≤ length k
+        end-room kept = omega (arith, line-sizes, put .next, then .next)
+
+        pub line-written : {o : List ℕ} {e : ℕ} → Put k q (lineFeed ∷ []) e o → Put l at (ringText ks) e o
+        line-written last = put-text (sym parts) (put-then letter-room put (put-then numbers-room then last))
 
 module _ (p : Plan) (i : ℕ) {l m : List ℕ} {count at r : ℕ} (all : count ≡ length (p .crashes))
     (room : at + length (rowsText crashText (p .crashes)) ≤ length l)
@@ -79,27 +116,47 @@ module _ (p : Plan) (i : ℕ) {l m : List ℕ} {count at r : ℕ} (all : count �
 
 -- ---- a plan's lines
 
+abbrev qs : Plan → List ℕ
+qs p = ringText (p .ring)
+
 abbrev cs : Plan → List ℕ
 cs p = rowsText crashText (p .crashes)
 
 abbrev ds : Plan → List ℕ
 ds p = rowsText delayText (p .delays)
 
--- the P line of numbers that were read, then the C lines, then the L lines
-module _ (p : Plan) (l : List ℕ) {n h w d end : ℕ} (room : length (planText p) ≤ length l)
+-- the P line of numbers that were read, then the Q line
+module _ (p : Plan) (l : List ℕ) {n h w d end : ℕ} (room : length (headText p) ≤ length l)
     (en : n ≡ p .n) (eh : h ≡ p .h) (ew : w ≡ p .w) (ed : d ≡ p .d) (ee : end ≡ p .end) where
   same-start : startText (startPlan n h w d end) ≡ startText p
   unfolding startText startPlan
   same-start = rw (en, eh, ew, ed, ee)
 
-  sizes : length (planText p) ≡ length (startText (startPlan n h w d end)) + length (cs p) + length (ds p)
-  unfolding planText
-  sizes = rw same-start (simp length-append (omega arith))
+  head-sizes : length (headText p) ≡ length (startText (startPlan n h w d end)) + length (qs p)
+  unfolding headText
+  head-sizes = rw same-start (length-append (startText p) (qs p))
 
   pub start-room : 0 + length (startText (startPlan n h w d end)) ≤ length l
-  start-room = omega (arith, sizes)
+  start-room = omega (arith, head-sizes)
 
-  module _ {m : List ℕ} {r : ℕ} (put : Put l 0 (startText (startPlan n h w d end)) r m) (same : length m ≡ length l) where
+  module _ {m : List ℕ} {r : ℕ} (put : Put l 0 (startText (startPlan n h w d end)) r m) where
+    pub ring-room : length m ≡ length l → r + length (qs p) ≤ length m
+    ring-room same = omega (arith, head-sizes, put .next)
+
+    pub head-written : {k : List ℕ} {q : ℕ} → Put m r (qs p) q k → Put l 0 (headText p) q k
+    unfolding headText
+    head-written ring = put-text (rw same-start) (put-then start-room put ring)
+
+-- these two, then the C lines and the L lines
+module _ (p : Plan) (l : List ℕ) (room : length (planText p) ≤ length l) where
+  sizes : length (planText p) ≡ length (headText p) + length (cs p) + length (ds p)
+  unfolding planText
+  sizes = simp length-append (omega arith)
+
+  pub head-room : length (headText p) ≤ length l
+  head-room = omega (arith, sizes)
+
+  module _ {m : List ℕ} {r : ℕ} (put : Put l 0 (headText p) r m) (same : length m ≡ length l) where
     pub crashes-room : r + length (cs p) ≤ length m
     crashes-room = omega (arith, sizes, put .next)
 
@@ -109,4 +166,6 @@ module _ (p : Plan) (l : List ℕ) {n h w d end : ℕ} (room : length (planText 
 
       pub all-written : {o : List ℕ} {e : ℕ} → Put k q (ds p) e o → Put l 0 (planText p) e o
       unfolding planText
-      all-written last = put-text (rw same-start) (put-then start-room put (put-then crashes-room then last))
+      all-written last =
+          let first : 0 + length (headText p) ≤ length l = omega (arith, head-room) in
+          put-then first put (put-then crashes-room then last)

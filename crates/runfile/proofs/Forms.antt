@@ -1,5 +1,5 @@
 -- A line's form, by the tests of the code. Assumes nothing.
-use Prim.Native.Nat.{ℕ}
+use Prim.Native.Nat.{ℕ, zero, suc}
 use native.Mathlib.Omega.{arith}
 use mathlib.Core.Path.{_≡_, refl, sym, ap, _∙_}
 use mathlib.Core.Bool.{Bool, true, false, not, cond}
@@ -12,39 +12,44 @@ use Rattle.text.specs.declared.Number.{Number}
 use Rattle.text.specs.declared.Number.the-variants.{Value, NoNumber}
 use Rattle.text.specs.Field.{ends, numberFieldAt}
 use Rattle.plans.specs.Plan.{Plan, startPlan}
-use Rattle.runfile.specs.File.{Row, start, fieldThen, pairOf, startOf, crashOf, delayOf, formOf, rowOf, firstLine, laterLine, stop}
+use Rattle.runfile.specs.File.{Row, start, fieldThen, pairOf, numbersThen, ringOf, startOf, crashOf, delayOf, formOf, rowOf, firstLine}
+use Rattle.runfile.specs.File.{laterLine, stop}
 use Rattle.runfile.specs.Reader.{lineAnswer}
 use Rattle.runfile.specs.declared.Line.{Line}
 use Rattle.runfile.specs.declared.Line.the-variants.{Stop}
 
 -- ---- the letter
 
-module _ (l : List ℕ) where
-  pub row-empty : length l ≡ 0 → rowOf l ≡ none
+module _ (n : ℕ) (l : List ℕ) where
+  pub row-empty : length l ≡ 0 → rowOf n l ≡ none
   unfolding rowOf
   row-empty h = by l h
     where
-      by : (l : List ℕ) → length l ≡ 0 → rowOf l ≡ none
+      by : (l : List ℕ) → length l ≡ 0 → rowOf n l ≡ none
       by [] h = refl
       by (b ∷ s) h = absurd (omega arith)
 
-  row-letter : (length l ≡ 0 → ⊥) → rowOf l ≡ formOf (getD l 0 0) l
+  row-letter : (length l ≡ 0 → ⊥) → rowOf n l ≡ formOf n (getD l 0 0) l
   unfolding rowOf
   row-letter h = by l h
     where
-      by : (l : List ℕ) → (length l ≡ 0 → ⊥) → rowOf l ≡ formOf (getD l 0 0) l
+      by : (l : List ℕ) → (length l ≡ 0 → ⊥) → rowOf n l ≡ formOf n (getD l 0 0) l
       by [] h = absurd (h refl)
       by (b ∷ s) h = refl
 
-  pub row-start : (length l ≡ 0 → ⊥) → getD l 0 0 ≡ 80 → rowOf l ≡ startOf l
+  pub row-start : (length l ≡ 0 → ⊥) → getD l 0 0 ≡ 80 → rowOf n l ≡ startOf l
   unfolding formOf
   row-start h e = row-letter h ∙ rw e
 
-  pub row-crash : (length l ≡ 0 → ⊥) → getD l 0 0 ≡ 67 → rowOf l ≡ crashOf l
+  pub row-ring : (length l ≡ 0 → ⊥) → getD l 0 0 ≡ 81 → rowOf n l ≡ ringOf n l
+  unfolding formOf
+  row-ring h e = row-letter h ∙ rw e
+
+  pub row-crash : (length l ≡ 0 → ⊥) → getD l 0 0 ≡ 67 → rowOf n l ≡ crashOf l
   unfolding formOf
   row-crash h e = row-letter h ∙ rw e
 
-  pub row-delay : (length l ≡ 0 → ⊥) → getD l 0 0 ≡ 76 → rowOf l ≡ delayOf l
+  pub row-delay : (length l ≡ 0 → ⊥) → getD l 0 0 ≡ 76 → rowOf n l ≡ delayOf l
   unfolding formOf
   row-delay h e = row-letter h ∙ rw e
 
@@ -121,7 +126,7 @@ module _ (x : Option Row) where
   unfolding laterLine lineAnswer
   later-none p e = rw e
 
--- two numbers make no P line, and five no other line
+-- two numbers or those of a Q line make no P line, and five no other line
 pair-first : (row : ℕ → ℕ → Row) (l : List ℕ) → ((a b : ℕ) → firstLine (some (row a b)) ≡ stop 2) → firstLine (pairOf row l) ≡ stop 2
 unfolding pairOf firstLine fieldThen
 pair-first row l h = field (numberFieldAt l 1) _ λ a i. field (numberFieldAt l i) _ λ b j. end (ends l j) a b
@@ -133,6 +138,21 @@ pair-first row l h = field (numberFieldAt l 1) _ λ a i. field (numberFieldAt l 
     end : (t : Bool) (a b : ℕ) → firstLine (cond t (some (row a b)) none) ≡ stop 2
     end true a b = h a b
     end false a b = refl
+
+numbers-first : (k : ℕ) (l : List ℕ) (i : ℕ) (f : List ℕ → Option Row) → ((xs : List ℕ) → firstLine (f xs) ≡ stop 2)
+    → firstLine (numbersThen k l i f) ≡ stop 2
+unfolding numbersThen fieldThen firstLine
+numbers-first zero l i f h = by (ends l i)
+  where
+    by : (t : Bool) → firstLine (cond t (f []) none) ≡ stop 2
+    by true = h []
+    by false = refl
+numbers-first (suc k) l i f h = by (numberFieldAt l i) (λ x j. numbers-first k l j (λ xs. f (x ∷ xs)) (λ xs. h (x ∷ xs)))
+  where
+    by : (y : Number) → ((x j : ℕ) → firstLine (numbersThen k l j (λ xs. f (x ∷ xs))) ≡ stop 2)
+        → firstLine (fieldThen y (λ x j. numbersThen k l j (λ xs. f (x ∷ xs)))) ≡ stop 2
+    by (Value x j) rest = rest x j
+    by NoNumber rest = refl
 
 start-later : (l : List ℕ) (p : Plan) → laterLine p (startOf l) ≡ stop 2
 unfolding startOf laterLine fieldThen
@@ -153,23 +173,26 @@ start-later l p =
     end false q = refl
 
 -- a first line that is no P line
-pub first-other : (l : List ℕ) → (length l ≡ 0 → ⊥) → (getD l 0 0 ≡ 80 → ⊥) → Stop 2 ≡ lineAnswer (firstLine (rowOf l))
-unfolding formOf crashOf delayOf firstLine lineAnswer
-first-other l h e =
-    let turnedDown : firstLine (rowOf l) ≡ stop 2 = rw (row-letter l h, ne-eqb _ _ e) (by (eqb (getD l 0 0) 67) (eqb (getD l 0 0) 76)) in
+pub first-other : (n : ℕ) (l : List ℕ) → (length l ≡ 0 → ⊥) → (getD l 0 0 ≡ 80 → ⊥) → Stop 2 ≡ lineAnswer (firstLine (rowOf n l))
+unfolding formOf ringOf crashOf delayOf firstLine lineAnswer
+first-other n l h e =
+    let turnedDown : firstLine (rowOf n l) ≡ stop 2 =
+    rw (row-letter n l h, ne-eqb _ _ e) (by (eqb (getD l 0 0) 81) (eqb (getD l 0 0) 67) (eqb (getD l 0 0) 76)) in
     sym (ap lineAnswer turnedDown)
   where
-    by : (a b : Bool) → firstLine (cond a (crashOf l) (cond b (delayOf l) none)) ≡ stop 2
-    by true b = pair-first _ l (λ t k. refl)
-    by false true = pair-first _ l (λ t k. refl)
-    by false false = refl
+    by : (a b c : Bool) → firstLine (cond a (ringOf n l) (cond b (crashOf l) (cond c (delayOf l) none))) ≡ stop 2
+    by true b c = numbers-first n l 1 _ (λ xs. refl)
+    by false true c = pair-first _ l (λ t k. refl)
+    by false false true = pair-first _ l (λ t k. refl)
+    by false false false = refl
 
--- a later line that is neither a C nor an L line
-pub later-other : (l : List ℕ) (p : Plan) → (length l ≡ 0 → ⊥) → (getD l 0 0 ≡ 67 → ⊥) → (getD l 0 0 ≡ 76 → ⊥)
-    → Stop 2 ≡ lineAnswer (laterLine p (rowOf l))
+-- a later line that is no Q, C or L line
+pub later-other : (l : List ℕ) (p : Plan) → (length l ≡ 0 → ⊥) → (getD l 0 0 ≡ 81 → ⊥) → (getD l 0 0 ≡ 67 → ⊥)
+    → (getD l 0 0 ≡ 76 → ⊥) → Stop 2 ≡ lineAnswer (laterLine p (rowOf (p .n) l))
 unfolding formOf laterLine lineAnswer
-later-other l p h c d =
-    let turnedDown : laterLine p (rowOf l) ≡ stop 2 = rw (row-letter l h, ne-eqb _ _ c, ne-eqb _ _ d) (by (eqb (getD l 0 0) 80)) in
+later-other l p h q c d =
+    let turnedDown : laterLine p (rowOf (p .n) l) ≡ stop 2 =
+    rw (row-letter (p .n) l h, ne-eqb _ _ q, ne-eqb _ _ c, ne-eqb _ _ d) (by (eqb (getD l 0 0) 80)) in
     sym (ap lineAnswer turnedDown)
   where
     by : (a : Bool) → laterLine p (cond a (startOf l) none) ≡ stop 2

@@ -1,13 +1,14 @@
 pub mod Order
+pub mod Rings
 pub mod Steps
 pub mod Forms
 pub mod Lines
+pub mod Written
 pub mod Trip
 pub mod Grown
 pub mod Reading
-pub mod Written
+pub mod Writing
 pub mod Size
 pub mod RoundTrip
 pub mod Refusals
 pub mod Places
-pub mod Writing

@@ -62,14 +62,14 @@ line-grows s at e h p =
 
 -- the first line of a file, which ends at the place e
 pub file-first : (s : List ℕ) (e : ℕ) → 0 < length s → e ≡ 0 + lineLength (drop 0 s)
-    → allLines (lines s) ≡ stepThen (firstLine (rowOf (take e s))) 1 (λ p. laterLines p 2 (lines (drop e s)))
+    → allLines (lines s) ≡ stepThen (firstLine (rowOf 0 (take e s))) 1 (λ p. laterLines p 2 (lines (drop e s)))
 unfolding allLines
 file-first s e h p = let z : 0 + lineLength s ≡ lineLength s = omega arith in rw (first-line s h, p, z)
 
 -- a later line, from the place `at` up to the place e
 pub file-later : (s : List ℕ) (at e : ℕ) (p : Plan) (line : ℕ) → at < length s → e ≡ at + lineLength (drop at s)
     → laterLines p line (lines (drop at s))
-    ≡ stepThen (laterLine p (rowOf (take (e - at) (drop at s)))) line (λ q. laterLines q (line + 1) (lines (drop e s)))
+    ≡ stepThen (laterLine p (rowOf (p .n) (take (e - at) (drop at s)))) line (λ q. laterLines q (line + 1) (lines (drop e s)))
 unfolding laterLines
 file-later s at e p line h q =
     let k : e - at ≡ lineLength (drop at s) = omega arith in

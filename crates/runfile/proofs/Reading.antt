@@ -39,14 +39,14 @@ kept-n p st k =
 
 module _ (s : List ℕ) (e : ℕ) (some : 0 < length s) (is : e ≡ 0 + lineLength (drop 0 s)) (here : e ≤ length s) where
   -- the P line was passed
-  pub passed-first : (st : Sofar) → Next st ≡ lineAnswer (firstLine (rowOf (take e s))) → Passed s e st 2 e
+  pub passed-first : (st : Sofar) → Next st ≡ lineAnswer (firstLine (rowOf 0 (take e s))) → Passed s e st 2 e
   unfolding stepThen sofarOf startText
   passed-first st a =
-      let w = next-inv (firstLine (rowOf (take e s))) st a in
-      let o = first-inv (rowOf (take e s)) (w .0) (w .1) in
+      let w = next-inv (firstLine (rowOf 0 (take e s))) st a in
+      let o = first-inv (rowOf 0 (take e s)) (w .0) (w .1) in
       let long : 0 < e = line-grows s 0 e some is in
       let text : length (take e s) ≡ length (startText (w .0)) = ap length (opened-text (take e s) (w .0) o) in
-      let none : st .crashes ≡ 0 = ap (λ (t : Sofar). t .crashes) (w .2) ∙ ap length (start-rows (take e s) (w .0) (o .row) .0) in
+      let none : st .crashes ≡ 0 = ap (λ (t : Sofar). t .crashes) (w .2) ∙ ap length (start-rows 0 (take e s) (w .0) (o .row) .0) in
       record {
         plan = w .0;
         kept = record { good = opened-good (take e s) (w .0) o; same = w .2 };
@@ -57,23 +57,33 @@ module _ (s : List ℕ) (e : ℕ) (some : 0 < length s) (is : e ≡ 0 + lineLeng
         here = here;
       }
 
-  pub first-stop : (k : ℕ) → Stop k ≡ lineAnswer (firstLine (rowOf (take e s))) → Refused k 1 ≡ readOf (allLines (lines s))
+  pub first-stop : (k : ℕ) → Stop k ≡ lineAnswer (firstLine (rowOf 0 (take e s))) → Refused k 1 ≡ readOf (allLines (lines s))
   unfolding stepThen readOf
   first-stop k a =
-      let stopped = stop-inv (firstLine (rowOf (take e s))) k a in
+      let stopped = stop-inv (firstLine (rowOf 0 (take e s))) k a in
       sym (ap readOf (file-first s e some is ∙ ap (λ (x : Step). stepThen x 1 (λ p. laterLines p 2 (lines (drop e s)))) stopped))
 
 module _ (s : List ℕ) (rows : ℕ) (st : Sofar) (line at : ℕ) (p : Passed s rows st line at) where
   -- every line was passed
   pub passed-end : length s ≤ at
-      → Accepted (record { n = st .n; h = st .h; w = st .w; d = st .d; end = st .end; crashes = st .crashes; delays = st .delays; rows = rows })
+      → Accepted (record {
+        n = st .n;
+        h = st .h;
+        w = st .w;
+        d = st .d;
+        end = st .end;
+        ring = st .ring;
+        crashes = st .crashes;
+        delays = st .delays;
+        rows = rows;
+      })
       ≡ readOf (allLines (lines s))
   unfolding readOf outlineOf sofarOf
   passed-end h = rw (p .file ∙ file-end s at (p .plan) line h, p .kept .same, p .first)
 
   module _ (e : ℕ) (more : at < length s) (is : e ≡ at + lineLength (drop at s)) (here : e ≤ length s) where
     abbrev step : Step
-    step = laterLine (p .plan) (rowOf (take (e - at) (drop at s)))
+    step = laterLine (p .plan) (rowOf (p .plan .n) (take (e - at) (drop at s)))
 
     file-step : allLines (lines s) ≡ stepThen step line (λ q. laterLines q (line + 1) (lines (drop e s)))
     file-step = p .file ∙ file-later s at e (p .plan) line more is
@@ -87,7 +97,7 @@ module _ (s : List ℕ) (rows : ℕ) (st : Sofar) (line at : ℕ) (p : Passed s 
     unfolding stepThen sofarOf
     passed-next new a =
         let w = next-inv step new a in
-        let g = later-inv (p .plan) (rowOf (take (e - at) (drop at s))) (w .0) (w .1) in
+        let g = later-inv (p .plan) (rowOf (p .plan .n) (take (e - at) (drop at s))) (w .0) (w .1) in
         let grows : at < e = line-grows s at e more is in
         let was : st .crashes ≡ length (p .plan .crashes) = ap (λ (t : Sofar). t .crashes) (p .kept .same) in
         let now : new .crashes ≡ length (w .0 .crashes) = ap (λ (t : Sofar). t .crashes) (w .2) in

@@ -2,18 +2,22 @@
 use Prim.Native.Nat.{ℕ, suc, _+_, _*_, _^_, _≤_, _<_, zero-le}
 use native.Mathlib.Omega.{arith}
 use native.Mathlib.Nat.{mul-suc}
+use native.Mathlib.Decide.{ℕ-discrete}
 use mathlib.Core.Path.{_≡_}
 use mathlib.Core.Bool.{Bool, true}
 use mathlib.Core.List.{List, [], _∷_}
+use lib.Dec.{ltb}
 use lib.ListN.{length, length-append}
-use borrow.Author.Tests.{leb-true}
+use borrow.Author.Tests.{leb-true, ltb-true}
 use Rattle.text.specs.Field.{field}
 use Rattle.text.proofs.NumberLaws.{decimal-length}
-use Rattle.plans.specs.Plan.{Crash, Delay, Plan, startRanges, crashRange, delayRange, fewDelays, every, planTest}
-use Rattle.runfile.specs.Text.{fieldsText, lineText, startText, crashText, delayText, rowsText, planText}
+use Rattle.plans.specs.Plan.{Crash, Delay, Plan, startRanges, ringRange, crashRange, delayRange, fewDelays, every, planTest}
+use Rattle.runfile.specs.Text.{fieldsText, lineText, startText, ringText, crashText, delayText, rowsText, headText, planText}
 use mathlib.Mathlib.Data.Bool.Basic.{and-elim-left, and-elim-right}
+use Rattle.runfile.proofs.Writing.{ring-parts, ring-none}
 use Rattle.plans.proofs.Few.{crashes-few}
-use Rattle.plans.proofs.Tests.{ranges-of, tests-of, crash-small, delay-small, ranges-good}
+use Rattle.plans.proofs.Orders.{ring-facts}
+use Rattle.plans.proofs.Tests.{ranges-of, ranges, tests-of, crash-small, delay-small, ranges-good}
 
 -- ---- lengths
 
@@ -58,9 +62,23 @@ rows-size text test k h (r ∷ rs) e =
     let rest = rows-size text test k h rs (and-elim-right (test r) (every test rs) e) in
     simp length-append (omega (arith, first, rest, mul-suc k (length rs)))
 
+-- a Q line: its letter, at most 64 numbers of two digits, its end
+ring-size : (p : Plan) → planTest p ≡ true → length (ringText (p .ring)) ≤ 194
+unfolding ringRange
+ring-size p g = go (ℕ-discrete (length (p .ring)) 0)
+  where
+    go : Dec (length (p .ring) ≡ 0) → length (ringText (p .ring)) ≤ 194
+    go (yes e) = rw (ring-none (p .ring) e) (omega arith)
+    go (no e) =
+        let b = ranges p g in
+        let f = ring-facts p (tests-of p g .ring) e in
+        let each : (k : ℕ) → ltb k (p .n) ≡ true → length (field k) ≤ 3 = λ k h. field-size 1 k (omega (arith, ltb-true k (p .n) h, b .n-high)) in
+        let rows = rows-size field (λ k. ltb k (p .n)) 3 each (p .ring) (f .range) in
+        rw (ring-parts (p .ring) e) (simp length-append (omega (arith, rows, f .size, b .n-high)))
+
 -- the text of a plan that a file may hold is short
-pub plan-size : (p : Plan) → planTest p ≡ true → (1 ≤ length (planText p)) × (length (planText p) ≤ 27484)
-unfolding planText fewDelays
+pub plan-size : (p : Plan) → planTest p ≡ true → (1 ≤ length (planText p)) × (length (planText p) ≤ 27678)
+unfolding planText headText fewDelays
 plan-size p g =
     let t = tests-of p g in
     let s = ranges-good p g in
@@ -69,4 +87,4 @@ plan-size p g =
     let d = rows-size delayText (delayRange p) 13 (λ r. delay-size p r s) (p .delays) (t .delays) in
     let few : length (p .delays) ≤ 2048 = leb-true _ _ (t .few) in
     let z = start-size p s in
-    (simp length-append (omega (arith, z .0)), simp length-append (omega (arith, z .1, crashes-few p g, b .n-high)))
+    (simp length-append (omega (arith, z .0)), simp length-append (omega (arith, z .1, ring-size p g, crashes-few p g, b .n-high)))

@@ -1,28 +1,30 @@
--- A line's step, by the tests of the code: one law for each answer of `take_start`, `take_crash` and `take_delay`. Assumes nothing.
+-- A line's step, by the tests of the code: one law for each answer of `take_start`, `ring_line`, `take_ring`, `take_crash` and `take_delay`.
+-- Assumes nothing.
 use Prim.Native.Nat.{ℕ, _+_, _-_, _<_, _≤_, zero-le}
 use native.Mathlib.Omega.{arith}
 use native.Mathlib.Numerals.{add-one}
 use mathlib.Core.Path.{_≡_, refl, sym, ap, _∙_}
 use mathlib.Core.Bool.{Bool, true, false, cond, not, _&&_}
-use mathlib.Core.List.{[], _∷_, _++_}
-use lib.Dec.{leb, ltb}
+use mathlib.Core.List.{List, [], _∷_, _++_}
+use mathlib.Core.Option.{none, some}
+use lib.Dec.{eqb, leb, ltb}
 use lib.ListN.{length}
-use borrow.Author.Tests.{eq-eqb, ne-eqb, le-leb, lt-leb, lt-ltb, le-ltb, leb-true, leb-false}
+use borrow.Author.Tests.{eq-eqb, ne-eqb, le-leb, lt-leb, lt-ltb, le-ltb, leb-true, leb-false, not-true}
 use Rattle.plans.proofs.Listed.{listed-hits, with-snoc}
-use Rattle.ring.specs.Ring.{listed, listing, listingAll}
+use Rattle.ring.specs.Ring.{listed, listing, listingAll, eachOnce}
 use Rattle.text.specs.declared.Ranged.the-variants.{Within, Outside}
 use Rattle.text.specs.Field.{rangedOf}
 use Rattle.text.proofs.FieldLaws.{range-bound}
 use Rattle.plans.specs.Plan.{Crash, Delay, Plan, within, startRanges, longEnough, crashRange, delayRange, crashOrder, delayOrder, fewDelays, planTest}
-use Rattle.plans.specs.Plan.{withCrashed}
-use Rattle.plans.specs.Plan.{startPlan, withCrash, withDelay}
-use Rattle.runfile.specs.File.{orElse, startLine, early, crashLine, delayLine}
-use Rattle.runfile.specs.Reader.{sofarOf, Kept, lineAnswer, follows, crashFloor, delayFloor}
+use Rattle.plans.specs.Plan.{withCrashed, startPlan, ringRange, withRing, withCrash, withDelay}
+use Rattle.runfile.specs.File.{ring, ringOf, next, orElse, startLine, fresh, ringLine, early, crashLine, delayLine, laterLine}
+use Rattle.runfile.specs.Reader.{sofarOf, Kept, lineAnswer, follows, crashFloor, delayFloor, numbersThere, numbersAt, ringRefusal}
 use Rattle.runfile.specs.declared.Sofar.{Sofar}
 use Rattle.runfile.specs.declared.Line.the-variants.{Next, Stop}
 use Rattle.plans.proofs.Bools.{and-left, and-right}
 use mathlib.Mathlib.Data.Bool.Basic.{and-intro}
 use Rattle.runfile.proofs.Order.{crash-order-snoc, crash-floor-snoc, delay-order-snoc, delay-floor-snoc, snoc-length}
+use Rattle.runfile.proofs.Rings.{ring-form, there-count}
 use Rattle.plans.proofs.Rows.{few-snoc}
 use Rattle.plans.proofs.Tests.{tests-of, delays-rise}
 
@@ -92,7 +94,7 @@ module _ (n h w d end : ℕ) where
         rw (start-inside, lt-leb (h + d) w short)
 
     pub start-next : h' + d' ≤ w'
-        → Next (record { n = n'; h = h'; w = w'; d = d'; end = end'; crashes = 0; delays = 0; tick = 0; node = 0; seen = 0; number = 0 })
+        → Next (record { n = n'; h = h'; w = w'; d = d'; end = end'; ring = 0; crashes = 0; delays = 0; tick = 0; node = 0; seen = 0; number = 0 })
         ≡ lineAnswer (startLine (startPlan n h w d end))
     unfolding startLine orElse lineAnswer longEnough startPlan sofarOf crashFloor delayFloor withCrashed listingAll
     start-next k =
@@ -106,6 +108,121 @@ module _ (n h w d end : ℕ) where
           ← range-bound d 1 255 d' rd .0,
           ← range-bound end 0 1000000 end' re .0,
         )
+
+-- ---- a Q line after those before it
+
+-- range, then each once, of whichever step they allow
+ring-number : (a b : Bool) (q : Plan) (number : ℕ) → number ≡ cond a (cond b 0 13) 3 → (number ≡ 0 → ⊥)
+    → Stop number ≡ lineAnswer (orElse a 3 (orElse b 13 (next q)))
+unfolding orElse lineAnswer
+ring-number true true q number e h = absurd (h e)
+ring-number true false q number e h = ap Stop e
+ring-number false b q number e h = ap Stop e
+
+ring-no-number : (a b : Bool) (q : Plan) → _≡_ {A = ℕ} (cond a (cond b 0 13) 3) 0
+    → lineAnswer (orElse a 3 (orElse b 13 (next q))) ≡ Next (sofarOf q)
+unfolding orElse lineAnswer
+ring-no-number true true q e = refl
+ring-no-number true false q e = absurd (omega arith)
+ring-no-number false b q e = absurd (omega arith)
+
+module _ (p : Plan) (st : Sofar) (kept : Kept p st) (l : List ℕ) where
+  same-n : st .n ≡ p .n
+  unfolding sofarOf
+  same-n = ap (λ (s : Sofar). s .n) (kept .same)
+
+  same-ring : st .ring ≡ length (p .ring)
+  unfolding sofarOf
+  same-ring = ap (λ (s : Sofar). s .ring) (kept .same)
+
+  same-crashes : st .crashes ≡ length (p .crashes)
+  unfolding sofarOf
+  same-crashes = ap (λ (s : Sofar). s .crashes) (kept .same)
+
+  same-delays : st .delays ≡ length (p .delays)
+  unfolding sofarOf
+  same-delays = ap (λ (s : Sofar). s .delays) (kept .same)
+
+  -- a line that is no Q line right after the P line, of whichever form
+  ring-stale : fresh p ≡ false → Stop 2 ≡ lineAnswer (laterLine p (ringOf (p .n) l))
+  unfolding laterLine ringLine orElse lineAnswer
+  ring-stale e = rw (ring-form (p .n) l) (by (numbersThere (p .n) l 1))
+    where
+      by : (t : Bool) → Stop 2 ≡ lineAnswer (laterLine p (cond t (some (ring (numbersAt (p .n) l 1))) none))
+      by true = rw e
+      by false = refl
+
+  pub ring-second : (st .ring ≡ 0 → ⊥) → Stop 2 ≡ lineAnswer (laterLine p (ringOf (p .n) l))
+  unfolding fresh
+  ring-second h = ring-stale (and-left _ (ne-eqb (length (p .ring)) 0 (λ e. h (same-ring ∙ e))))
+
+  pub ring-after-crash : (st .crashes ≡ 0 → ⊥) → Stop 2 ≡ lineAnswer (laterLine p (ringOf (p .n) l))
+  unfolding fresh
+  ring-after-crash h =
+      ring-stale (and-right (eqb (length (p .ring)) 0) (and-left _ (ne-eqb (length (p .crashes)) 0 (λ e. h (same-crashes ∙ e)))))
+
+  pub ring-after-delay : (st .delays ≡ 0 → ⊥) → Stop 2 ≡ lineAnswer (laterLine p (ringOf (p .n) l))
+  unfolding fresh
+  ring-after-delay h =
+      ring-stale (and-right (eqb (length (p .ring)) 0)
+      (and-right (eqb (length (p .crashes)) 0) (ne-eqb (length (p .delays)) 0 (λ e. h (same-delays ∙ e)))))
+
+  pub ring-formless : {t : Bool} → t ≡ numbersThere (st .n) l 1 → not t ≡ true → Stop 2 ≡ lineAnswer (laterLine p (ringOf (p .n) l))
+  unfolding laterLine lineAnswer
+  ring-formless {t} told h =
+      let bad : numbersThere (p .n) l 1 ≡ false = ap (λ (n : ℕ). numbersThere n l 1) (sym same-n) ∙ sym told ∙ not-true t h in
+      rw (ring-form (p .n) l, bad)
+
+  module _ (there : numbersThere (st .n) l 1 ≡ true) (none : (st .ring ≡ 0) × (st .crashes ≡ 0) × (st .delays ≡ 0)) where
+    is-fresh : fresh p ≡ true
+    unfolding fresh
+    is-fresh =
+        and-intro (eq-eqb _ _ (sym same-ring ∙ none .0))
+        (and-intro (eq-eqb _ _ (sym same-crashes ∙ none .1)) (eq-eqb _ _ (sym same-delays ∙ none .2)))
+
+    -- the numbers of the line
+    abbrev nodes : List ℕ
+    nodes = numbersAt (p .n) l 1
+
+    there-p : numbersThere (p .n) l 1 ≡ true
+    there-p = ap (λ (n : ℕ). numbersThere n l 1) (sym same-n) ∙ there
+
+    ring-step : laterLine p (ringOf (p .n) l) ≡ orElse (ringRange p nodes) 3 (orElse (eachOnce nodes) 13 (next (withRing p nodes)))
+    unfolding laterLine ringLine orElse
+    ring-step = rw (ring-form (p .n) l, there-p) (rw is-fresh)
+
+    module _ {number : ℕ} (told : number ≡ ringRefusal (st .n) (numbersAt (st .n) l 1)) where
+      told-p : number ≡ cond (ringRange p nodes) (cond (eachOnce nodes) 0 13) 3
+      unfolding ringRefusal ringRange
+      told-p = told ∙ ap (λ (n : ℕ). ringRefusal n (numbersAt n l 1)) same-n
+
+      pub ring-refused : (number ≡ 0 → ⊥) → Stop number ≡ lineAnswer (laterLine p (ringOf (p .n) l))
+      ring-refused h = ring-number (ringRange p nodes) (eachOnce nodes) (withRing p nodes) number told-p h ∙ sym (ap lineAnswer ring-step)
+
+      -- what is kept with the numbers
+      abbrev with-ring : Sofar
+      with-ring = record {
+        n = st .n;
+        h = st .h;
+        w = st .w;
+        d = st .d;
+        end = st .end;
+        ring = st .n;
+        crashes = 0;
+        delays = 0;
+        tick = st .tick;
+        node = st .node;
+        seen = st .seen;
+        number = st .number;
+      }
+
+      pub ring-next : number ≡ 0 → Next with-ring ≡ lineAnswer (laterLine p (ringOf (p .n) l))
+      unfolding sofarOf withRing
+      ring-next h =
+          let kept-ring : with-ring ≡ sofarOf (withRing p nodes) =
+          rw (there-count (p .n) l 1 there-p, sym same-crashes ∙ none .1, sym same-delays ∙ none .2, kept .same) in
+          ap Next kept-ring
+          ∙ sym (ap lineAnswer ring-step ∙ ring-no-number (ringRange p nodes) (eachOnce nodes) (withRing p nodes) (sym told-p ∙ h))
 
 -- ---- a C line after those before it
 
@@ -186,6 +303,7 @@ module _ (p : Plan) (st : Sofar) (kept : Kept p st) (tick node : ℕ) where
           w = st .w;
           d = st .d;
           end = st .end;
+          ring = st .ring;
           crashes = st .crashes + 1;
           delays = 0;
           tick = t;
@@ -264,6 +382,7 @@ module _ (p : Plan) (st : Sofar) (kept : Kept p st) (number delay : ℕ) where
         w = st .w;
         d = st .d;
         end = st .end;
+        ring = st .ring;
         crashes = st .crashes;
         delays = st .delays + 1;
         tick = st .tick;

@@ -1,13 +1,14 @@
 -- The writers put a line part by part. Assumes nothing.
 use Prim.Native.Nat.{ℕ, _+_, _≤_}
 use native.Mathlib.Omega.{arith}
-use mathlib.Core.Path.{_≡_, sym, ap, _∙_}
+use mathlib.Core.Path.{_≡_, refl, sym, ap, _∙_}
+use mathlib.Core.Logic.{_≢_}
 use mathlib.Core.List.{List, [], _∷_, _++_, append-assoc}
 use lib.ListN.{length, length-append}
 use Rattle.text.specs.Field.{field}
 use Rattle.text.specs.Put.{Put}
 use Rattle.text.proofs.PutLaws.{put-then, put-text, put-kept}
-use Rattle.runfile.specs.Text.{fieldsText, lineText, startText}
+use Rattle.runfile.specs.Text.{fieldsText, lineText, startText, ringText, rowsText}
 use Rattle.plans.specs.Plan.{startPlan}
 
 -- a text in two parts that fits has room for the first
@@ -39,3 +40,27 @@ start-parts n h w d end =
     let last : List ℕ = field end ++ (10 ∷ []) in
     ap (λ (l : List ℕ). 80 ∷ l) (sym (append-assoc (field n) (field h) ((field w ++ field d) ++ last)
     ∙ ap (λ (l : List ℕ). field n ++ (field h ++ l)) (append-assoc (field w) (field d) last)))
+
+-- numbers as fields, and the line's end
+fields-parts : (ks : List ℕ) → fieldsText ks ≡ rowsText field ks ++ (10 ∷ [])
+unfolding fieldsText rowsText
+fields-parts [] = refl
+fields-parts (k ∷ ks) = ap (λ (t : List ℕ). field k ++ t) (fields-parts ks) ∙ sym (append-assoc (field k) (rowsText field ks) (10 ∷ []))
+
+-- a Q line, part by part
+pub ring-parts : (ks : List ℕ) → length ks ≢ 0 → ringText ks ≡ (81 ∷ []) ++ (rowsText field ks ++ (10 ∷ []))
+unfolding ringText lineText
+ring-parts [] h = absurd (h refl)
+ring-parts (k ∷ ks) h = ap (λ (t : List ℕ). 81 ∷ t) (fields-parts (k ∷ ks))
+
+-- it is a line
+pub ring-line : (ks : List ℕ) → length ks ≢ 0 → ringText ks ≡ lineText 81 ks
+unfolding ringText
+ring-line [] h = absurd (h refl)
+ring-line (k ∷ ks) h = refl
+
+-- no line where there are no numbers
+pub ring-none : (ks : List ℕ) → length ks ≡ 0 → ringText ks ≡ []
+unfolding ringText
+ring-none [] h = refl
+ring-none (k ∷ ks) h = absurd (omega arith)

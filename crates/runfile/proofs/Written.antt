@@ -5,8 +5,8 @@ use native.Mathlib.Decide.{decLt}
 use mathlib.Core.Path.{_≡_, refl, sym, ap, _∙_}
 use mathlib.Core.Bool.{true, false}
 use mathlib.Core.List.{List, [], _∷_, _++_, append-assoc, append-nil}
-use mathlib.Core.Option.{some}
-use lib.ListN.{length, drop, length-drop}
+use mathlib.Core.Option.{Option, some}
+use lib.ListN.{length, drop, getD, length-drop}
 use borrow.Author.Tests.{ne-eqb}
 use Rattle.text.specs.Number.{digit, ceiling, decimal}
 use Rattle.text.specs.Field.{ends, field, onto, numberFieldAt}
@@ -15,10 +15,20 @@ use Rattle.text.proofs.NumberLaws.{decimal-small, decimal-more}
 use Rattle.text.proofs.FieldTrip.{drop-past, field-back, ends-back}
 use Rattle.plans.specs.Plan.{Crash, Delay, Plan, startPlan}
 use Rattle.runfile.specs.Text.{fieldsText, lineText, startText, crashText, delayText}
-use Rattle.runfile.specs.File.{Row, start, crash, delay, lines, pairOf, startOf, crashOf, delayOf, formOf, rowOf}
+use Rattle.runfile.specs.File.{Row, start, ring, crash, delay, lines, fieldThen, pairOf, numbersThen, ringOf, startOf, crashOf, delayOf, formOf, rowOf}
 use Rattle.runfile.proofs.Forms.{pair-some, start-some}
 
 -- ---- fields that were written
+
+-- numbers below the ceiling
+unfoldable pub Small : List ℕ → Type 0
+Small [] = Unit
+Small (x ∷ xs) = (x < ceiling) × Small xs
+
+pub small-all : (xs : List ℕ) → ((q : ℕ) → q < length xs → getD xs q 0 < ceiling) → Small xs
+unfolding Small
+small-all [] h = tt
+small-all (x ∷ xs) h = (h 0 (omega arith), small-all xs (λ q l. h (suc q) (omega arith)))
 
 comma-no : digit 44 ≡ false
 unfolding digit
@@ -69,16 +79,32 @@ start-back n h w d end hn hh hw hd he =
     let f = field-last l _ end [] (e .1) he in
     start-some l n _ (a .0) h _ (b .0) w _ (c .0) d _ (e .0) end _ (f .0) (end-there l _ (f .1))
 
-pub crash-read : (r : Crash) → r .tick < ceiling → r .node < ceiling → rowOf (crashText r) ≡ some (crash r)
-unfolding crashText lineText rowOf formOf crashOf
-crash-read r ht hk = pair-back (λ t k. crash (record { tick = t; node = k })) 67 (r .tick) (r .node) ht hk
+-- the numbers of a Q line
+numbers-back : (l : List ℕ) (i : ℕ) (ks : List ℕ) (f : List ℕ → Option Row) → drop i l ≡ fieldsText ks → Small ks
+    → numbersThen (length ks) l i f ≡ f ks
+unfolding numbersThen fieldThen fieldsText Small
+numbers-back l i [] f e small = rw (end-there l i e)
+numbers-back l i (x ∷ []) f e small =
+    let a = field-last l i x [] (e ∙ sym (append-nil (fieldsText (x ∷ [])))) (small .0) in
+    rw (a .0) (numbers-back l (i + length (field x)) [] (λ xs. f (x ∷ xs)) (a .1) (small .1))
+numbers-back l i (x ∷ y ∷ ys) f e small =
+    let a = field-next l i x y ys [] (e ∙ sym (append-nil (fieldsText (x ∷ y ∷ ys)))) (small .0) in
+    rw (a .0) (numbers-back l (i + length (field x)) (y ∷ ys) (λ xs. f (x ∷ xs)) (a .1 ∙ append-nil (fieldsText (y ∷ ys))) (small .1))
 
-pub delay-read : (r : Delay) → r .number < ceiling → r .delay < ceiling → rowOf (delayText r) ≡ some (delay r)
+pub ring-read : (n : ℕ) (ks : List ℕ) → length ks ≡ n → Small ks → rowOf n (lineText 81 ks) ≡ some (ring ks)
+unfolding lineText rowOf formOf ringOf
+ring-read n ks e small = rw (← e) (numbers-back (81 ∷ fieldsText ks) 1 ks (λ xs. some (ring xs)) refl small)
+
+pub crash-read : (n : ℕ) (r : Crash) → r .tick < ceiling → r .node < ceiling → rowOf n (crashText r) ≡ some (crash r)
+unfolding crashText lineText rowOf formOf crashOf
+crash-read n r ht hk = pair-back (λ t k. crash (record { tick = t; node = k })) 67 (r .tick) (r .node) ht hk
+
+pub delay-read : (n : ℕ) (r : Delay) → r .number < ceiling → r .delay < ceiling → rowOf n (delayText r) ≡ some (delay r)
 unfolding delayText lineText rowOf formOf delayOf
-delay-read r hk ht = pair-back (λ k t. delay (record { number = k; delay = t })) 76 (r .number) (r .delay) hk ht
+delay-read n r hk ht = pair-back (λ k t. delay (record { number = k; delay = t })) 76 (r .number) (r .delay) hk ht
 
 pub start-read : (p : Plan) → p .n < ceiling → p .h < ceiling → p .w < ceiling → p .d < ceiling → p .end < ceiling
-    → rowOf (startText p) ≡ some (start (startPlan (p .n) (p .h) (p .w) (p .d) (p .end)))
+    → rowOf 0 (startText p) ≡ some (start (startPlan (p .n) (p .h) (p .w) (p .d) (p .end)))
 unfolding startText lineText rowOf formOf
 start-read p hn hh hw hd he = start-back (p .n) (p .h) (p .w) (p .d) (p .end) hn hh hw hd he
 
@@ -115,11 +141,6 @@ line-plain : (t s : List ℕ) → Plain t → lines (t ++ (10 ∷ s)) ≡ (t ++ 
 unfolding lines onto Plain
 line-plain [] s h = refl
 line-plain (b ∷ t) s h = rw (ne-eqb b 10 (h .0), line-plain t s (h .1))
-
--- numbers below the ceiling
-unfoldable pub Small : List ℕ → Type 0
-Small [] = Unit
-Small (x ∷ xs) = (x < ceiling) × Small xs
 
 fields-line : (t xs s : List ℕ) → Plain t → Small xs → lines (t ++ (fieldsText xs ++ s)) ≡ (t ++ fieldsText xs) ∷ lines s
 unfolding fieldsText Small

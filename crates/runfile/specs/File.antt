@@ -1,20 +1,21 @@
 -- What a run file comes to: the plan that it holds, or the number and line of its refusal. Document 01's 'Run file and log' and the
--- numbers 1 to 6 of 'Where a call is turned down': 'Places are tried downwards; lines one after another, the first bad line deciding'.
--- Assumes nothing.
-use mathlib.Core.Bool.{Bool, cond}
+-- numbers 1 to 6 of 'Where a call is turned down': 'Places are tried downwards; lines one after another, the first bad line deciding';
+-- document 02's #101 for the line Q and number 13. Assumes nothing.
+use mathlib.Core.Bool.{Bool, cond, _&&_}
 use mathlib.Core.List.{List, [], _∷_}
 use mathlib.Core.Option.{Option, none, some}
-use Prim.Native.Nat.{ℕ, suc}
+use Prim.Native.Nat.{ℕ, zero, suc}
 use lib.Dec.{eqb}
 use lib.ListN.{length}
 use Rattle.limits.specs.Limits.{mostBytes}
-use Rattle.limits.specs.Refusals.{badLength, badForm, outOfRange, shortTimeOut, notRising, manyDelays}
+use Rattle.limits.specs.Refusals.{badLength, badForm, outOfRange, shortTimeOut, notRising, manyDelays, notEachOnce}
+use Rattle.ring.specs.Ring.{eachOnce}
 use Rattle.text.specs.declared.Number.{Number}
 use Rattle.text.specs.declared.Number.the-variants.{Value, NoNumber}
 use Rattle.text.specs.Field.{lineFeed, onto, ends, numberFieldAt}
 use Rattle.plans.specs.Plan.{Crash, Delay, Plan, startPlan, withCrash, withDelay, within, startRanges, longEnough, crashRange, delayRange, crashOrder}
-use Rattle.plans.specs.Plan.{delayOrder, fewDelays}
-use Rattle.runfile.specs.Text.{letterP, letterC, letterL}
+use Rattle.plans.specs.Plan.{delayOrder, fewDelays, withRing, ringRange}
+use Rattle.runfile.specs.Text.{letterP, letterQ, letterC, letterL}
 
 pub data FileAnswer : Type 0 where
   accepted : Plan → FileAnswer
@@ -33,6 +34,7 @@ lines (b ∷ s) = cond (eqb b lineFeed) ((b ∷ []) ∷ lines s) (onto b (lines 
 -- what a line says: a P line is a plan without rows
 pub data Row : Type 0 where
   start : Plan → Row
+  ring : List ℕ → Row
   crash : Crash → Row
   delay : Delay → Row
 
@@ -64,16 +66,26 @@ startOf l =
     fieldThen (numberFieldAt l m) λ end e.
     cond (ends l e) (some (start (startPlan n h w d end))) none
 
--- a line, by its letter; none where its form is bad: 'letter, field count, digits, line feed'
-unfoldable pub formOf : ℕ → List ℕ → Option Row
-formOf letter l =
-    cond (eqb letter letterP) (startOf l)
-    (cond (eqb letter letterC) (crashOf l)
-    (cond (eqb letter letterL) (delayOf l) none))
+-- k numbers from a place on, and the line's end; what they lead to
+unfoldable pub numbersThen : ℕ → List ℕ → ℕ → (List ℕ → Option Row) → Option Row
+numbersThen zero l i f = cond (ends l i) (f []) none
+numbersThen (suc k) l i f = fieldThen (numberFieldAt l i) λ x j. numbersThen k l j (λ xs. f (x ∷ xs))
 
-unfoldable pub rowOf : List ℕ → Option Row
-rowOf [] = none
-rowOf (letter ∷ l) = formOf letter (letter ∷ l)
+-- 'one line Q with N node numbers'
+unfoldable pub ringOf : ℕ → List ℕ → Option Row
+ringOf n l = numbersThen n l 1 (λ ks. some (ring ks))
+
+-- a line of a file with n nodes, by its letter; none where its form is bad: 'letter, field count, digits, line feed'
+unfoldable pub formOf : ℕ → ℕ → List ℕ → Option Row
+formOf n letter l =
+    cond (eqb letter letterP) (startOf l)
+    (cond (eqb letter letterQ) (ringOf n l)
+    (cond (eqb letter letterC) (crashOf l)
+    (cond (eqb letter letterL) (delayOf l) none)))
+
+unfoldable pub rowOf : ℕ → List ℕ → Option Row
+rowOf n [] = none
+rowOf n (letter ∷ l) = formOf n letter (letter ∷ l)
 
 -- ---- a line after those before it
 
@@ -89,6 +101,18 @@ orElse passed number step = cond passed step (stop number)
 -- a P line: out of range, then W below H + D
 unfoldable pub startLine : Plan → Step
 startLine p = orElse (startRanges p) outOfRange (orElse (longEnough p) shortTimeOut (next p))
+
+-- no Q, C or L line came yet: 'order of letters'
+unfoldable pub fresh : Plan → Bool
+fresh p = eqb (length (p .ring)) 0 && (eqb (length (p .crashes)) 0 && eqb (length (p .delays)) 0)
+
+-- a Q line: not right after the P line, out of range, then not each node once
+unfoldable pub ringLine : Plan → List ℕ → Step
+ringLine p ks =
+    orElse (fresh p) badForm
+    (orElse (ringRange p ks) outOfRange
+    (orElse (eachOnce ks) notEachOnce
+    (next (withRing p ks))))
 
 -- no L line came yet: 'order of letters'
 unfoldable pub early : Plan → Bool
@@ -114,6 +138,7 @@ delayLine p r =
 unfoldable pub firstLine : Option Row → Step
 firstLine none = stop badForm
 firstLine (some (start p)) = startLine p
+firstLine (some (ring ks)) = stop badForm
 firstLine (some (crash r)) = stop badForm
 firstLine (some (delay r)) = stop badForm
 
@@ -121,6 +146,7 @@ firstLine (some (delay r)) = stop badForm
 unfoldable pub laterLine : Plan → Option Row → Step
 laterLine p none = stop badForm
 laterLine p (some (start q)) = stop badForm
+laterLine p (some (ring ks)) = ringLine p ks
 laterLine p (some (crash r)) = crashLine p r
 laterLine p (some (delay r)) = delayLine p r
 
@@ -134,11 +160,12 @@ stepThen (stop number) line f = turnedDown number line
 -- the lines after the P line, from this line on
 unfoldable pub laterLines : Plan → ℕ → List (List ℕ) → FileAnswer
 laterLines p line [] = accepted p
-laterLines p line (l ∷ ls) = stepThen (laterLine p (rowOf l)) line (λ q. laterLines q (suc line) ls)
+laterLines p line (l ∷ ls) = stepThen (laterLine p (rowOf (p .n) l)) line (λ q. laterLines q (suc line) ls)
 
+-- the first line, before which no node is known, and the others
 unfoldable pub allLines : List (List ℕ) → FileAnswer
 allLines [] = turnedDown badForm 1
-allLines (l ∷ ls) = stepThen (firstLine (rowOf l)) 1 (λ p. laterLines p 2 ls)
+allLines (l ∷ ls) = stepThen (firstLine (rowOf 0 l)) 1 (λ p. laterLines p 2 ls)
 
 -- a file of a length that is allowed, line after line
 unfoldable pub fileOf : List ℕ → FileAnswer

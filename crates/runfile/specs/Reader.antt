@@ -1,27 +1,30 @@
 -- What the reader's answers say of a file, and what it keeps of a plan while it reads. Assumes nothing.
 use mathlib.Core.Path.{_≡_}
-use mathlib.Core.Bool.{Bool, true, cond, _&&_, _||_}
+use mathlib.Core.Bool.{Bool, true, false, cond, _&&_, _||_}
 use mathlib.Core.List.{List, [], _∷_, _++_}
-use Prim.Native.Nat.{ℕ, suc, _+_, _≤_}
+use Prim.Native.Nat.{ℕ, zero, suc, _+_, _≤_}
 use lib.Dec.{eqb, leb, ltb}
 use lib.ListN.{length, take, drop}
 use Rattle.text.specs.declared.Number.{Number}
 use Rattle.text.specs.declared.Number.the-variants.{Value, NoNumber}
-use Rattle.text.specs.Field.{lineFeed, numberFieldAt}
-use Rattle.plans.specs.Plan.{Crash, Delay, Plan, planTest, withCrashed}
-use Rattle.runfile.specs.Text.{startText, crashText, delayText, rowsText}
+use Rattle.limits.specs.Refusals.{outOfRange, notEachOnce}
+use Rattle.ring.specs.Ring.{eachOnce}
+use Rattle.text.specs.Field.{lineFeed, numberFieldAt, field, ends}
+use Rattle.plans.specs.Plan.{Crash, Delay, Plan, every, planTest, withCrashed}
+use Rattle.runfile.specs.Text.{letterQ, startText, headText, crashText, delayText, rowsText}
 use Rattle.runfile.specs.File.{FileAnswer, accepted, turnedDown, Step, next, stop, lines, laterLines, allLines}
 use Rattle.runfile.specs.declared.Outline.{Outline}
 use Rattle.runfile.specs.declared.Read.{Read}
 use Rattle.runfile.specs.declared.Read.the-variants.{Accepted, Refused}
 use Rattle.runfile.specs.declared.Sofar.{Sofar}
+use Rattle.runfile.specs.declared.Entry.{Entry}
 use Rattle.runfile.specs.declared.Fields.{Fields}
 use Rattle.runfile.specs.declared.Line.{Line}
 use Rattle.runfile.specs.declared.Line.the-variants.{Next, Stop}
 
 -- ---- the answer
 
--- a plan's values, how many rows of each kind it has, and the place of the first row in its text
+-- a plan's values, how many numbers and rows its Q, C and L lines have, and the place in its text after the P line
 unfoldable pub outlineOf : Plan → Outline
 outlineOf p = record {
   n = p .n;
@@ -29,6 +32,7 @@ outlineOf p = record {
   w = p .w;
   d = p .d;
   end = p .end;
+  ring = length (p .ring);
   crashes = length (p .crashes);
   delays = length (p .delays);
   rows = length (startText p);
@@ -66,6 +70,7 @@ sofarOf p = record {
   w = p .w;
   d = p .d;
   end = p .end;
+  ring = length (p .ring);
   crashes = length (p .crashes);
   delays = length (p .delays);
   tick = crashFloor (p .crashes) .tick;
@@ -87,6 +92,33 @@ lineAnswer (stop number) = Stop number
 abbrev pub Tells : Sofar → (Plan → Step) → Line → Type 0
 Tells st step r = (p : Plan) → Kept p st → r ≡ lineAnswer (step p)
 
+-- ---- the numbers of a Q line
+
+-- what a field that was read leads to: whether the rest is there too, and its number before those of the rest
+unfoldable pub thereThen : Number → (ℕ → Bool) → Bool
+thereThen (Value x j) f = f j
+thereThen NoNumber f = false
+
+unfoldable pub withRest : Number → (ℕ → List ℕ) → List ℕ
+withRest (Value x j) f = x ∷ f j
+withRest NoNumber f = []
+
+-- k numbers stand from the place i of a line on, and then the line's end
+unfoldable pub numbersThere : ℕ → List ℕ → ℕ → Bool
+numbersThere zero l i = ends l i
+numbersThere (suc k) l i = thereThen (numberFieldAt l i) λ j. numbersThere k l j
+
+-- these numbers, up to the first that is not there
+unfoldable pub numbersAt : ℕ → List ℕ → ℕ → List ℕ
+numbersAt zero l i = []
+numbersAt (suc k) l i = withRest (numberFieldAt l i) λ j. numbersAt k l j
+
+-- the number that refuses numbers of a Q line where there are n nodes: out of range, then not each node once; else 0
+unfoldable pub ringRefusal : ℕ → List ℕ → ℕ
+ringRefusal n ks = cond (every (λ k. ltb k n) ks) (cond (eachOnce ks) 0 notEachOnce) outOfRange
+
+-- ---- the lines that were read
+
 -- the lines of s before the place `at` were passed, `line` is the number of the one there, and st is kept of them. The P line ends at
 -- the place rows
 pub record Passed (s : List ℕ) (rows : ℕ) (st : Sofar) (line at : ℕ) : Type 0 where
@@ -103,7 +135,16 @@ unfoldable pub lineLength : List ℕ → ℕ
 lineLength [] = 0
 lineLength (b ∷ s) = cond (eqb b lineFeed) 1 (1 + lineLength s)
 
--- ---- rows of an accepted file
+-- ---- the numbers and rows of an accepted file
+
+-- a field that was read; else no number stands at the place
+unfoldable pub entryOf : Number → ℕ → Entry
+entryOf (Value x i) at = record { value = x; next = i }
+entryOf NoNumber at = record { value = 0; next = at }
+
+-- the number of the field at the place `at`, and the place after it
+unfoldable pub entryAt : List ℕ → ℕ → Entry
+entryAt s at = entryOf (numberFieldAt s at) at
 
 -- what a field that was read leads to; else no row stands at the place
 unfoldable pub rowThen : Number → ℕ → (ℕ → ℕ → Fields) → Fields
@@ -117,9 +158,12 @@ fieldsAt s at =
     rowThen (numberFieldAt s i) at λ b j.
     record { first = a; second = b; next = j + 1 }
 
--- the places of crash row i and of delay row i in the plan's text
+-- the places of number i of the Q line, of crash row i and of delay row i in the plan's text
+unfoldable pub ringPlace : Plan → ℕ → ℕ
+ringPlace p i = length (startText p ++ (letterQ ∷ rowsText field (take i (p .ring))))
+
 unfoldable pub crashPlace : Plan → ℕ → ℕ
-crashPlace p i = length (startText p ++ rowsText crashText (take i (p .crashes)))
+crashPlace p i = length (headText p ++ rowsText crashText (take i (p .crashes)))
 
 unfoldable pub delayPlace : Plan → ℕ → ℕ
-delayPlace p i = length (startText p ++ (rowsText crashText (p .crashes) ++ rowsText delayText (take i (p .delays))))
+delayPlace p i = length (headText p ++ (rowsText crashText (p .crashes) ++ rowsText delayText (take i (p .delays))))

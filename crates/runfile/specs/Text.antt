@@ -1,4 +1,4 @@
--- The text of a plan: document 01's 'Run file and log'. Assumes nothing.
+-- The text of a plan: document 01's 'Run file and log', document 02's #101 for the line Q. Assumes nothing.
 use mathlib.Core.List.{List, [], _∷_, _++_}
 use Prim.Native.Nat.{ℕ}
 use Rattle.text.specs.Field.{field, lineFeed}
@@ -6,6 +6,9 @@ use Rattle.plans.specs.Plan.{Crash, Delay, Plan}
 
 abbrev pub letterP : ℕ
 letterP = 80
+
+abbrev pub letterQ : ℕ
+letterQ = 81
 
 abbrev pub letterC : ℕ
 letterC = 67
@@ -26,6 +29,11 @@ lineText letter xs = letter ∷ fieldsText xs
 unfoldable pub startText : Plan → List ℕ
 startText p = lineText letterP (p .n ∷ p .h ∷ p .w ∷ p .d ∷ p .end ∷ [])
 
+-- `Q` and 'N node numbers parted by commas'; no line where there are none
+unfoldable pub ringText : List ℕ → List ℕ
+ringText [] = []
+ringText (k ∷ ks) = lineText letterQ (k ∷ ks)
+
 -- `C,tick,node`
 unfoldable pub crashText : Crash → List ℕ
 crashText r = lineText letterC (r .tick ∷ r .node ∷ [])
@@ -39,6 +47,10 @@ unfoldable pub rowsText : {A : Type 0} → (A → List ℕ) → List A → List 
 rowsText text [] = []
 rowsText text (r ∷ rs) = text r ++ rowsText text rs
 
--- 'one P; then lines C; then lines L'
+-- 'one P', 'after P, one line Q'
+unfoldable pub headText : Plan → List ℕ
+headText p = startText p ++ ringText (p .ring)
+
+-- 'then lines C; then lines L'
 unfoldable pub planText : Plan → List ℕ
-planText p = startText p ++ (rowsText crashText (p .crashes) ++ rowsText delayText (p .delays))
+planText p = headText p ++ (rowsText crashText (p .crashes) ++ rowsText delayText (p .delays))

@@ -1,4 +1,5 @@
-// Run files: their reader, the rows of an accepted file, and their writer.
+// Run files: their reader, the numbers and rows of an accepted file, and their writer.
+use limits::ACCEPTED;
 use limits::BAD_FORM;
 use limits::BAD_LENGTH;
 use limits::MANY_DELAYS;
@@ -10,29 +11,35 @@ use limits::MOST_NODES;
 use limits::MOST_NUMBER;
 use limits::MOST_TICK;
 use limits::MOST_W;
+use limits::NOT_EACH_ONCE;
 use limits::NOT_RISING;
 use limits::OUT_OF_RANGE;
 use limits::SHORT_TIME_OUT;
 use text::Number;
 use text::Ranged;
 ghost use mathlib.Core.Path.{_≡_};
+ghost use mathlib.Core.Bool.{true, not, _&&_};
 ghost use mathlib.Core.List.{[], _∷_, _++_};
 ghost use Prim.Native.Nat.{_+_, _<_, _≤_};
 ghost use lib.ListN.{drop, length};
-ghost use Rattle.text.specs.Field.{field};
+ghost use Rattle.ring.specs.Ring.{listed};
+ghost use Rattle.text.specs.Field.{field, lineFeed};
 ghost use Rattle.text.specs.Put.{Put};
-ghost use Rattle.runfile.specs.Text.{lineText, startText, crashText, delayText};
-ghost use Rattle.runfile.specs.File.{rowOf, fileOf, allLines, lines, firstLine, laterLine, startLine, crashLine, delayLine, crashOf, delayOf};
+ghost use Rattle.runfile.specs.Text.{letterQ, lineText, startText, crashText, delayText};
+ghost use Rattle.runfile.specs.File.{rowOf, fileOf, allLines, lines, firstLine, laterLine, startLine, crashLine, delayLine, ringOf, crashOf, delayOf};
 ghost use Rattle.plans.specs.Plan.{startPlan};
-ghost use Rattle.runfile.specs.Reader.{readOf, lineAnswer, Tells, Passed, follows as Reader·follows, lineLength, fieldsAt};
+ghost use Rattle.runfile.specs.Reader.{readOf, lineAnswer, Tells, Passed, follows as Reader·follows, lineLength, entryAt, fieldsAt};
+ghost use Rattle.runfile.specs.Reader.{numbersThere, numbersAt, ringRefusal};
 
-// What an accepted file plans: the values of its P line, how many C and L lines it has, and the place of the first of them.
+// What an accepted file plans: the values of its P line, how many numbers its Q line has, 0 without one, how many C and L lines it has,
+// and the place after the P line, where the Q line or else the first row stands.
 pub struct Outline {
     pub n: u64,
     pub h: u64,
     pub w: u64,
     pub d: u64,
     pub end: u64,
+    pub ring: usize,
     pub crashes: usize,
     pub delays: usize,
     pub rows: usize,
@@ -44,14 +51,16 @@ pub enum Read {
     Refused(u64, u64),
 }
 
-// What is kept of the lines so far: the values of the P line, how many C and L lines came, the tick and node that the next C line
-// may not be below, the nodes that the C lines named, and the number that the next L line may not be below.
+// What is kept of the lines so far: the values of the P line, how many numbers the Q line had, 0 without one, how many C and L lines
+// came, the tick and node that the next C line may not be below, the nodes that the C lines named, and the number that the next L line
+// may not be below.
 struct Sofar {
     n: u64,
     h: u64,
     w: u64,
     d: u64,
     end: u64,
+    ring: usize,
     crashes: usize,
     delays: usize,
     tick: u64,
@@ -94,6 +103,7 @@ fn take_start(n: u64, h: u64, w: u64, d: u64, end: u64) -> Line
         w,
         d,
         end,
+        ring: 0,
         crashes: 0,
         delays: 0,
         tick: 0,
@@ -105,7 +115,7 @@ fn take_start(n: u64, h: u64, w: u64, d: u64, end: u64) -> Line
 
 // The first line, which is to be the P line.
 fn first_line(l: &[u8]) -> Line
-    ensures { λ r. ⌜ r ≡ lineAnswer (firstLine (rowOf (now (l .entry)))) ⌝ }
+    ensures { λ r. ⌜ r ≡ lineAnswer (firstLine (rowOf 0 (now (l .entry)))) ⌝ }
 {
     if l.len() == 0 {
         return Line::Stop(BAD_FORM);
@@ -173,6 +183,7 @@ fn take_crash(st: Sofar, tick: u64, node: u64) -> Line
         w: st.w,
         d: st.d,
         end: st.end,
+        ring: st.ring,
         crashes: st.crashes + 1,
         delays: 0,
         tick,
@@ -204,6 +215,7 @@ fn take_delay(st: Sofar, number: u64, delay: u64) -> Line
         w: st.w,
         d: st.d,
         end: st.end,
+        ring: st.ring,
         crashes: st.crashes,
         delays: st.delays + 1,
         tick: st.tick,
@@ -211,6 +223,106 @@ fn take_delay(st: Sofar, number: u64, delay: u64) -> Line
         seen: st.seen,
         number: number + 1,
     })
+}
+
+// Whether n numbers and the line's end follow the letter.
+fn has_numbers(l: &[u8], n: u64) -> bool
+    ensures { λ r. ⌜ r ≡ numbersThere n (now (l .entry)) 1 ⌝ }
+{
+    let mut left = n;
+    let mut i: usize = 1;
+    while 0 < left {
+        let Number::Value(_, j) = text::read_field(l, i) else {
+            return false;
+        };
+        i = j;
+        left -= 1;
+    }
+    text::ends(l, i)
+}
+
+// Whether no node stands twice among those seen and the one after them; once says it of those seen.
+fn still_once(once: bool, seen: u64, node: u8) -> bool
+    ensures { λ r. ⌜ r ≡ (once && not (listed seen node)) ⌝ }
+{
+    if !once {
+        return false;
+    }
+    !ring::is_listed(seen, node)
+}
+
+// The number that refuses the n numbers after the letter, 0 where none does: first whether each is a node, then whether one stands twice.
+fn ring_refusal(l: &[u8], n: u64) -> u64
+    requires { ⌜ (1 ≤ n) × (n ≤ 64) × (numbersThere n (now l) 1 ≡ true) ⌝ }
+    ensures { λ r. ⌜ r ≡ ringRefusal n (numbersAt n (now (l .entry)) 1) ⌝ }
+{
+    let mut seen: u64 = 0;
+    let mut once = true;
+    let mut left = n;
+    let mut i: usize = 1;
+    while 0 < left {
+        let Number::Value(x, j) = text::read_field(l, i) else {
+            return BAD_FORM;
+        };
+        let Ranged::Within(x) = text::in_range(x, 0, n - 1) else {
+            return OUT_OF_RANGE;
+        };
+        let node = x as u8;
+        once = still_once(once, seen, node);
+        seen = ring::with_listed(seen, node);
+        i = j;
+        left -= 1;
+    }
+    if !once {
+        return NOT_EACH_ONCE;
+    }
+    ACCEPTED
+}
+
+// A Q line of good form right after the P line.
+fn take_ring(st: Sofar, l: &[u8]) -> Line
+    requires { ⌜ (1 ≤ st .n) × (st .n ≤ 64) × (numbersThere (st .n) (now l) 1 ≡ true) ⌝ }
+    requires { ⌜ (st .ring ≡ 0) × (st .crashes ≡ 0) × (st .delays ≡ 0) ⌝ }
+    ensures { λ r. ⌜ Tells st (λ p. laterLine p (ringOf (p .n) (now (l .entry)))) r ⌝ }
+{
+    let number = ring_refusal(l, st.n);
+    if number != ACCEPTED {
+        return Line::Stop(number);
+    }
+    Line::Next(Sofar {
+        n: st.n,
+        h: st.h,
+        w: st.w,
+        d: st.d,
+        end: st.end,
+        ring: st.n as usize,
+        crashes: 0,
+        delays: 0,
+        tick: st.tick,
+        node: st.node,
+        seen: st.seen,
+        number: st.number,
+    })
+}
+
+// A Q line: right after the P line, N numbers and the line's end, then the numbers' ranges and each node once.
+fn ring_line(st: Sofar, l: &[u8]) -> Line
+    requires { ⌜ (1 ≤ st .n) × (st .n ≤ 64) ⌝ }
+    ensures { λ r. ⌜ Tells st (λ p. laterLine p (ringOf (p .n) (now (l .entry)))) r ⌝ }
+{
+    if st.ring != 0 {
+        return Line::Stop(BAD_FORM);
+    }
+    if st.crashes != 0 {
+        return Line::Stop(BAD_FORM);
+    }
+    if st.delays != 0 {
+        return Line::Stop(BAD_FORM);
+    }
+    if !has_numbers(l, st.n) {
+        return Line::Stop(BAD_FORM);
+    }
+    take_ring(st, l)
 }
 
 // A C line: two numbers and the line's end.
@@ -249,13 +361,14 @@ fn delay_line(st: Sofar, l: &[u8]) -> Line
 // A line after the P line, by its letter.
 fn later_line(st: Sofar, l: &[u8]) -> Line
     requires { ⌜ (1 ≤ st .n) × (st .n ≤ 64) × (st .crashes < 65536) ⌝ }
-    ensures { λ r. ⌜ Tells st (λ p. laterLine p (rowOf (now (l .entry)))) r ⌝ }
+    ensures { λ r. ⌜ Tells st (λ p. laterLine p (rowOf (p .n) (now (l .entry)))) r ⌝ }
 {
     if l.len() == 0 {
         return Line::Stop(BAD_FORM);
     }
     let letter = l[0];
     match letter {
+        b'Q' => ring_line(st, l),
         b'C' => crash_line(st, l),
         b'L' => delay_line(st, l),
         _ => Line::Stop(BAD_FORM),
@@ -305,6 +418,7 @@ fn later_lines(s: &[u8], first: Sofar, rows: usize) -> Read
         w: st.w,
         d: st.d,
         end: st.end,
+        ring: st.ring,
         crashes: st.crashes,
         delays: st.delays,
         rows,
@@ -327,6 +441,22 @@ pub fn read_file(s: &[u8]) -> Read
         Line::Next(first) => later_lines(s, first, rows),
         Line::Stop(number) => Read::Refused(number, 1),
     }
+}
+
+// A number of the Q line, and the place after it.
+pub struct Entry {
+    pub value: u64,
+    pub next: usize,
+}
+
+// The number of the field at the place at. Where there is none, the answer's place is at.
+pub fn number_at(s: &[u8], at: usize) -> Entry
+    ensures { λ r. ⌜ r ≡ entryAt (now (s .entry)) at ⌝ }
+{
+    let Number::Value(value, next) = text::read_field(s, at) else {
+        return Entry { value: 0, next: at };
+    };
+    Entry { value, next }
 }
 
 // The two numbers of a C or L line, and the place after the line.
@@ -399,6 +529,32 @@ pub fn put_start(out: &mut [u8], at: usize, n: u64, h: u64, w: u64, d: u64, end:
     let k = put_two(out, j, w, d);
     let m = text::put_field(out, k, end);
     text::put_byte(out, m, b'\n')
+}
+
+// A Q line is put part by part: its letter, its numbers and its end.
+
+// The letter.
+pub fn put_ring_letter(out: &mut [u8], at: usize) -> usize
+    requires { ⌜ at + length (letterQ ∷ []) ≤ length (now out) ⌝ }
+    ensures { λ r. ⌜ Put (now (out .entry)) at (letterQ ∷ []) r (now (out .exit)) ⌝ }
+{
+    text::put_byte(out, at, b'Q')
+}
+
+// A number.
+pub fn put_ring_node(out: &mut [u8], at: usize, node: u64) -> usize
+    requires { ⌜ at + length (field node) ≤ length (now out) ⌝ }
+    ensures { λ r. ⌜ Put (now (out .entry)) at (field node) r (now (out .exit)) ⌝ }
+{
+    text::put_field(out, at, node)
+}
+
+// The end.
+pub fn put_ring_end(out: &mut [u8], at: usize) -> usize
+    requires { ⌜ at + length (lineFeed ∷ []) ≤ length (now out) ⌝ }
+    ensures { λ r. ⌜ Put (now (out .entry)) at (lineFeed ∷ []) r (now (out .exit)) ⌝ }
+{
+    text::put_byte(out, at, b'\n')
 }
 
 // A C line.

@@ -1,5 +1,5 @@
 -- The unused bytes of a store: what was encoded has zeros there, and a test of them, kind by kind of rows. Assumes nothing.
-use Prim.Native.Nat.{ℕ, zero, suc, _+_, _-_, _*_, _≤_}
+use Prim.Native.Nat.{ℕ, _+_, _-_, _*_, _≤_}
 use mathlib.Core.Path.{_≡_, refl, sym, _∙_}
 use mathlib.Core.Bool.{true, _&&_, and-eq-true-iff, and-true}
 use mathlib.Core.List.{List, [], _∷_, _++_, append-assoc}
@@ -14,7 +14,8 @@ use Rattle.fields.specs.Fields.{zeros}
 use Rattle.plans.specs.Plan.{Plan}
 use Rattle.model.specs.Platform.{State}
 use Rattle.store.specs.Columns.{Column, Part, size, used, packs, columnBytes, bytesOf, restZero, unusedTest, columnsOf, placesTest, restTest}
-use Rattle.store.specs.Store.{spareHead, spareNodes, spareTail, headParts, nodeParts, crashParts, delayParts, messageParts, contents, columns, encode}
+use Rattle.store.specs.Store.{spareHead, spareNodes, spareTail}
+use Rattle.store.specs.Store.{headParts, ringParts, nodeParts, crashParts, delayParts, messageParts, contents, columns, encode}
 use Rattle.store.specs.Inside.{Fits}
 use Rattle.store.proofs.Parts.{length-packs}
 use Rattle.store.proofs.Columns.{Laid, length-column}
@@ -65,19 +66,21 @@ rest-full k (g ∷ gs) b h =
     rw (places, slice-empty (g .field .at + g .field .width * k) b, rest-full k gs b (h′ .1))
 
 pub unused-parts : (b : List ℕ) (p : Plan) (s : State) → unusedTest b (columns p s)
-    ≡ (restZero b spareHead 0 && (restTest nodeParts b (length (s .nodes)) && (restZero b spareNodes 0
+    ≡ (restZero b spareHead 0 && (restTest ringParts b (length (p .ring)) && (restTest nodeParts b (length (s .nodes)) && (restZero b spareNodes 0
     && (restTest crashParts b (length (p .crashes)) && (restTest delayParts b (length (p .delays))
-    && (restTest messageParts b (length (s .flight)) && restZero b spareTail 0))))))
+    && (restTest messageParts b (length (s .flight)) && restZero b spareTail 0)))))))
 unfolding unusedTest columns
 unused-parts b p s =
     rw (
       unused-append b (columnsOf headParts (contents p s ∷ [])),
+      unused-append b (columnsOf ringParts (p .ring)),
       unused-append b (columnsOf nodeParts (s .nodes)),
       unused-append b (columnsOf crashParts (p .crashes)),
       unused-append b (columnsOf delayParts (p .delays)),
       unused-append b (columnsOf messageParts (s .flight)),
       rests-test (contents p s ∷ []) b headParts,
       rest-full 1 headParts b head-places,
+      rests-test (p .ring) b ringParts,
       rests-test (s .nodes) b nodeParts,
       rests-test (p .crashes) b crashParts,
       rests-test (p .delays) b delayParts,

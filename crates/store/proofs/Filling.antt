@@ -1,33 +1,37 @@
--- What each part that is put makes of the encoding of a plan with fewer rows, or of a state with fewer nodes. Assumes nothing.
+-- What each part that is put makes of the encoding of a plan with fewer numbers or rows. Assumes nothing.
 use mathlib.Core.Path.{_≡_, refl, sym, ap, _∙_}
 use mathlib.Core.Bool.{Bool, true, _&&_, and-eq-true-iff}
-use mathlib.Core.List.{List, [], _∷_, _++_, map, map-append, append-nil}
+use mathlib.Core.List.{List, [], _∷_, _++_, map, append-nil}
 use Prim.Native.Nat.{ℕ, zero, suc, _+_, _-_, _*_, _≤_, _<_, zero-le}
 use native.Mathlib.Nat.{mul-suc, mul-zero, mul-le-mul-left}
 use native.Mathlib.Numerals.{add-one}
 use native.Mathlib.Omega.{arith}
 use borrow.Author.Tests.{eqb-true, leb-true}
 use lib.Dec.{eqb, leb}
-use lib.ListN.{length, take, getD, replicate, length-map, length-append, replicate-append-replicate, drop-of-length-le}
+use lib.ListN.{length, take, getD, replicate, length-map, length-append, length-replicate, replicate-append-replicate, drop-of-length-le}
 use lib.Seq.{take-suc, take-length, length-take-le}
 use Rattle.ring.specs.Ring.{numbers}
-use Rattle.ring.proofs.Rows.{length-numbers, numbers-snoc, take-numbers}
+use Rattle.ring.proofs.Rows.{length-numbers}
 use Rattle.fields.specs.Fields.{bytes, cleared, zeros}
-use Rattle.node.specs.declared.Node.{Node}
+use Rattle.fields.proofs.Zeros.{zeros-replicate}
 use Rattle.node.specs.Node.{opening}
-use Rattle.plans.specs.Plan.{Plan, Crash, Delay, withCrash, withDelay, startPlan}
+use Rattle.plans.specs.Plan.{Plan, Crash, Delay, orderOf, withRing, withCrash, withDelay, startPlan}
 use Rattle.model.specs.Platform.{State, start}
-use Rattle.store.specs.Columns.{Column, size, used, packs, columnBytes, bytesOf, joined, roomTest, columnsOf}
+use Rattle.store.specs.Columns.{Column, Part, size, used, packs, columnBytes, bytesOf, joined, roomTest, columnsOf, numbersOf, placesTest}
 use Rattle.limits.specs.Limits.{storeSize}
-use Rattle.store.specs.Store.{nodeCount, longestDelay, period, timeOut, endTick, crashCount, delayCount, columns, encode}
-use Rattle.store.specs.Store.{headParts, nodeParts, crashParts, delayParts, timeParts, routeParts}
-use Rattle.store.specs.Filling.{putStart, putNode, putCrash, putDelay, putNodes, rowsUpTo, filled}
-use Rattle.store.proofs.Columns.{Laid, withNumber, hasNumber, withNumbers, hasNumbers, numbers-put}
-use Rattle.store.proofs.Groups.{row-added, row-counted}
-use Rattle.store.proofs.Store.{placed, node-places, crash-places, delay-places, at-nodes, room-laid}
-use Rattle.store.proofs.Store.{beforeNodes, beforeCrashes, beforeDelays, afterNodes, afterCrashes, afterDelays}
+use Rattle.store.specs.Store.{nodeCount, longestDelay, period, timeOut, endTick, crashCount, delayCount, ringSize, columns, encode}
+use Rattle.store.specs.Store.{headParts, ringParts, nodeParts, crashParts, delayParts, timeParts, routeParts}
+use Rattle.store.specs.Filling.{putStart, putRing, putCrash, putDelay, zeroNode, unopened, ringUpTo, begun, rowsUpTo, filled}
+use Rattle.store.proofs.Columns.{Laid, bytes-append, withNumber, hasNumber, withNumbers, hasNumbers, numbers-put}
+use Rattle.store.proofs.Groups.{row-counted}
+use Rattle.store.proofs.Store.{placed, ring-places, node-places, crash-places, delay-places, at-nodes, room-laid}
+use Rattle.store.proofs.Store.{beforeRing, beforeNodes, beforeCrashes, beforeDelays, afterRing, afterNodes, afterCrashes, afterDelays}
 
 -- ---- zeros
+
+map-replicate : {A : Type 0} (f : A → ℕ) (z : A) (n : ℕ) → map f (replicate n z) ≡ replicate n (f z)
+map-replicate f z zero = refl
+map-replicate f z (suc n) = ap (λ (l : List ℕ). f z ∷ l) (map-replicate f z n)
 
 bytes-zero : (w : ℕ) → bytes w 0 ≡ replicate w 0
 unfolding bytes
@@ -72,7 +76,7 @@ abbrev blank : State
 blank = record { done = 0; last = 0; next = 0; nodes = []; flight = [] }
 
 zero-encode : encode nothing blank ≡ replicate storeSize 0
-unfolding encode columns columnsOf headParts nodeParts crashParts delayParts timeParts routeParts startPlan roomTest zeroTest zeros
+unfolding encode columns columnsOf headParts ringParts nodeParts crashParts delayParts timeParts routeParts startPlan roomTest zeroTest zeros
 zero-encode = zero-bytes (columns nothing blank) 0 storeSize (placed nothing blank) refl refl .1
 
 cleared-encode : (s : List ℕ) → length s ≡ storeSize → cleared s 0 storeSize ≡ encode nothing blank
@@ -87,90 +91,106 @@ start-encode : (n h w d end : ℕ) → putStart (encode nothing blank) n h w d e
 unfolding putStart startPlan encode columns columnsOf headParts hasNumber withNumber hasNumbers withNumbers
 start-encode n h w d end =
     numbers-put (columns nothing blank) ((nodeCount, n) ∷ (longestDelay, d) ∷ (period, h) ∷ (timeOut, w) ∷ (endTick, end) ∷ [])
-    refl (room-laid nothing blank zero-le zero-le zero-le zero-le)
+    refl (room-laid nothing blank zero-le zero-le zero-le zero-le zero-le)
 
--- ---- one node, C row or L row more
+-- rows whose numbers are all 0 take the bytes of no rows
+zero-rows : {A : Type 0} (k : ℕ) (gs : List (Part A)) (z : A) (n : ℕ) → placesTest k gs ≡ true → zeros (numbersOf gs z) ≡ true → n ≤ k
+    → bytesOf (columnsOf gs (replicate n z)) ≡ bytesOf (columnsOf gs [])
+unfolding bytesOf columnsOf columnBytes numbersOf placesTest zeros packs
+zero-rows k [] z n h q l = refl
+zero-rows k (g ∷ gs) z n h q l =
+    let w : ℕ = g .field .width in
+    let all : ℕ = size (g .field) in
+    let h′ = and-eq-true-iff (eqb (g .field .places) k) (placesTest k gs) .0 h in
+    let q′ = and-eq-true-iff (eqb (g .get z) 0) (zeros (map (λ (f : Part _). f .get z) gs)) .0 q in
+    let places : g .field .places ≡ k = eqb-true (g .field .places) k (h′ .0) in
+    let same : map (g .get) (replicate n z) ≡ replicate n 0 = map-replicate (g .get) z n ∙ rw (eqb-true (g .get z) 0 (q′ .0)) in
+    let le : w * n ≤ all = mul-le-mul-left w (omega arith) in
+    let whole : w * n + (all - w * n) ≡ all = omega arith in
+    let none : all - w * 0 ≡ all = rw (mul-zero w) (omega arith) in
+    let column : packs w (map (g .get) (replicate n z)) ++ replicate (all - w * length (map (g .get) (replicate n z))) 0 ≡ replicate (all - w * 0) 0 =
+    rw (same, length-replicate {A = ℕ} n 0, packs-zero w (replicate n 0) (zeros-replicate n), length-replicate {A = ℕ} n 0, none)
+    (replicate-append-replicate {A = ℕ} (w * n) (all - w * n) 0 ∙ rw whole) in
+    rw (column, zero-rows k gs z n (h′ .1) (q′ .1) l)
 
-unfoldable withNode : State → Node → State
-withNode s a = record { done = s .done; last = s .last; next = s .next; nodes = s .nodes ++ (a ∷ []); flight = s .flight }
+-- nodes that are not opened are zeros
+zero-nodes : (p : Plan) → p .n ≤ 64 → encode p blank ≡ encode p (unopened p)
+unfolding encode unopened zeroNode columnsOf headParts ringParts numbersOf nodeParts zeros
+zero-nodes p few =
+    let front : List ℕ = bytesOf (beforeNodes p blank) in
+    let back : List ℕ = bytesOf (afterNodes p blank) in
+    let nodes = zero-rows 64 nodeParts zeroNode (p .n) node-places refl few in
+    rw (at-nodes p blank, at-nodes p (unopened p))
+    (bytes-append (beforeNodes p blank) (columnsOf nodeParts [] ++ afterNodes p blank)
+    ∙ ap (λ (l : List ℕ). front ++ l) (bytes-append (columnsOf nodeParts []) (afterNodes p blank) ∙ ap (λ (l : List ℕ). l ++ back) (sym nodes)
+    ∙ sym (bytes-append (columnsOf nodeParts (replicate (p .n) zeroNode)) (afterNodes p blank)))
+    ∙ sym (bytes-append (beforeNodes p blank) (columnsOf nodeParts (replicate (p .n) zeroNode) ++ afterNodes p blank)))
+
+-- zeros and a P line
+pub start-begun : (n h w d end : ℕ) (s : List ℕ) {t u : List ℕ} → n ≤ 64 → length s ≡ storeSize
+    → t ≡ cleared s 0 storeSize → u ≡ putStart t n h w d end
+    → u ≡ encode (startPlan n h w d end) (unopened (startPlan n h w d end))
+unfolding startPlan
+start-begun n h w d end s few size clear put =
+    put ∙ rw (clear, cleared-encode s size, start-encode n h w d end) (zero-nodes (startPlan n h w d end) few)
+
+-- ---- one number of the Q line, C row or L row more
 
 module _ (p : Plan) (s : State) (laid : Laid 0 (columns p s)) where
-  node-added : (k : ℕ) (a : Node) → k ≡ length (s .nodes) → k < 64 → putNode (encode p s) k a ≡ encode p (withNode s a)
-  unfolding putNode encode withNode columnsOf headParts
-  node-added k a e h =
-      rw (e, at-nodes p s, at-nodes p (withNode s a))
-      (row-added 64 nodeParts node-places (beforeNodes p s) (afterNodes p s) (s .nodes) (rw (← at-nodes p s) laid) a (rw (← e) h) .0)
+  ring-added : (i k : ℕ) → i ≡ length (p .ring) → i < 64 → putRing (encode p s) i k ≡ encode (withRing p (p .ring ++ (k ∷ []))) s
+  unfolding putRing encode withRing columns columnsOf headParts hasNumber withNumber
+  ring-added i k e h =
+      rw (e)
+      (row-counted 64 ringParts ring-places (beforeRing p s) (afterRing p s) (p .ring) laid k ringSize (rw (← e) h) refl
+      ∙ rw (length-append (p .ring) (k ∷ [])))
 
   crash-added : (i : ℕ) (c : Crash) → i ≡ length (p .crashes) → i < 64 → putCrash (encode p s) i (c .tick) (c .node) ≡ encode (withCrash p c) s
-  unfolding putCrash encode withCrash columns columnsOf headParts nodeParts hasNumber withNumber
+  unfolding putCrash encode withCrash columns columnsOf headParts ringParts nodeParts hasNumber withNumber
   crash-added i c e h =
       rw (e)
       (row-counted 64 crashParts crash-places (beforeCrashes p s) (afterCrashes p s) (p .crashes) laid c crashCount (rw (← e) h) refl
       ∙ rw (length-append (p .crashes) (c ∷ [])))
 
   delay-added : (i : ℕ) (c : Delay) → i ≡ length (p .delays) → i < 2048 → putDelay (encode p s) i (c .number) (c .delay) ≡ encode (withDelay p c) s
-  unfolding putDelay encode withDelay columns columnsOf headParts nodeParts crashParts hasNumber withNumber
+  unfolding putDelay encode withDelay columns columnsOf headParts ringParts nodeParts crashParts hasNumber withNumber
   delay-added i c e h =
       rw (e)
       (row-counted 2048 delayParts delay-places (beforeDelays p s) (afterDelays p s) (p .delays) laid c delayCount (rw (← e) h) refl
       ∙ rw (length-append (p .delays) (c ∷ [])))
 
+-- ---- a store that is begun, with its Q line
+
+module _ (p : Plan) (few : p .n ≤ 64) (fewRing : length (p .ring) ≤ 64) where
+  pub ring-begun : (i : ℕ) → i < length (p .ring) → putRing (begun p i) i (getD (p .ring) i 0) ≡ begun p (i + 1)
+  unfolding begun ringUpTo withRing startPlan unopened
+  ring-begun i h =
+      let q : Plan = ringUpTo p i in
+      let size : length (take i (p .ring)) ≡ i = length-take-le i (p .ring) (omega arith) in
+      let laid : Laid 0 (columns q (unopened p)) =
+      room-laid q (unopened p) (rw size (omega arith)) (rw (length-replicate (p .n) zeroNode) few) zero-le zero-le zero-le in
+      let e : take (i + 1) (p .ring) ≡ take i (p .ring) ++ (getD (p .ring) i 0 ∷ []) = rw (add-one i) (take-suc (p .ring) i 0 h) in
+      ring-added q (unopened p) laid i (getD (p .ring) i 0) (sym size) (omega arith) ∙ rw e
+
+-- the P line alone; and all numbers of the Q line, which is a store without rows
+pub none-begun : (p : Plan) → encode (startPlan (p .n) (p .h) (p .w) (p .d) (p .end)) (unopened (startPlan (p .n) (p .h) (p .w) (p .d) (p .end)))
+    ≡ begun p 0
+unfolding begun ringUpTo withRing startPlan unopened
+none-begun p = refl
+
+pub all-begun : (p : Plan) → begun p (length (p .ring)) ≡ encode (rowsUpTo p 0 0) (unopened (rowsUpTo p 0 0))
+unfolding begun ringUpTo withRing startPlan unopened rowsUpTo
+all-begun p = rw (take-length (p .ring))
+
 -- ---- a store that is filled so far, filled further
 
--- the nodes
-module _ (p : Plan) (few : p .n ≤ 64) (fewCrashes : length (p .crashes) ≤ 64) (fewDelays : length (p .delays) ≤ 2048) where
-  -- the first k nodes, and nothing else
-  abbrev upTo : ℕ → State
-  upTo k = record { done = 0; last = 0; next = 0; nodes = map (opening (p .order) (p .h) (p .w)) (numbers 0 k); flight = [] }
-
-  length-nodes : (k : ℕ) → length (upTo k .nodes) ≡ k
-  length-nodes k = length-map (numbers 0 k) (opening (p .order) (p .h) (p .w)) ∙ length-numbers k 0
-
-  nodes-more : (k : ℕ) → withNode (upTo k) (opening (p .order) (p .h) (p .w) k) ≡ upTo (suc k)
-  unfolding withNode
-  nodes-more k =
-      let z : 0 + k ≡ k = omega arith in
-      let e : numbers 0 (suc k) ≡ numbers 0 k ++ (k ∷ []) = numbers-snoc k 0 ∙ rw z in
-      rw (e, map-append (opening (p .order) (p .h) (p .w)) (numbers 0 k) (k ∷ []))
-
-  nodes-filled : (k : ℕ) → k ≤ p .n → putNodes (encode p blank) (p .order) (p .h) (p .w) k ≡ encode p (upTo k)
-  unfolding putNodes numbers
-  nodes-filled zero h = refl
-  nodes-filled (suc k) h =
-      let laid : Laid 0 (columns p (upTo k)) = room-laid p (upTo k) (rw (length-nodes k) (omega arith)) fewCrashes fewDelays zero-le in
-      rw (nodes-filled k (omega arith))
-      (node-added p (upTo k) laid k (opening (p .order) (p .h) (p .w) k) (sym (length-nodes k)) (omega arith) ∙ ap (encode p) (nodes-more k))
-
--- zeros, a P line and its nodes: the store of a plan that has no rows
-pub begun : (n h w d end : ℕ) (s : List ℕ) {t u v : List ℕ} → n ≤ 64 → length s ≡ storeSize
-    → t ≡ cleared s 0 storeSize → u ≡ putStart t n h w d end → v ≡ putNodes u (numbers 0 n) h w n
-    → v ≡ encode (startPlan n h w d end) (start (startPlan n h w d end))
-unfolding startPlan start
-begun n h w d end s few size clear put nodes =
-    nodes ∙ rw (put, clear, cleared-encode s size, start-encode n h w d end)
-    (nodes-filled (startPlan n h w d end) few zero-le zero-le n (omega arith))
-
--- the ring of n nodes in number order is the first n of all numbers
-pub ring-of : {n : ℕ} {all : List ℕ} → n ≤ 64 → all ≡ numbers 0 64 → (take n all ≡ numbers 0 n) × (length (take n all) ≡ n)
-ring-of {n} {all} few e = let same : take n all ≡ numbers 0 n = rw e (take-numbers n 64 0 few) in (same, ap length same ∙ length-numbers n 0)
-
--- the first i nodes, one more, and all n
-pub nodes-turn : (b order : List ℕ) (h w i : ℕ) {s t l : List ℕ} {a : Node} → s ≡ putNodes b order h w i → l ≡ order
-    → a ≡ opening l h w i → t ≡ putNode s i a
-    → t ≡ putNodes b order h w (i + 1)
-unfolding putNodes
-nodes-turn b order h w i e o at put = put ∙ rw (at, e, o, add-one i)
-
-pub nodes-end : (b order : List ℕ) (h w : ℕ) {s : List ℕ} {i n : ℕ} → i ≤ n → n ≤ i → s ≡ putNodes b order h w i
-    → s ≡ putNodes b order h w n
-nodes-end b order h w {s} {i} {n} le ge e = let same : i ≡ n = omega arith in e ∙ ap (putNodes b order h w) same
-
--- the rows
-module _ (p : Plan) (few : p .n ≤ 64) (fewCrashes : length (p .crashes) ≤ 64) (fewDelays : length (p .delays) ≤ 2048) where
+module _ (p : Plan) (few : p .n ≤ 64) (fewRing : length (p .ring) ≤ 64) (fewCrashes : length (p .crashes) ≤ 64)
+    (fewDelays : length (p .delays) ≤ 2048) where
   laid-upto : (i j : ℕ) → i ≤ length (p .crashes) → j ≤ length (p .delays) → Laid 0 (columns (rowsUpTo p i j) (start p))
   unfolding rowsUpTo start
   laid-upto i j hi hj =
-      room-laid (rowsUpTo p i j) (start p) (rw (length-nodes p few fewCrashes fewDelays (p .n)) few)
+      let nodes : length (map (opening (orderOf p) (p .h) (p .w)) (numbers 0 (p .n))) ≡ p .n =
+      length-map (numbers 0 (p .n)) (opening (orderOf p) (p .h) (p .w)) ∙ length-numbers (p .n) 0 in
+      room-laid (rowsUpTo p i j) (start p) fewRing (rw nodes few)
       (rw (length-take-le i (p .crashes) hi) (omega arith)) (rw (length-take-le j (p .delays) hj) (omega arith)) zero-le
 
   pub crash-filled : (i : ℕ) (z : Crash) → i < length (p .crashes)
@@ -192,11 +212,10 @@ module _ (p : Plan) (few : p .n ≤ 64) (fewCrashes : length (p .crashes) ≤ 64
       (getD (p .delays) j z) (sym (length-take-le j (p .delays) (omega arith))) (omega arith)
       ∙ rw e
 
--- the P line and the nodes of a plan in number order, and all of it
-pub none-filled : (p : Plan) → p .order ≡ numbers 0 (p .n)
-    → encode (startPlan (p .n) (p .h) (p .w) (p .d) (p .end)) (start (startPlan (p .n) (p .h) (p .w) (p .d) (p .end))) ≡ filled p 0 0
-unfolding filled rowsUpTo startPlan start
-none-filled p order = rw order
+-- the nodes of a store without rows, and all of it
+pub none-filled : (p : Plan) → encode (rowsUpTo p 0 0) (start (rowsUpTo p 0 0)) ≡ filled p 0 0
+unfolding filled rowsUpTo start orderOf
+none-filled p = refl
 
 pub all-filled : (p : Plan) → filled p (length (p .crashes)) (length (p .delays)) ≡ encode p (start p)
 unfolding filled rowsUpTo

@@ -4,9 +4,11 @@ pub mod Columns
 pub mod Groups
 pub mod Reading
 pub mod Store
+pub mod Orders
 pub mod States
 pub mod Crashes
 pub mod Delays
 pub mod Filling
 pub mod Fitting
+pub mod Opening
 pub mod Blank

@@ -3,19 +3,18 @@ use Prim.Native.Nat.{ℕ, zero, suc, _+_, _-_, _*_, _≤_, _<_}
 use mathlib.Core.Path.{_≡_, refl, sym, ap, _∙_}
 use mathlib.Core.Bool.{true, and-eq-true-iff}
 use mathlib.Core.List.{List, [], _∷_, _++_, map}
-use native.Mathlib.Nat.{mul-add, mul-suc, mul-zero, add-zero, mul-le-mul-left}
+use native.Mathlib.Nat.{one-mul, mul-add, mul-suc, mul-zero, add-zero, mul-le-mul-left}
 use native.Mathlib.Omega.{arith}
 use borrow.Author.Tests.{eqb-true, leb-true}
 use lib.Dec.{eqb, leb}
 use lib.ListN.{length, take, drop, getD, replicate, length-append, length-drop, length-map, take-append-drop}
-use lib.Seq.{slice, take-add, drop-drop, drop-at, length-take-le, drop-length}
-use Rattle.ring.proofs.Orders.{getD-numbers}
+use lib.Seq.{slice, slice-empty, slice-cons, take-add, drop-drop, drop-at, length-take-le, drop-length}
 use Rattle.ring.specs.Ring.{numbers}
 use Rattle.ring.proofs.Rows.{length-numbers}
-use Rattle.fields.specs.Fields.{zeros}
+use Rattle.fields.specs.Fields.{zeros, fieldAt}
 use Rattle.fields.proofs.Zeros.{zeros-all}
-use Rattle.fields.proofs.Fields.{bytes-field, field-lt}
-use Rattle.store.specs.Columns.{Field, Column, cell, size, used, packs, columnBytes, bytesOf, joined, roomTest, unusedTest}
+use Rattle.fields.proofs.Fields.{bytes-field, field-lt, field-none, field-more}
+use Rattle.store.specs.Columns.{Field, field, Column, cell, size, used, packs, columnBytes, bytesOf, joined, roomTest, unusedTest}
 use Rattle.store.specs.Columns.{Part, columnsOf, numbersOf, cellsAt, RowFits, RowsFit}
 use Rattle.store.proofs.Columns.{Laid, length-column}
 use Rattle.store.proofs.Groups.{getD-part, row-read, fit-at, fit-each}
@@ -35,6 +34,9 @@ row-made f n i d h = made n 0 i h ∙ ap f (omega arith)
 pub length-made : {A : Type 0} (f : ℕ → A) (n : ℕ) → length (map f (numbers 0 n)) ≡ n
 length-made f n = length-map (numbers 0 n) f ∙ length-numbers n 0
 
+byte-read : (b : List ℕ) (at : ℕ) → at < length b → fieldAt b at 1 ≡ getD b at 0
+byte-read b at h = field-more b at 0 h ∙ rw (field-none b (suc at)) (omega arith)
+
 -- rows that agree with a list at each place are the list
 pub made-rows : {A : Type 0} (f : ℕ → A) (l : List A) (d : A) → ((i : ℕ) → i < length l → f i ≡ getD l i d) → map f (numbers 0 (length l)) ≡ l
 unfolding numbers
@@ -48,6 +50,22 @@ made-rows {A} f l d same = go l 0 (λ i h. let e : 0 + i ≡ i = omega arith in 
         go l (suc j) (λ i k. let e : suc j + i ≡ j + suc i = omega arith in ap f e ∙ h (suc i) (omega arith)) in
         rw (first, rest)
 
+-- numbers of one byte are the bytes themselves
+pub bytes-read : (b : List ℕ) (at places k : ℕ) → at + k ≤ length b → map (cell b (field at 1 places)) (numbers 0 k) ≡ slice at (at + k) b
+unfolding numbers
+bytes-read b at places k h =
+    let first : at + 0 ≡ at = omega arith in
+    go k 0 (omega arith) ∙ ap (λ (i : ℕ). slice i (at + k) b) first
+  where
+    go : (n j : ℕ) → j + n ≡ k → map (cell b (field at 1 places)) (numbers j n) ≡ slice (at + j) (at + k) b
+    go zero j e =
+        let all : at + j ≡ at + k = omega arith in
+        sym (ap (λ (i : ℕ). slice i (at + k) b) all ∙ slice-empty (at + k) b)
+    go (suc n) j e =
+        let one : fieldAt b (at + 1 * j) 1 ≡ getD b (at + j) 0 = rw (one-mul j) (byte-read b (at + j) (omega arith)) in
+        let next : suc (at + j) ≡ at + suc j = omega arith in
+        rw (one, go n (suc j) (omega arith), ← next) (sym (slice-cons (at + j) (at + k) b 0 (omega arith) h))
+
 -- ---- columns that are read
 
 -- the numbers of each column are those that b has there
@@ -55,7 +73,7 @@ unfoldable pub ReadFrom : List ℕ → List Column → Type 0
 ReadFrom b [] = Unit
 ReadFrom b (c ∷ cs) = (c .values ≡ map (cell b (c .field)) (numbers 0 (length (c .values)))) × ReadFrom b cs
 
-slice-take : (f t : ℕ) (l : List ℕ) → f ≤ t → t ≤ length l → slice f t l ≡ take (t - f) (drop f l)
+pub slice-take : (f t : ℕ) (l : List ℕ) → f ≤ t → t ≤ length l → slice f t l ≡ take (t - f) (drop f l)
 slice-take f t l h k =
     let e : f + (t - f) ≡ t = omega arith in
     ap (λ (n : ℕ). drop f (take n l)) (sym e)

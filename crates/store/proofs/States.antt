@@ -14,7 +14,7 @@ use Rattle.limits.specs.Limits.{mostInFlight}
 use Rattle.model.specs.Platform.{State, InFlight, without}
 use Rattle.store.specs.Columns.{Field, cellPut, cellOut, fieldCleared, bytesOf, columnsOf, RowFits, RowsFit, rowPut, rowOut, rowsCleared, Column}
 use Rattle.store.specs.Store.{crashesDone, lastTick, nextNumber, messageCount, columns, encode, planIn, stateIn, contents}
-use Rattle.store.specs.Store.{headParts, nodeParts, crashParts, delayParts, timeParts, routeParts, messageParts}
+use Rattle.store.specs.Store.{headParts, ringParts, nodeParts, crashParts, delayParts, timeParts, routeParts, messageParts}
 use Rattle.store.specs.Inside.{SmallNode, Fits, Held, withNode, withTick, crashed, withoutMessage, withFlight, withMessage, numberTaken}
 use Rattle.store.specs.Filling.{putNode}
 use Rattle.store.proofs.Columns.{withNumber, hasNumber, number-put, length-without, Laid}
@@ -43,7 +43,7 @@ module _ (p : Plan) (s : State) (f : Fits p s) where
   number-bytes = head-put nextNumber (s .next + 1) (numberTaken s) refl (rw (add-one (s .next)))
 
   node-bytes : (i : ℕ) (a : Node) → i < length (s .nodes) → rowPut nodeParts (encode p s) i a ≡ encode p (withNode s i a)
-  unfolding encode withNode columnsOf headParts
+  unfolding encode withNode columnsOf headParts ringParts
   node-bytes i a h =
       let room : length (s .nodes) ≤ 64 = omega (arith, f .nodes, f .counts .nodes) in
       rw (at-nodes p s, at-nodes p (withNode s i a))
@@ -57,7 +57,7 @@ module _ (p : Plan) (s : State) (f : Fits p s) where
   flight-put : (ms : List InFlight) (b : List ℕ) (n : ℕ) → n ≡ length ms
       → (b ≡ bytesOf (flying ms)) × Laid 0 (flying ms)
       → cellPut b messageCount 0 n ≡ encode p (withFlight s ms)
-  unfolding encode columns columnsOf headParts nodeParts crashParts delayParts hasNumber withNumber withFlight
+  unfolding encode columns columnsOf headParts ringParts nodeParts crashParts delayParts hasNumber withNumber withFlight
   flight-put ms b n e h = rw (h .0, e) (number-put [] (flying ms) messageCount (length ms) refl (h .1) .0)
 
   few : length (s .flight) ≤ 2048
@@ -92,10 +92,10 @@ module _ (p : Plan) (s : State) (f : Fits p s) where
   fits-with : (s′ : State) → length (s′ .nodes) ≡ length (s .nodes) → length (s′ .flight) ≤ mostInFlight → RowFits headParts (contents p s′)
       → RowsFit nodeParts (s′ .nodes) → RowsFit messageParts (s′ .flight) → Fits p s′
   fits-with s′ nodes few head nodeRows messageRows = record {
-    order = f .order;
     nodes = nodes ∙ f .nodes;
-    counts = record { nodes = f .counts .nodes; crashes = f .counts .crashes; delays = f .counts .delays; messages = few };
+    counts = record { nodes = f .counts .nodes; ring = f .counts .ring; crashes = f .counts .crashes; delays = f .counts .delays; messages = few };
     head = head;
+    ringRows = f .ringRows;
     nodeRows = nodeRows;
     crashRows = f .crashRows;
     delayRows = f .delayRows;

@@ -10,10 +10,10 @@ use borrow.Author.Needs.{needs}
 use borrow.Author.Tests.{leb-true, le-leb}
 use lib.Dec.{leb, lit<}
 use lib.ListN.{length, getD}
+use lib.Seq.{slice}
 use Rattle.ring.specs.Ring.{numbers}
 use Rattle.node.specs.declared.Node.{Node}
-use Rattle.plans.specs.Plan.{Plan, Crash, Delay, planTest}
-use Rattle.plans.proofs.Tests.{in-number-order}
+use Rattle.plans.specs.Plan.{Plan, Crash, Delay}
 use Rattle.node.specs.Node.{alone}
 use Rattle.fields.specs.Fields.{fieldAt}
 use Rattle.model.specs.Platform.{State, InFlight, nodeOf, messageAt, noMessage}
@@ -21,28 +21,32 @@ use Rattle.plans.specs.Plain.{rowAt}
 use Rattle.store.specs.Columns.{Column, unused, cell, number, joined, roomTest, unusedTest}
 use Rattle.store.specs.Columns.{columnsOf, numbersOf, cellsAt, RowFits, RowsFit, placesTest}
 use Rattle.limits.specs.Limits.{storeSize}
-use Rattle.store.specs.Store.{nodeCount, crashCount, delayCount, messageCount, spareHead, spareNodes, spareTail}
+use Rattle.store.specs.Store.{nodeCount, crashCount, delayCount, messageCount, ringSize, spareHead, ringNodes, spareNodes, spareTail}
 use Rattle.store.specs.Store.{emitters, observers, watches, heartbeats, deadLists, crashTicks, crashNodes, delayNumbers, delayTicks}
 use Rattle.store.specs.Store.{messageNumbers, messageDues, messageKinds, messageSenders, messageReceivers, messageSubjects}
-use Rattle.store.specs.Store.{Contents, contents, headParts, nodeParts, crashParts, delayParts, timeParts, routeParts, messageParts}
+use Rattle.store.specs.Store.{Contents, contents, headParts, ringParts, nodeParts, crashParts, delayParts, timeParts, routeParts, messageParts}
 use Rattle.store.specs.Store.{columns, encode, nodeIn, crashRowIn, delayRowIn, messageIn, planIn, stateIn}
 use Rattle.store.specs.Inside.{Counts, Fits, Held}
 use Rattle.store.proofs.Columns.{Laid}
 use Rattle.store.proofs.Groups.{row-read, room-append, room-rows, rooms-test}
-use Rattle.store.proofs.Reading.{length-made, row-made, ReadFrom, columns-read, rows-read, rows-read-fit, read-back}
+use Rattle.store.proofs.Reading.{bytes-read, length-made, row-made, ReadFrom, columns-read, rows-read, rows-read-fit, read-back}
 use Rattle.store.proofs.Reading.{columns-laid, laid-length, same-at}
 
 -- ---- the layout
 
 -- the fields of the layout stand one after another and fill the store
 pub placed : (p : Plan) (s : State) → joined 0 storeSize (columns p s) ≡ true
-unfolding columns columnsOf headParts nodeParts crashParts delayParts timeParts routeParts joined
+unfolding columns columnsOf headParts ringParts nodeParts crashParts delayParts timeParts routeParts joined
 placed p s = refl
 
 -- the parts of each kind of row have as many places
 pub head-places : placesTest 1 headParts ≡ true
 unfolding placesTest headParts
 head-places = refl
+
+pub ring-places : placesTest 64 ringParts ≡ true
+unfolding placesTest ringParts
+ring-places = refl
 
 pub node-places : placesTest 64 nodeParts ≡ true
 unfolding placesTest nodeParts
@@ -61,9 +65,12 @@ unfolding placesTest timeParts routeParts
 message-places = refl
 
 module _ (p : Plan) (s : State) where
-  -- the columns that stand before and after those of the nodes, of the C rows, of the L rows and of the messages
+  -- the columns that stand before and after those of the Q line, of the nodes, of the C rows, of the L rows and of the messages
+  abbrev pub beforeRing : List Column
+  beforeRing = columnsOf headParts (contents p s ∷ []) ++ (unused spareHead ∷ [])
+
   abbrev pub beforeNodes : List Column
-  beforeNodes = columnsOf headParts (contents p s ∷ []) ++ (unused spareHead ∷ [])
+  beforeNodes = beforeRing ++ columnsOf ringParts (p .ring)
 
   abbrev pub beforeCrashes : List Column
   beforeCrashes = beforeNodes ++ (columnsOf nodeParts (s .nodes) ++ (unused spareNodes ∷ []))
@@ -86,26 +93,39 @@ module _ (p : Plan) (s : State) where
   abbrev pub afterNodes : List Column
   afterNodes = unused spareNodes ∷ (columnsOf crashParts (p .crashes) ++ afterCrashes)
 
-  pub at-nodes : columns p s ≡ beforeNodes ++ (columnsOf nodeParts (s .nodes) ++ afterNodes)
+  abbrev pub afterRing : List Column
+  afterRing = columnsOf nodeParts (s .nodes) ++ afterNodes
+
+  pub at-ring : columns p s ≡ beforeRing ++ (columnsOf ringParts (p .ring) ++ afterRing)
   unfolding columns columnsOf headParts
+  at-ring = refl
+
+  pub at-nodes : columns p s ≡ beforeNodes ++ (columnsOf nodeParts (s .nodes) ++ afterNodes)
+  unfolding columns columnsOf headParts ringParts
   at-nodes = refl
 
   pub at-crashes : columns p s ≡ beforeCrashes ++ (columnsOf crashParts (p .crashes) ++ afterCrashes)
-  unfolding columns columnsOf headParts nodeParts
+  unfolding columns columnsOf headParts ringParts nodeParts
   at-crashes = refl
 
   pub at-delays : columns p s ≡ beforeDelays ++ (columnsOf delayParts (p .delays) ++ afterDelays)
-  unfolding columns columnsOf headParts nodeParts crashParts
+  unfolding columns columnsOf headParts ringParts nodeParts crashParts
   at-delays = refl
 
   pub at-messages : columns p s ≡ beforeMessages ++ (columnsOf messageParts (s .flight) ++ afterMessages)
-  unfolding columns columnsOf headParts nodeParts crashParts delayParts
+  unfolding columns columnsOf headParts ringParts nodeParts crashParts delayParts
   at-messages = refl
 
   -- ---- room
 
   abbrev rooms : Bool
-  rooms = leb (length (s .nodes)) 64 && (leb (length (p .crashes)) 64 && (leb (length (p .delays)) 2048 && leb (length (s .flight)) 2048))
+  rooms =
+      leb (length (p .ring)) 64
+      && (leb (length (s .nodes)) 64 && (leb (length (p .crashes)) 64 && (leb (length (p .delays)) 2048 && leb (length (s .flight)) 2048)))
+
+  ring-room : roomTest (columnsOf ringParts (p .ring)) ≡ leb (length (p .ring)) 64
+  unfolding ringParts
+  ring-room = rooms-test (p .ring) 64 ringParts ring-places (lit< tt)
 
   nodes-room : roomTest (columnsOf nodeParts (s .nodes)) ≡ leb (length (s .nodes)) 64
   unfolding nodeParts
@@ -129,11 +149,13 @@ module _ (p : Plan) (s : State) where
       rw (
         room-append (columnsOf headParts (contents p s ∷ [])),
         room-rows (contents p s ∷ []) 1 headParts head-places (lit< tt),
+        room-append (columnsOf ringParts (p .ring)),
         room-append (columnsOf nodeParts (s .nodes)),
         room-append (columnsOf crashParts (p .crashes)),
         room-append (columnsOf delayParts (p .delays)),
         room-append (columnsOf messageParts (s .flight)),
         and-true (roomTest (columnsOf messageParts (s .flight))),
+        ring-room,
         nodes-room,
         crashes-room,
         delays-room,
@@ -141,21 +163,25 @@ module _ (p : Plan) (s : State) where
       )
 
   -- no more nodes, rows and messages than there are places
-  counts-room : length (s .nodes) ≤ 64 → length (p .crashes) ≤ 64 → length (p .delays) ≤ 2048 → length (s .flight) ≤ 2048
+  counts-room : length (p .ring) ≤ 64 → length (s .nodes) ≤ 64 → length (p .crashes) ≤ 64 → length (p .delays) ≤ 2048
+      → length (s .flight) ≤ 2048
       → roomTest (columns p s) ≡ true
-  counts-room n c l m = rw (room-parts, le-leb _ 64 n, le-leb _ 64 c, le-leb _ 2048 l, le-leb _ 2048 m)
+  counts-room r n c l m = rw (room-parts, le-leb _ 64 r, le-leb _ 64 n, le-leb _ 64 c, le-leb _ 2048 l, le-leb _ 2048 m)
 
-  pub room-laid : length (s .nodes) ≤ 64 → length (p .crashes) ≤ 64 → length (p .delays) ≤ 2048 → length (s .flight) ≤ 2048
+  pub room-laid : length (p .ring) ≤ 64 → length (s .nodes) ≤ 64 → length (p .crashes) ≤ 64 → length (p .delays) ≤ 2048
+      → length (s .flight) ≤ 2048
       → Laid 0 (columns p s)
-  room-laid n c l m = columns-laid (columns p s) 0 storeSize (placed p s) (counts-room n c l m)
+  room-laid r n c l m = columns-laid (columns p s) 0 storeSize (placed p s) (counts-room r n c l m)
 
   pub room-counts : length (s .nodes) ≡ p .n → roomTest (columns p s) ≡ true → Counts p s
   room-counts e room =
-      let nodes = and-eq-true-iff (leb (length (s .nodes)) 64) _ .0 (sym room-parts ∙ room) in
+      let ring = and-eq-true-iff (leb (length (p .ring)) 64) _ .0 (sym room-parts ∙ room) in
+      let nodes = and-eq-true-iff (leb (length (s .nodes)) 64) _ .0 (ring .1) in
       let crashes = and-eq-true-iff (leb (length (p .crashes)) 64) _ .0 (nodes .1) in
       let rest = and-eq-true-iff (leb (length (p .delays)) 2048) (leb (length (s .flight)) 2048) .0 (crashes .1) in
       record {
         nodes = omega (arith, leb-true (length (s .nodes)) 64 (nodes .0));
+        ring = leb-true _ 64 (ring .0);
         crashes = leb-true _ 64 (crashes .0);
         delays = leb-true _ 2048 (rest .0);
         messages = leb-true _ 2048 (rest .1);
@@ -163,7 +189,7 @@ module _ (p : Plan) (s : State) where
 
   module _ (f : Fits p s) where
     pub room-encode : roomTest (columns p s) ≡ true
-    room-encode = let c = f .counts in counts-room (omega (arith, f .nodes)) (c .crashes) (c .delays) (c .messages)
+    room-encode = let c = f .counts in counts-room (c .ring) (omega (arith, f .nodes)) (c .crashes) (c .delays) (c .messages)
 
     pub laid : Laid 0 (columns p s)
     laid = columns-laid (columns p s) 0 storeSize (placed p s) room-encode
@@ -180,12 +206,17 @@ module _ (p : Plan) (s : State) where
     head-read : cellsAt headParts b 0 ≡ numbersOf headParts (contents p s)
     unfolding encode columns
     head-read =
-        let back : List Column = unused spareHead ∷ (columnsOf nodeParts (s .nodes) ++ afterNodes) in
+        let back : List Column = unused spareHead ∷ (columnsOf ringParts (p .ring) ++ afterRing) in
         row-read headParts [] back (contents p s ∷ []) laid 0 (contents p s) (lit< tt) (f .head)
 
     -- the number of the head's part k
     read : (k : ℕ) → getD (cellsAt headParts b 0) k 0 ≡ getD (numbersOf headParts (contents p s)) k 0
     read = same-at head-read
+
+    ring-read : map (cell b ringNodes) (numbers 0 (length (p .ring))) ≡ p .ring
+    unfolding encode cellsAt numbersOf ringParts
+    ring-read =
+        rows-read (columns p s) beforeRing afterRing ringParts (p .ring) at-ring laid (f .ringRows) 0 (cell b ringNodes) (λ i e. same-at e 0)
 
     nodes-read : map (nodeIn b) (numbers 0 (length (s .nodes))) ≡ s .nodes
     unfolding encode cellsAt numbersOf nodeParts
@@ -218,7 +249,7 @@ module _ (p : Plan) (s : State) where
     -- what was encoded is what the bytes hold
     pub plan-encode : planIn (encode p s) ≡ p
     unfolding planIn cellsAt numbersOf headParts
-    plan-encode = rw (read 0, read 1, read 2, read 3, read 4, read 6, read 9, crashes-read, delays-read, ← f .order)
+    plan-encode = rw (read 0, read 1, read 2, read 3, read 4, read 6, read 9, read 11, ring-read, crashes-read, delays-read)
 
     pub state-encode : stateIn (encode p s) ≡ s
     unfolding stateIn cellsAt numbersOf headParts
@@ -242,6 +273,10 @@ module _ (b : List ℕ) where
   length-nodes = length-made (nodeIn b) (number b nodeCount)
 
   -- the counts
+  pub ring-counted : length (planIn b .ring) ≡ number b ringSize
+  unfolding planIn
+  ring-counted = length-made (cell b ringNodes) (number b ringSize)
+
   pub crashes-counted : length (planIn b .crashes) ≡ number b crashCount
   unfolding planIn
   crashes-counted = length-made (crashRowIn b) (number b crashCount)
@@ -266,6 +301,17 @@ module _ (b : List ℕ) where
       }
   unfolding planIn stateIn
   node-read i h = row-made (nodeIn b) (number b nodeCount) i (alone i 0) h ∙ rw (one-mul i)
+
+  pub ring-number : (i : ℕ) → i < length (planIn b .ring) → getD (planIn b .ring) i 0 ≡ fieldAt b (ringNodes .at + i) 1
+  unfolding planIn
+  ring-number i h =
+      let k : i < number b ringSize = omega (arith, ring-counted) in
+      row-made (cell b ringNodes) (number b ringSize) i 0 k ∙ rw (one-mul i)
+
+  -- they are the store's own bytes
+  pub ring-part : ringNodes .at + number b ringSize ≤ length b → planIn b .ring ≡ slice (ringNodes .at) (ringNodes .at + number b ringSize) b
+  unfolding planIn
+  ring-part h = bytes-read b (ringNodes .at) (ringNodes .places) (number b ringSize) h
 
   pub crash-read : (i : ℕ) → i < length (planIn b .crashes)
       → rowAt (planIn b) i ≡ record { tick = cell b crashTicks i; node = fieldAt b (crashNodes .at + i) 1 }
@@ -307,8 +353,15 @@ module _ (b : List ℕ) where
         length-made (crashRowIn b) (number b crashCount),
         length-made (delayRowIn b) (number b delayCount),
         length-made (messageIn b) (number b messageCount),
+        length-made (cell b ringNodes) (number b ringSize),
       )
   head-cells (suc i) h = absurd (omega arith)
+
+  ring-cells : (i : ℕ) → i < length (planIn b .ring) → numbersOf ringParts (getD (planIn b .ring) i (cell b ringNodes 0)) ≡ cellsAt ringParts b i
+  unfolding numbersOf cellsAt ringParts planIn
+  ring-cells i h =
+      let k : i < number b ringSize = rw (← length-made (cell b ringNodes) (number b ringSize)) h in
+      rw (row-made (cell b ringNodes) (number b ringSize) i (cell b ringNodes 0) k)
 
   node-cells : (i : ℕ) → i < length (stateIn b .nodes) → numbersOf nodeParts (getD (stateIn b .nodes) i (nodeIn b 0)) ≡ cellsAt nodeParts b i
   unfolding numbersOf cellsAt nodeParts stateIn
@@ -335,9 +388,10 @@ module _ (b : List ℕ) where
       let messages : ReadFrom b (afterDelays p s) = columns-read b (s .flight) (messageIn b 0) messageParts (afterMessages p s) message-cells (refl, tt) in
       let delays : ReadFrom b (afterCrashes p s) = columns-read b (p .delays) (delayRowIn b 0) delayParts (afterDelays p s) delay-cells messages in
       let crashes : ReadFrom b (afterNodes p s) = (refl, columns-read b (p .crashes) (crashRowIn b 0) crashParts (afterCrashes p s) crash-cells delays) in
-      let nodes : ReadFrom b (columnsOf nodeParts (s .nodes) ++ afterNodes p s) =
-      columns-read b (s .nodes) (nodeIn b 0) nodeParts (afterNodes p s) node-cells crashes in
-      columns-read b (head ∷ []) head headParts (unused spareHead ∷ (columnsOf nodeParts (s .nodes) ++ afterNodes p s)) head-cells (refl, nodes)
+      let nodes : ReadFrom b (afterRing p s) = columns-read b (s .nodes) (nodeIn b 0) nodeParts (afterNodes p s) node-cells crashes in
+      let ring : ReadFrom b (columnsOf ringParts (p .ring) ++ afterRing p s) =
+      columns-read b (p .ring) (cell b ringNodes 0) ringParts (afterRing p s) ring-cells nodes in
+      columns-read b (head ∷ []) head headParts (unused spareHead ∷ (columnsOf ringParts (p .ring) ++ afterRing p s)) head-cells (refl, ring)
 
   -- bytes of a store's length, with no more rows than places and unused bytes zero
   pub held-read : ((i : ℕ) → getD b i 0 < 256) → length b ≡ storeSize → roomTest (columns (planIn b) (stateIn b)) ≡ true
@@ -348,10 +402,10 @@ module _ (b : List ℕ) where
         size = size;
         canonical = sym (read-back b byte (columns (planIn b) (stateIn b)) 0 (rw size (placed (planIn b) (stateIn b))) room all-read blank);
         fits = record {
-          order = refl;
           nodes = length-nodes;
           counts = room-counts (planIn b) (stateIn b) length-nodes room;
           head = rows-read-fit b (head ∷ []) head byte headParts head-cells .0;
+          ringRows = rows-read-fit b (planIn b .ring) (cell b ringNodes 0) byte ringParts ring-cells;
           nodeRows = rows-read-fit b (stateIn b .nodes) (nodeIn b 0) byte nodeParts node-cells;
           crashRows = rows-read-fit b (planIn b .crashes) (crashRowIn b 0) byte crashParts crash-cells;
           delayRows = rows-read-fit b (planIn b .delays) (delayRowIn b 0) byte delayParts delay-cells;

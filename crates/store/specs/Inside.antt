@@ -5,11 +5,10 @@ use mathlib.Core.Path.{_≡_}
 use Prim.Native.Nat.{ℕ, suc, _^_, _≤_, _<_}
 use lib.ListN.{length, getD, set}
 use Rattle.limits.specs.Limits.{mostNodes, mostDelays, mostInFlight, storeSize}
-use Rattle.ring.specs.Ring.{numbers}
 use Rattle.node.specs.declared.Node.{Node}
-use Rattle.plans.specs.Plan.{Plan, Crash, Delay, planTest}
+use Rattle.plans.specs.Plan.{Plan, Crash, Delay}
 use Rattle.model.specs.Platform.{State, InFlight, without}
-use Rattle.store.specs.Store.{encode, planIn, stateIn, contents, headParts, nodeParts, crashParts, delayParts, messageParts}
+use Rattle.store.specs.Store.{encode, planIn, stateIn, contents, headParts, ringParts, nodeParts, crashParts, delayParts, messageParts}
 use Rattle.store.specs.Columns.{RowFits, RowsFit}
 use Rattle.store.specs.declared.CrashRow.{CrashRow}
 use Rattle.store.specs.declared.DelayRow.{DelayRow}
@@ -20,6 +19,7 @@ use Rattle.store.specs.declared.Flight.{Flight}
 -- no more nodes, rows and messages than there are places
 pub record Counts (p : Plan) (s : State) : Type 0 where
   pub nodes : p .n ≤ mostNodes
+  pub ring : length (p .ring) ≤ mostNodes
   pub crashes : length (p .crashes) ≤ mostNodes
   pub delays : length (p .delays) ≤ mostDelays
   pub messages : length (s .flight) ≤ mostInFlight
@@ -37,12 +37,12 @@ pub record SmallNode (a : Node) : Type 0 where
   pub heartbeat : a .heartbeat < 256 ^ 4
   pub list : a .list < 256 ^ 8
 
--- a plan and a state that a store can hold: the ring is in number order, and every number fits its field
+-- a plan and a state that a store can hold: every number fits its field
 pub record Fits (p : Plan) (s : State) : Type 0 where
-  pub order : p .order ≡ numbers 0 (p .n)
   pub nodes : length (s .nodes) ≡ p .n
   pub counts : Counts p s
   pub head : RowFits headParts (contents p s)
+  pub ringRows : RowsFit ringParts (p .ring)
   pub nodeRows : RowsFit nodeParts (s .nodes)
   pub crashRows : RowsFit crashParts (p .crashes)
   pub delayRows : RowsFit delayParts (p .delays)

@@ -49,9 +49,16 @@ delayCount = field 24 2 1
 abbrev pub messageCount : Field
 messageCount = field 26 2 1
 
--- bytes 28 to 127
+abbrev pub ringSize : Field
+ringSize = field 28 1 1
+
+-- bytes 29 to 63
 abbrev pub spareHead : Field
-spareHead = field 28 1 100
+spareHead = field 29 1 35
+
+-- the numbers of the Q line
+abbrev pub ringNodes : Field
+ringNodes = field 64 1 64
 
 -- the nodes
 abbrev pub emitters : Field
@@ -119,7 +126,7 @@ pub record Contents : Type 0 where
 abbrev pub contents : Plan → State → Contents
 contents p s = record { plan = p; state = s }
 
--- the parts of the head, of a node, of a C row, of an L row and of a message, in the layout's order
+-- the parts of the head, of a number of the Q line, of a node, of a C row, of an L row and of a message, in the layout's order
 unfoldable pub headParts : List (Part Contents)
 headParts =
     part nodeCount (λ x. x .plan .n)
@@ -133,7 +140,11 @@ headParts =
     ∷ part nextNumber (λ x. x .state .next)
     ∷ part delayCount (λ x. length (x .plan .delays))
     ∷ part messageCount (λ x. length (x .state .flight))
+    ∷ part ringSize (λ x. length (x .plan .ring))
     ∷ []
+
+unfoldable pub ringParts : List (Part ℕ)
+ringParts = part ringNodes (λ k. k) ∷ []
 
 unfoldable pub nodeParts : List (Part Node)
 nodeParts =
@@ -169,11 +180,12 @@ messageParts = timeParts ++ routeParts
 unfoldable pub columns : Plan → State → List Column
 columns p s =
     columnsOf headParts (contents p s ∷ [])
-    ++ (unused spareHead ∷ (columnsOf nodeParts (s .nodes)
+    ++ (unused spareHead ∷ (columnsOf ringParts (p .ring)
+    ++ (columnsOf nodeParts (s .nodes)
     ++ (unused spareNodes ∷ (columnsOf crashParts (p .crashes)
     ++ (columnsOf delayParts (p .delays)
     ++ (columnsOf messageParts (s .flight)
-    ++ (unused spareTail ∷ [])))))))
+    ++ (unused spareTail ∷ []))))))))
 
 -- the store of a plan and a state
 unfoldable pub encode : Plan → State → List ℕ
@@ -206,7 +218,7 @@ messageIn b i = record {
   due = cell b messageDues i;
 }
 
--- the plan that a store's bytes hold: its ring is in number order
+-- the plan that a store's bytes hold
 unfoldable pub planIn : List ℕ → Plan
 planIn b = record {
   n = number b nodeCount;
@@ -214,7 +226,7 @@ planIn b = record {
   w = number b timeOut;
   d = number b longestDelay;
   end = number b endTick;
-  order = numbers 0 (number b nodeCount);
+  ring = map (cell b ringNodes) (numbers 0 (number b ringSize));
   crashes = map (crashRowIn b) (numbers 0 (number b crashCount));
   delays = map (delayRowIn b) (numbers 0 (number b delayCount));
 }

@@ -1,14 +1,12 @@
-// A store is filled: zeros, the P line and the nodes, then the rows of C and L lines one after another.
+// A store is filled: zeros and the P line, the numbers of the Q line, then, after its nodes, the rows of C and L lines one after another.
 use crate::layout;
 use node::Node;
 ghost use mathlib.Core.Path.{_≡_};
 ghost use Prim.Native.Nat.{_<_, _≤_};
 ghost use lib.ListN.{length};
-ghost use Rattle.limits.specs.Limits.{mostNodes, mostDelays, storeSize, mostH, mostW};
-ghost use Rattle.store.specs.Filling.{putStart, putNode, putCrash, putDelay, putNodes};
-ghost use Rattle.ring.specs.Ring.{numbers};
-ghost use Rattle.plans.specs.Plan.{startPlan as opening};
-ghost use Rattle.model.specs.Platform.{start};
+ghost use Rattle.limits.specs.Limits.{mostNodes, mostDelays, storeSize};
+ghost use Rattle.store.specs.Filling.{putStart, putRing, putNode, putCrash, putDelay, unopened};
+ghost use Rattle.plans.specs.Plan.{startPlan};
 ghost use Rattle.store.specs.Store.{encode};
 
 // The P line.
@@ -35,28 +33,22 @@ pub fn put_node(s: &mut [u8], i: usize, a: Node)
     fields::put(s, layout::DEAD_LISTS + 8 * i, 8, a.list);
 }
 
-// The nodes, each as it is opened.
-fn put_nodes(s: &mut [u8], n: usize, h: u32, w: u32)
-    requires { ⌜ (n ≤ mostNodes) × (h ≤ mostH) × (w ≤ mostW) × (length (now s) ≡ storeSize) ⌝ }
-    ensures { λ _. ⌜ now (s .exit) ≡ putNodes (now (s .entry)) (numbers 0 n) h w n ⌝ }
-{
-    let order = ring::number_order();
-    let mut i: usize = 0;
-    while i < n {
-        let a = node::opened(&order[..n], h, w, i as u8);
-        put_node(s, i, a);
-        i += 1;
-    }
-}
-
-// The store of a P line alone: no rows, and the nodes as they are opened.
+// Zeros and the P line: a store without rows, whose nodes are not opened yet.
 pub fn begin(s: &mut [u8], n: u64, h: u64, w: u64, d: u64, end: u64)
-    requires { ⌜ (n ≤ mostNodes) × (h ≤ mostH) × (w ≤ mostW) × (length (now s) ≡ storeSize) ⌝ }
-    ensures { λ _. ⌜ now (s .exit) ≡ encode (opening n h w d end) (start (opening n h w d end)) ⌝ }
+    requires { ⌜ (n ≤ mostNodes) × (length (now s) ≡ storeSize) ⌝ }
+    ensures { λ _. ⌜ now (s .exit) ≡ encode (startPlan n h w d end) (unopened (startPlan n h w d end)) ⌝ }
 {
     fields::clear(s, 0, layout::STORE_SIZE);
     put_start(s, n, h, w, d, end);
-    put_nodes(s, n as usize, h as u32, w as u32);
+}
+
+// A number of the Q line after the first i.
+pub fn put_ring(s: &mut [u8], i: usize, k: u64)
+    requires { ⌜ (i < mostNodes) × (length (now s) ≡ storeSize) ⌝ }
+    ensures { λ _. ⌜ now (s .exit) ≡ putRing (now (s .entry)) i k ⌝ }
+{
+    fields::put(s, layout::RING_NODES + 1 * i, 1, k);
+    fields::put(s, layout::RING_SIZE, 1, i as u64 + 1);
 }
 
 // A C row after the first i.

@@ -1,7 +1,7 @@
 // The store's layout: where each field starts, and how many places there are, in the order of specs/Store.antt.
 pub use limits::STORE_SIZE;
 
-// ---- the places: of nodes and of C rows, of L rows, of messages in flight
+// ---- the places: of nodes, of the Q line's numbers and of C rows, of L rows, of messages in flight
 
 pub use limits::MOST_DELAYS;
 pub use limits::MOST_IN_FLIGHT;
@@ -31,7 +31,13 @@ pub const DELAY_COUNT: usize = 24;
 
 pub const MESSAGE_COUNT: usize = 26;
 
-pub const SPARE_HEAD: usize = 28;
+pub const RING_SIZE: usize = 28;
+
+pub const SPARE_HEAD: usize = 29;
+
+// ---- the numbers of the Q line
+
+pub const RING_NODES: usize = 64;
 
 // ---- the nodes
 

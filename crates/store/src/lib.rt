@@ -1,10 +1,10 @@
 // The platform's state in a store of 65,536 lent bytes, read and changed in place. The layout stands in specs/Store.antt.
 pub mod layout; // layout.rt: where each field starts
 pub mod cells; // cells.rt: numbers of 1, 2 and 4 bytes
-pub mod plan; // plan.rt: the P line, the rows of C and L lines, and what of them is done
+pub mod plan; // plan.rt: the P line, the ring's order, the rows of C and L lines, and what of them is done
 pub mod nodes; // nodes.rt: the nodes
 pub mod messages; // messages.rt: the messages in flight
-pub mod fill; // fill.rt: the parts that a store is filled with
+pub mod fill; // fill.rt: how a store is begun, and the parts that it is filled with
 
 // A row of a C line.
 pub struct CrashRow {

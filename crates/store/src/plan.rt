@@ -1,16 +1,17 @@
-// The P line, the rows of C and L lines, the last event's tick, the next message number and how many crash rows are done.
+// The P line, the ring's order, the rows of C and L lines, the last event's tick, the next message number and how many crash rows are done.
 use crate::CrashRow;
 use crate::DelayRow;
 use crate::cells;
 use crate::layout;
 ghost use mathlib.Core.Path.{_≡_};
 ghost use Prim.Native.Nat.{_+_, _^_, _<_, _≤_};
-ghost use lib.ListN.{length};
+ghost use lib.ListN.{length, getD};
+ghost use Rattle.ring.specs.Ring.{numbers};
 ghost use mathlib.Core.Bool.{true};
-ghost use Rattle.plans.specs.Plan.{planTest, delayOrder};
+ghost use Rattle.plans.specs.Plan.{planTest, delayOrder, orderOf};
 ghost use Rattle.model.specs.Platform.{crashedList, delayOf};
 ghost use Rattle.plans.specs.Plain.{rowAt};
-ghost use Rattle.limits.specs.Limits.{storeSize};
+ghost use Rattle.limits.specs.Limits.{storeSize, mostNodes};
 ghost use Rattle.store.specs.Store.{encode, planIn, stateIn};
 ghost use Rattle.store.specs.Inside.{Sized, Held, FirstRow, crashRow, delayAt, delayRow, withTick, crashed, numberTaken};
 
@@ -78,6 +79,14 @@ pub fn crashes_done(s: &[u8]) -> usize
     cells::get1(s, layout::CRASHES_DONE) as usize
 }
 
+// How many numbers the Q line has, 0 where there is none.
+pub fn ring_size(s: &[u8]) -> usize
+    requires { ⌜ length (now s) ≡ storeSize ⌝ }
+    ensures { λ r. ⌜ r ≡ length (planIn (now (s .entry)) .ring) ⌝ }
+{
+    cells::get1(s, layout::RING_SIZE) as usize
+}
+
 // How many C rows there are.
 pub fn crash_count(s: &[u8]) -> usize
     requires { ⌜ length (now s) ≡ storeSize ⌝ }
@@ -92,6 +101,29 @@ pub fn delay_count(s: &[u8]) -> usize
     ensures { λ r. ⌜ r ≡ length (planIn (now (s .entry)) .delays) ⌝ }
 {
     cells::get2(s, layout::DELAY_COUNT) as usize
+}
+
+// The number at a place of the Q line.
+pub fn ring_at(s: &[u8], i: usize) -> u8
+    requires { ⌜ Sized (now s) ⌝ }
+    requires { ⌜ i < length (planIn (now s) .ring) ⌝ }
+    ensures { λ r. ⌜ r ≡ getD (planIn (now (s .entry)) .ring) i 0 ⌝ }
+{
+    cells::get1(s, layout::RING_NODES + i)
+}
+
+// The ring's order: the store's own part with the numbers of the Q line, or, where there is none, the first N of all, which are in number order.
+pub fn ring_order<'a>(s: &'a [u8], all: &'a [u8]) -> &'a [u8]
+    requires { ⌜ Sized (now s) ⌝ }
+    requires { ⌜ now all ≡ numbers 0 mostNodes ⌝ }
+    ensures { λ r. ⌜ now r ≡ orderOf (planIn (now (s .entry))) ⌝ }
+{
+    let size = ring_size(s);
+    if size == 0 {
+        let n = node_count(s);
+        return &all[..n];
+    }
+    &s[layout::RING_NODES..layout::RING_NODES + size]
 }
 
 // The C row at a place.

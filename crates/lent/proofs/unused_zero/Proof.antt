@@ -27,9 +27,9 @@ returns-6 c =
     let spare = crashes .before .before .before in
     let nodes = spare .before .before in
     let head = nodes .before .before .before in
-    rw unused-here (part-holds (head .before .is-zero .ensures) (head .if1 .left)
+    rw unused-here (part-holds (head .before .ring-rest .ensures) (head .if1 .left)
     (nodes-hold _ (nodes .before .nodes-rest .ensures) (nodes .before .before .node-count .ensures) (nodes .if2 .left)
-    (part-holds (spare .before .is-zero2 .ensures) (spare .if3 .left)
+    (part-holds (spare .before .is-zero .ensures) (spare .if3 .left)
     (crashes-hold _ (crashes .before .rows-rest .ensures) (crashes .before .before .crash-count .ensures) (crashes .if4 .left)
     (delays-hold _ (delays .before .rows-rest2 .ensures) (delays .before .before .delay-count .ensures) (delays .if5 .left)
     (messages-fail _ (c .before .messages-rest .ensures) (c .before .before .message-count .ensures) (c .if6 .taken) _))))))
@@ -42,13 +42,13 @@ returns-7 c =
     let spare = crashes .before .before .before in
     let nodes = spare .before .before in
     let head = nodes .before .before .before in
-    rw unused-here (part-holds (head .before .is-zero .ensures) (head .if1 .left)
+    rw unused-here (part-holds (head .before .ring-rest .ensures) (head .if1 .left)
     (nodes-hold _ (nodes .before .nodes-rest .ensures) (nodes .before .before .node-count .ensures) (nodes .if2 .left)
-    (part-holds (spare .before .is-zero2 .ensures) (spare .if3 .left)
+    (part-holds (spare .before .is-zero .ensures) (spare .if3 .left)
     (crashes-hold _ (crashes .before .rows-rest .ensures) (crashes .before .before .crash-count .ensures) (crashes .if4 .left)
     (delays-hold _ (delays .before .rows-rest2 .ensures) (delays .before .before .delay-count .ensures) (delays .if5 .left)
     (messages-hold _ (messages .before .messages-rest .ensures) (messages .before .before .message-count .ensures) (messages .if6 .left)
-    (c .is-zero3 .ensures)))))))
+    (c .is-zero2 .ensures)))))))
 
 pub unused-zero-spec : {M : Type 1} → statement M
 unused-zero-spec =

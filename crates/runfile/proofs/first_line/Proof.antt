@@ -9,24 +9,24 @@ use Rattle.runfile.proofs.first_line.Statement.{statement}
 use Rattle.runfile.proofs.first_line.Tie as tie
 
 returns : tie.Need-returns
-returns c = first-none _ (row-empty _ (c .if1 .taken))
+returns c = first-none _ (row-empty 0 _ (c .if1 .taken))
 
 returns-2 : tie.Need-returns-2
-returns-2 c = first-other _ (c .before .before .if1 .left) (c .if2 .taken)
+returns-2 c = first-other 0 _ (c .before .before .if1 .left) (c .if2 .taken)
 
 enum-told : tie.Need-enum-told
 enum-told c = search needs
 
 returns-3 : tie.Need-returns-3
 returns-3 c =
-    first-none _ (row-start _ (c .before .before .before .before .before .if1 .left) (c .before .before .before .if2 .left) ∙ start-none-1 _
+    first-none _ (row-start 0 _ (c .before .before .before .before .before .if1 .left) (c .before .before .before .if2 .left) ∙ start-none-1 _
     (sym (c .before .before .read-field .ensures) ∙ c .enum-told .given .1))
 
 returns-4 : tie.Need-returns-4
 returns-4 c =
     let n = c .before .before .before .before in
     let s = n .before .before .before in
-    first-none _ (row-start _ (s .before .before .if1 .left) (s .if2 .left) ∙ start-none-2 _ _ _
+    first-none _ (row-start 0 _ (s .before .before .if1 .left) (s .if2 .left) ∙ start-none-2 _ _ _
     (sym (n .before .before .read-field .ensures) ∙ n .n .given .1) (sym (c .before .before .read-field2 .ensures) ∙ c .enum-told2 .given .1))
 
 returns-5 : tie.Need-returns-5
@@ -34,7 +34,7 @@ returns-5 c =
     let h = c .before .before .before .before in
     let n = h .before .before .before .before in
     let s = n .before .before .before in
-    first-none _ (row-start _ (s .before .before .if1 .left) (s .if2 .left) ∙ start-none-3 _ _ _
+    first-none _ (row-start 0 _ (s .before .before .if1 .left) (s .if2 .left) ∙ start-none-3 _ _ _
     (sym (n .before .before .read-field .ensures) ∙ n .n .given .1) _ _ (sym (h .before .before .read-field2 .ensures) ∙ h .h .given .1)
     (sym (c .before .before .read-field3 .ensures) ∙ c .enum-told3 .given .1))
 
@@ -44,7 +44,7 @@ returns-6 c =
     let h = w .before .before .before .before in
     let n = h .before .before .before .before in
     let s = n .before .before .before in
-    first-none _ (row-start _ (s .before .before .if1 .left) (s .if2 .left) ∙ start-none-4 _ _ _
+    first-none _ (row-start 0 _ (s .before .before .if1 .left) (s .if2 .left) ∙ start-none-4 _ _ _
     (sym (n .before .before .read-field .ensures) ∙ n .n .given .1) _ _ (sym (h .before .before .read-field2 .ensures) ∙ h .h .given .1) _ _
     (sym (w .before .before .read-field3 .ensures) ∙ w .w .given .1) (sym (c .before .before .read-field4 .ensures) ∙ c .enum-told4 .given .1))
 
@@ -55,7 +55,7 @@ returns-7 c =
     let h = w .before .before .before .before in
     let n = h .before .before .before .before in
     let s = n .before .before .before in
-    first-none _ (row-start _ (s .before .before .if1 .left) (s .if2 .left) ∙ start-none-5 _ _ _
+    first-none _ (row-start 0 _ (s .before .before .if1 .left) (s .if2 .left) ∙ start-none-5 _ _ _
     (sym (n .before .before .read-field .ensures) ∙ n .n .given .1) _ _ (sym (h .before .before .read-field2 .ensures) ∙ h .h .given .1) _ _
     (sym (w .before .before .read-field3 .ensures) ∙ w .w .given .1) _ _ (sym (d .before .before .read-field4 .ensures) ∙ d .d .given .1)
     (sym (c .before .before .read-field5 .ensures) ∙ c .enum-told5 .given .1))
@@ -68,7 +68,7 @@ returns-8 c =
     let h = w .before .before .before .before in
     let n = h .before .before .before .before in
     let s = n .before .before .before in
-    first-none _ (row-start _ (s .before .before .if1 .left) (s .if2 .left) ∙ start-none _ _ _
+    first-none _ (row-start 0 _ (s .before .before .if1 .left) (s .if2 .left) ∙ start-none _ _ _
     (sym (n .before .before .read-field .ensures) ∙ n .n .given .1) _ _ (sym (h .before .before .read-field2 .ensures) ∙ h .h .given .1) _ _
     (sym (w .before .before .read-field3 .ensures) ∙ w .w .given .1) _ _ (sym (d .before .before .read-field4 .ensures) ∙ d .d .given .1) _ _
     (sym (end .before .before .read-field5 .ensures) ∙ end .end .given .1) (sym (c .before .ends .ensures) ∙ not-true _ (c .if3 .taken)))
@@ -84,7 +84,7 @@ returns-9 c =
     let s = n .before .before .before in
     c .take-start .ensures
     ∙ sym
-    (rw (row-start _ (s .before .before .if1 .left) (s .if2 .left) ∙ start-some _ _ _ (sym (n .before .before .read-field .ensures) ∙ n .n .given .1) _
+    (rw (row-start 0 _ (s .before .before .if1 .left) (s .if2 .left) ∙ start-some _ _ _ (sym (n .before .before .read-field .ensures) ∙ n .n .given .1) _
     _ (sym (h .before .before .read-field2 .ensures) ∙ h .h .given .1) _ _ (sym (w .before .before .read-field3 .ensures) ∙ w .w .given .1) _ _
     (sym (d .before .before .read-field4 .ensures) ∙ d .d .given .1) _ _ (sym (end .before .before .read-field5 .ensures) ∙ end .end .given .1)
     (sym (c .before .before .ends .ensures) ∙ not-false _ (c .before .if3 .left))))
