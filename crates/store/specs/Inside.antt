@@ -16,7 +16,7 @@ use Rattle.store.specs.declared.Flight.{Flight}
 
 -- ---- which bytes a function takes
 
--- no more nodes, rows and messages than there are places
+-- no more nodes, numbers of the Q line, rows and messages than there are places
 pub record Counts (p : Plan) (s : State) : Type 0 where
   pub nodes : p .n ≤ mostNodes
   pub ring : length (p .ring) ≤ mostNodes
@@ -24,7 +24,7 @@ pub record Counts (p : Plan) (s : State) : Type 0 where
   pub delays : length (p .delays) ≤ mostDelays
   pub messages : length (s .flight) ≤ mostInFlight
 
--- bytes of a store's length with no more nodes, rows and messages than there are places: what reading them takes
+-- bytes of a store's length with no more of these than there are places: what reading them takes
 pub record Sized (b : List ℕ) : Type 0 where
   pub size : length b ≡ storeSize
   pub counts : Counts (planIn b) (stateIn b)

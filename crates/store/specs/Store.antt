@@ -243,7 +243,7 @@ stateIn b = record {
 
 -- ---- number 7: other length, a field out of range, or an unused byte not zero
 
--- the length is the store's, no rows and messages beyond their places, what it holds is in range, and every unused byte is zero
+-- the length is the store's, no numbers, rows and messages beyond their places, what it holds is in range, and every unused byte is zero
 unfoldable pub storeInRange : List ℕ → Bool
 storeInRange b =
     eqb (length b) storeSize
