@@ -25,7 +25,9 @@ edit() {
         tell "$1/$2: not tried, there is no $log"
         return
     fi
-    first=$(grep -m 1 ': error: ' "$log" | sed "s|.*/must-fail/$1/$2/||" | cut -c 1-300)
+    # the first error, with the line in which its words go on
+    first=$(awk '!e && /: error: / { e = $0; next } e { if (sub(/^  +/, " ")) e = e $0; exit } END { print e }' "$log" |
+        sed "s|.*/must-fail/$1/$2/||" | cut -c 1-300)
     [ -z "$shown" ] || echo "$1/$2: $first"
     case $first in
     *'can be named from here'* | *'type to bind, but the signature'* | *'is not in scope'* | *'has no field'* | *'expected type `tie.Need-'* | *'-spec`: '*)
