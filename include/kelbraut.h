@@ -6,8 +6,8 @@
  *
  * Up to 64 nodes stand in a ring. Each sends heartbeats to the node after it, its observer, and watches the node before
  * it, its emitter. A node that hears nothing from its emitter for the time-out puts it on its dead list, watches the next
- * node back, and tells the others by reports. A node that is rehearsed in a ring in number order does what a node in the
- * field does. Time is counted in ticks.
+ * node back, and tells the others by reports; one to which its emitter is reported does so at once. A node that is
+ * rehearsed in a ring in number order does what a node in the field does. Time is counted in ticks.
  *
  * The calls have no state of their own, allocate nothing and always return: all that they know stands in the bytes that
  * the program lends to each call. What a call may write must not overlap with anything else that is lent to it, and no
@@ -47,7 +47,7 @@ extern "C" {
 /* Kinds of message. */
 #define KELBRAUT_HEARTBEAT 'H' /* the sender lives; goes to its observer */
 #define KELBRAUT_OBSERVER 'O'  /* the sender is the receiver's new observer */
-#define KELBRAUT_REPORT 'R'    /* the subject is dead */
+#define KELBRAUT_REPORT 'R'    /* the subject is dead; where it is the receiver's emitter, the receiver leaves it */
 
 /*
  * ---- A node ----
@@ -143,7 +143,10 @@ uint64_t kelbraut_node_open(uint8_t *record, size_t record_size, uint64_t number
 
 /*
  * Delivers a message that node `sender` sent to this record's node. On a heartbeat and on a new observer's message the
- * subject is not looked at. Writes the record and the first 56 bytes of the message part.
+ * subject is not looked at. A report of the node's emitter does what its expired watch would do: the node watches the next
+ * one back, for twice `w` at first, and sends it a new observer's message and then reports; or it is alone, both timers
+ * off, and sends nothing. So look at kelbraut_next_due again after a delivery. Writes the record and the first 56 bytes of
+ * the message part.
  * Answers 0, 10, 12, 11 or 9.
  */
 uint64_t kelbraut_node_deliver(uint8_t *record, size_t record_size, uint64_t tick, uint64_t kind, uint64_t sender,
@@ -283,7 +286,8 @@ static inline uint8_t kelbraut_subject(const uint8_t message[KELBRAUT_MESSAGE]) 
 
 /*
  * Letters of events. A message that is delivered has its kind for letter: KELBRAUT_HEARTBEAT and KELBRAUT_OBSERVER with
- * the sender as other, KELBRAUT_REPORT with the subject, which the node lists from then on.
+ * the sender as other, KELBRAUT_REPORT with the subject, which the node lists from then on; where that is the node's
+ * emitter, the node leaves it in the same event, as at KELBRAUT_EXPIRED.
  */
 #define KELBRAUT_CRASH 'C'   /* the node crashes; other: the node itself */
 #define KELBRAUT_DROPPED 'X' /* a message to the node, which has crashed, is dropped; other: the sender */

@@ -2,6 +2,9 @@
 //! Nothing may be found with W = H + D or more; with W = H + D − 1, and by wrong rules, something has to be. Most rings are in the order of
 //! their numbers, some in another. There too a tick goes by number, so that what it does is not what it does to the nodes renamed.
 //!
+//! In none of these rings a report of the emitter moves a node. That takes more nodes, and the search then has fewer choices: all messages
+//! take D ticks, and only the nodes that are named crash, at any tick.
+//!
 //! Usage: exhaust                      the table
 //!        exhaust N H W D END [NODE..] one search, in the order of the nodes named or of the numbers; writes a run in which something is
 //!                                     found, as a run file
@@ -59,6 +62,21 @@ const ORDERED: [(&[u8], u32, u32); 5] = [(&APART, 1, 1), (&APART, 2, 1), (&APART
 /// N, H and D of the searches with W = H + D in every order of N nodes. With D = 1 all orders lead to as many events, with D = 2 they do not.
 const EVERY_ORDER: [(u8, u32, u32); 2] = [(3, 1, 2), (4, 3, 2)];
 
+/// Nine nodes, the steps between neighbours being 2.
+const STRIDING: [u8; 9] = [0, 2, 4, 6, 8, 1, 3, 5, 7];
+/// The end tick of the searches in larger rings.
+const LATE_END: u32 = 150;
+
+/// N, the order, H, D and the nodes that may crash of the searches in larger rings, with W = H + D.
+const REPORTED: [(u8, &[u8], u32, u32, &[u8]); 6] = [
+    (9, &[], 1, 3, &[1, 2, 3, 4]),
+    (9, &[], 1, 5, &[1, 2, 3, 4]),
+    (9, &STRIDING, 1, 3, &[2, 4, 6, 8]),
+    (9, &[], 1, 3, &[1, 2, 3, 4, 5]),
+    (9, &[], 1, 3, &[0, 1, 2, 3, 4, 8]),
+    (8, &[], 1, 5, &[0, 1, 2, 3, 5]),
+];
+
 /// Searches by a wrong rule, and what has to be found.
 const WRONG: [(Rules, (u8, u32, u32, u32), Finding); 5] = [
     (Rules::ShortWatch, (3, 1, 3, 2), Finding::LiveNodeListed),
@@ -69,33 +87,51 @@ const WRONG: [(Rules, (u8, u32, u32, u32), Finding); 5] = [
 ];
 
 fn search((nodes, period, timeout, delay): (u8, u32, u32, u32)) -> Search {
-    Search { nodes, order: Vec::new(), period, timeout, delay, end: END, rules: Rules::Paper }
+    Search { nodes, order: Vec::new(), period, timeout, delay, least_delay: 1, mortal: u64::MAX, end: END, rules: Rules::Paper }
+}
+
+/// A search in a larger ring: all messages take D ticks, and only these nodes crash.
+fn reported((nodes, order, period, delay, mortal): (u8, &[u8], u32, u32, &[u8])) -> Search {
+    let mortal = mortal.iter().fold(0, |list, node| list | 1 << node);
+    let search = search((nodes, period, period + delay, delay));
+    Search { order: order.to_vec(), least_delay: delay, mortal, end: LATE_END, ..search }
+}
+
+/// Numbers parted by commas, or `-` for none.
+fn listed_numbers(numbers: &[u8]) -> String {
+    if numbers.is_empty() {
+        return "-".to_string();
+    }
+    numbers.iter().map(u8::to_string).collect::<Vec<_>>().join(",")
 }
 
 fn searched(search: &Search) -> Outcome {
     let outcome = search.explore();
-    let Search { nodes, period, timeout, delay, rules, order, .. } = search;
+    let Search { nodes, period, timeout, delay, rules, order, mortal, .. } = search;
     let found = match &outcome.found {
         None => "nothing".to_string(),
         Some(Found { finding, tick, .. }) => format!("{finding:?} at tick {tick}"),
     };
     let runs = if outcome.found.is_none() { format!("{:.1e}", outcome.runs) } else { "-".to_string() };
     let closed = outcome.closed.map_or("-".to_string(), |tick| tick.to_string());
-    let order = if order.is_empty() { "-".to_string() } else { order.iter().map(u8::to_string).collect::<Vec<_>>().join(",") };
-    let (Outcome { states, events, .. }, rules) = (&outcome, format!("{rules:?}"));
+    let order = listed_numbers(order);
+    let mortal: Vec<u8> = (0..*nodes).filter(|node| mortal >> node & 1 == 1).collect();
+    let mortal = if mortal.len() == usize::from(*nodes) { "all".to_string() } else { listed_numbers(&mortal) };
+    let (Outcome { states, events, moves_by_report, .. }, rules) = (&outcome, format!("{rules:?}"));
     let numbers = format!("{nodes:>2} {period:>2} {timeout:>2} {delay:>2}");
-    println!("{rules:<13} {numbers} {order:<9} {states:>8} {events:>9} {runs:>8} {closed:>6}  {found}");
+    let counts = format!("{states:>8} {events:>9} {moves_by_report:>6} {runs:>8} {closed:>6}");
+    println!("{rules:<13} {numbers} {order:<17} {mortal:<11} {counts}  {found}");
     outcome
 }
 
 fn heading(what: &str) {
-    println!("\n{what}\nrules          N  H  W  D order       states    events     runs closed  found");
+    println!("\n{what}\nrules          N  H  W  D order             crash         states    events  moves     runs closed  found");
 }
 
 /// Nothing is found, whatever the end tick.
-fn kept(search: &Search) -> Result<(), String> {
+fn kept(search: &Search) -> Result<Outcome, String> {
     match searched(search) {
-        Outcome { found: None, closed: Some(_), .. } => Ok(()),
+        outcome @ Outcome { found: None, closed: Some(_), .. } => Ok(outcome),
         _ => Err(format!("something is found, or may be later, in {search:?}")),
     }
 }
@@ -148,12 +184,26 @@ fn table() -> Result<(), String> {
             kept(&Search { order, ..search((nodes, period, period + delay, delay)) })?;
         }
     }
-    heading("Wrong rules: W for 2 x W after moving, timers before deliveries, S shorter by 2 x D:");
-    for (rules, numbers, finding) in WRONG {
-        let wrong = Search { rules, ..search(numbers) };
-        if searched(&wrong).found.map(|found| found.finding) != Some(finding) {
-            return Err(format!("{finding:?} is not found in {wrong:?}"));
+    heading("Larger rings, all messages D ticks in flight; reports of the emitter move nodes:");
+    for numbers in REPORTED {
+        if kept(&reported(numbers))?.moves_by_report == 0 {
+            return Err(format!("no report moves a node in {:?}", reported(numbers)));
         }
+    }
+    heading("Wrong rules: W for 2 x W after moving, timers before deliveries, S shorter by 2 x D; W for 2 x W after a move by report:");
+    for (rules, numbers, finding) in WRONG {
+        finds(&Search { rules, ..search(numbers) }, finding)?;
+    }
+    for numbers in &REPORTED[..3] {
+        finds(&Search { rules: Rules::ShortReported, ..reported(*numbers) }, Finding::LiveNodeListed)?;
+    }
+    Ok(())
+}
+
+/// A search by a wrong rule finds this.
+fn finds(wrong: &Search, finding: Finding) -> Result<(), String> {
+    if searched(wrong).found.map(|found| found.finding) != Some(finding) {
+        return Err(format!("{finding:?} is not found in {wrong:?}"));
     }
     Ok(())
 }
@@ -177,7 +227,8 @@ fn one(numbers: &[u32]) -> Result<(), String> {
 fn main() -> ExitCode {
     let words: Result<Vec<u32>, _> = std::env::args().skip(1).map(|word| word.parse()).collect();
     let began = Instant::now();
-    println!("exhaust: states at the start of a tick; all runs up to the end tick, {END} in the table;");
+    println!("exhaust: states at the start of a tick; all runs up to the end tick, {END} in the table, {LATE_END} in larger rings;");
+    println!("exhaust: moves are the reports that move a node;");
     println!("exhaust: closed is the tick after which no new state comes up, so that the answer holds for every end tick");
     let done = match words {
         Ok(words) if words.is_empty() => table(),

@@ -24,6 +24,8 @@ const RECORD: usize = 64;
 const MESSAGE: usize = 8;
 const PART: usize = MESSAGE_BYTES;
 const REFUSED_RECORD: u64 = 10;
+/// Where a record has its emitter.
+const EMITTER: usize = 6;
 
 #[derive(Clone, Copy, Debug)]
 enum Call {
@@ -70,7 +72,7 @@ fn decode(bytes: &[u8]) -> Option<Record> {
     }
     let (me, nodes) = (bytes[0], bytes[1]);
     let (h, w) = (number(&bytes[2..4]), number(&bytes[4..6]));
-    let (emitter, observer, list) = (bytes[6], bytes[7], number(&bytes[8..16]));
+    let (emitter, observer, list) = (bytes[EMITTER], bytes[7], number(&bytes[8..16]));
     let last = number(&bytes[16..20]);
     let (watch, heartbeat) = (timer(&bytes[20..24]), timer(&bytes[24..28]));
     let good = (1..=MAX_NODES).contains(&u64::from(nodes))
@@ -80,6 +82,7 @@ fn decode(bytes: &[u8]) -> Option<Record> {
         && last <= MAX_TICK
         && (nodes == 64 || list >> nodes == 0)
         && list >> me & 1 == 0
+        && list >> emitter & 1 == 0
         && watch.is_none_or(|due| emitter != me && u64::from(due) <= last + 2 * w)
         && heartbeat.is_none_or(|due| observer != me && u64::from(due) <= last + h)
         && bytes[28..].iter().all(|b| *b == 0);
@@ -121,6 +124,8 @@ enum Wrong {
     No,
     RenewedByAnyone,
     ShortAfterMoving,
+    ShortAfterReport,
+    ReportedEmitterKept,
     LastTickLost,
 }
 
@@ -162,6 +167,10 @@ fn spoil(call: Call, before: Record, record: &mut Record, wrong: Wrong) {
         (Wrong::ShortAfterMoving, Call::Timers { tick }) if before.node.emitter != record.node.emitter => {
             record.node.watch = record.node.watch.map(|_| tick as u32 + record.settings.timeout);
         }
+        (Wrong::ShortAfterReport, Call::Deliver { tick, .. }) if before.node.emitter != record.node.emitter => {
+            record.node.watch = record.node.watch.map(|_| tick as u32 + record.settings.timeout);
+        }
+        (Wrong::ReportedEmitterKept, Call::Deliver { .. }) => record.node.emitter = before.node.emitter,
         (Wrong::LastTickLost, _) => record.last_tick = before.last_tick,
         _ => {}
     }
@@ -180,13 +189,16 @@ fn leave(lent: &mut Lent, record: &Record, sends: &Sends) {
 struct Compared {
     calls: u64,
     accepted: u64,
+    /// Reports that made the node leave its emitter, and those of them that left it alone.
+    reported: u64,
+    alone: u64,
     differences: u64,
     wrong: Wrong,
 }
 
 impl Compared {
     fn new(wrong: Wrong) -> Compared {
-        Compared { calls: 0, accepted: 0, differences: 0, wrong }
+        Compared { calls: 0, accepted: 0, reported: 0, alone: 0, differences: 0, wrong }
     }
 
     /// Makes the call both ways; the lent bytes are then those that the proved call left.
@@ -197,6 +209,12 @@ impl Compared {
         let wanted = expected(call, &mut other, self.wrong);
         self.calls += 1;
         self.accepted += u64::from(answer == 0);
+        if let (Call::Deliver { .. }, 0) = (call, answer) {
+            let [me, emitter] = [0, EMITTER].map(|place| lent.record[place]);
+            let moved = before.record[EMITTER] != emitter;
+            self.reported += u64::from(moved);
+            self.alone += u64::from(moved && emitter == me);
+        }
         if answer == wanted && *lent == other {
             assert!(answer == 0 || *lent == before);
         } else if self.wrong == Wrong::No {
@@ -261,7 +279,8 @@ impl Ring {
         let odd = [nodes, 64, 255, 256, 256 + node, u64::MAX];
         let kind = if random.chance(12) { random.draw() >> random.below(64) } else { u64::from(random.pick(b"HOR")) };
         let sender = if random.chance(12) { random.pick(&odd) } else { random.below(nodes) };
-        let subject = if random.chance(6) { random.pick(&odd) } else { random.below(nodes) };
+        let (any, emitter) = (random.below(nodes), u64::from(self.records[node as usize][EMITTER]));
+        let subject = if random.chance(6) { random.pick(&odd) } else { random.pick(&[any, any, emitter]) };
         (node as usize, Call::Deliver { tick, kind, sender, subject })
     }
 }
@@ -314,6 +333,35 @@ fn reached(compared: &mut Compared, seed: u64) -> Vec<Vec<u8>> {
         }
     }
     records
+}
+
+/// Each node of a ring gets reports of one emitter after another until it is alone, with the watch on and off, and before that a report
+/// of each other node. A record that lists its emitter is refused, whatever the call.
+fn reported_emitters(compared: &mut Compared) {
+    for nodes in [2, 3, 5, 8, 17, 64] {
+        for number in 0..nodes {
+            let mut now = lent(&[0; RECORD], vec![0; PART]);
+            compared.call(Call::Open { number, nodes, h: 4, w: 9 }, &mut now);
+            let sender = (number + 1) % nodes;
+            let report = |tick, subject: u64| Call::Deliver { tick, kind: u64::from(b'R'), sender, subject };
+            for tick in 1..nodes {
+                let emitter = u64::from(now.record[EMITTER]);
+                for subject in 0..nodes {
+                    compared.call(report(tick, subject), &mut now.clone());
+                }
+                let mut off = now.clone();
+                off.record[20..24].fill(0);
+                assert_eq!(compared.call(report(tick, emitter), &mut off), 0);
+                let mut listed = now.clone();
+                listed.record[8 + emitter as usize / 8] |= 1 << (emitter % 8);
+                for call in [report(tick, emitter), report(tick, sender), Call::Timers { tick }] {
+                    assert_eq!(compared.call(call, &mut listed), REFUSED_RECORD);
+                }
+                assert_eq!(compared.call(report(tick, emitter), &mut now), 0);
+            }
+            assert!(u64::from(now.record[EMITTER]) == number && now.record[20..28] == [0; 8], "node {number} of {nodes} is not alone");
+        }
+    }
 }
 
 fn damaged_records(compared: &mut Compared, records: &[Vec<u8>]) {
@@ -388,12 +436,17 @@ fn main() {
     for i in 0..600 {
         sequence(&mut compared, seed + i);
     }
+    reported_emitters(&mut compared);
     let records = reached(&mut compared, seed);
     damaged_records(&mut compared, &records);
     lengths(&mut compared, &records);
     numbers(&mut compared, &records);
-    for wrong in [Wrong::RenewedByAnyone, Wrong::ShortAfterMoving, Wrong::LastTickLost] {
+    for wrong in
+        [Wrong::RenewedByAnyone, Wrong::ShortAfterMoving, Wrong::ShortAfterReport, Wrong::ReportedEmitterKept, Wrong::LastTickLost]
+    {
         tells(wrong, seed);
     }
-    println!("host: {} calls alike, {} of them accepted; wrong rules told apart", compared.calls, compared.accepted);
+    let Compared { calls, accepted, reported, alone, .. } = compared;
+    println!("host: {calls} calls alike, {accepted} of them accepted; {reported} moves by report, {alone} of them to be alone; wrong rules told apart");
+    assert!(reported > 10_000 && alone > 300, "too few moves by report");
 }

@@ -42,9 +42,8 @@ loop() {
     c99 "$out/loop" -I"$out" tests/loop.c
     prints "$out/loop" <<'LINES'
 tick 10: H to 2, subject 0
+tick 15: O to 2, subject 0
 tick 15: R to 2, subject 0
-tick 17: O to 2, subject 0
-tick 17: R to 2, subject 0
 tick 20: H to 2, subject 0
 tick 30: H to 2, subject 0
 tick 31: H to 2, subject 0

@@ -18,7 +18,7 @@ macro_rules! mistakes {
             $($name,)*
         }
 
-        pub const MISTAKES: [Mistake; 37] = [$($name,)*];
+        pub const MISTAKES: [Mistake; 41] = [$($name,)*];
     };
 }
 
@@ -60,6 +60,10 @@ mistakes! {
     TwiceNotLookedAt,
     CountNotLookedAt,
     BeyondCountNotLookedAt,
+    ReportedEmitterKept,
+    ShortAfterReport,
+    ListedEmitterNotLookedAt,
+    ListedEmitterOfCrashedNotLookedAt,
 }
 
 use Mistake::*;
@@ -129,6 +133,15 @@ fn open(file: &[u8], store: &mut [u8]) -> u64 {
     0
 }
 
+/// Takes the emitters out of the lists, of the crashed nodes or of all.
+fn unlist_emitters(store: &mut [u8], all: bool) {
+    let crashed: Vec<u64> = (0..get(store, CRASHES_DONE, 0).min(64)).map(|row| get(store, CRASH_NODE, row as usize)).collect();
+    for place in (0..64).filter(|place| all || crashed.contains(&(*place as u64))) {
+        let list = get(store, DEAD_LIST, place) & !(1 << (get(store, EMITTER, place) % 64));
+        put(store, DEAD_LIST, place, list);
+    }
+}
+
 /// What the call takes the store to hold, in number order where it forgets the order.
 fn hold(store: &[u8], forgets: bool) -> Option<Held> {
     if store.len() != STORE_BYTES {
@@ -141,6 +154,9 @@ fn hold(store: &[u8], forgets: bool) -> Option<Held> {
     if is_made(PastNotLookedAt) && get(&seen, MESSAGES, 0) > 0 {
         let due = get(&seen, MESSAGE_DUE, 0).max(get(&seen, LAST_TICK, 0));
         put(&mut seen, MESSAGE_DUE, 0, due);
+    }
+    if is_made(ListedEmitterNotLookedAt) || is_made(ListedEmitterOfCrashedNotLookedAt) {
+        unlist_emitters(&mut seen, is_made(ListedEmitterNotLookedAt));
     }
     let [nodes, count] = [NODES, ORDERED].map(|field| get(&seen, field, 0));
     let used: Vec<u64> = (0..count.min(64)).map(|place| get(&seen, ORDER, place as usize)).collect();
@@ -208,6 +224,15 @@ fn spoil(call: Call, answer: &mut Answer, before: &[u8], store: &mut [u8], part:
         }
         (Call::Step, 0) if is_made(RenewedByAnyone) && answer[1] == u64::from(b'H') => {
             put(store, WATCH, answer[3] as usize, answer[2] + get(store, TIMEOUT, 0) + 1);
+        }
+        (Call::Step, 0) if is_made(ReportedEmitterKept) && answer[1] == u64::from(b'R') => {
+            put(store, EMITTER, answer[3] as usize, get(before, EMITTER, answer[3] as usize));
+        }
+        (Call::Step, 0) if is_made(ShortAfterReport) && answer[1] == u64::from(b'R') => {
+            let [node, tick] = [answer[3], answer[2]];
+            if get(before, EMITTER, node as usize) != get(store, EMITTER, node as usize) {
+                put(store, WATCH, node as usize, tick + get(store, TIMEOUT, 0) + 1);
+            }
         }
         (Call::Step, 0) if is_made(FewerInFlight) && get(store, MESSAGES, 0) == MAX_IN_FLIGHT as u64 && before != &*store => {
             store.copy_from_slice(before);

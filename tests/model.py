@@ -1,8 +1,8 @@
 """Small run files with the logs that the simulator writes of them, as equations about the definitions: for each file, that the
 log which `model` defines has the simulator's bytes. The checker proves each by computing.
 
-Usage: model.py SIMULATE EDGES SEED COUNT, the simulator's program and the crate of the starred edges: the imports of its table and of its
-proof, and the proof's unfoldings, serve here too. Writes the proof file to standard output.
+Usage: model.py SIMULATE EDGES SEED COUNT FILE.., the simulator's program and the crate of the starred edges: the imports of its table and of
+its proof, and the proof's unfoldings, serve here too. COUNT random files and those named. Writes the proof file to standard output.
 """
 import os
 import random
@@ -10,7 +10,7 @@ import re
 import subprocess
 import sys
 
-simulate, edges, seed, count = sys.argv[1], sys.argv[2], int(sys.argv[3]), int(sys.argv[4])
+simulate, edges, seed, count, named = sys.argv[1], sys.argv[2], int(sys.argv[3]), int(sys.argv[4]), sys.argv[5:]
 choose = random.Random(seed)
 
 
@@ -35,7 +35,7 @@ def literal(text):
 
 
 def read(path):
-    with open(os.path.join(edges, path), encoding="utf-8") as file:
+    with open(path, encoding="utf-8") as file:
         return file.read()
 
 
@@ -55,12 +55,12 @@ def written_of(table):
     return [f"unfoldable writtenOf : ℕ → {kind}", *(f"writtenOf tries {re.sub(r'20', 'tries', clause)}" for clause in clauses)]
 
 
-table, proof = read("specs/Edges.antt"), read("proofs/Starred.antt")
+table, proof = (read(os.path.join(edges, path)) for path in ("specs/Edges.antt", "proofs/Starred.antt"))
 unfolded = " ".join(" ".join(re.findall(r"^unfolding (.*(?:\n +.*)*)$", proof, re.M)).split())
 own = ["use Rattle.edges.specs.Edges.{" + name + "}" for name in ("bytes", "judged", "logText")]
 print("\n".join([*imports(table, proof, *own), "", *written_of(table), ""]))
-for case in range(count):
-    file = run_file()
+files = [run_file() for _ in range(count)] + [read(path) for path in named]
+for case, file in enumerate(files):
     log = subprocess.run([simulate], input=file.encode(), capture_output=True, check=True).stdout.decode()
     tries = log.count("\n")
     print(f"case-{case} : writtenOf {tries} (judged {literal(file)}) ≡ bytes {literal(log)}")

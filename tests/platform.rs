@@ -1,7 +1,8 @@
 //! The platform's four calls through the static library, beside the simulator: opening, step, run and the run-file writer.
 //! Every call must give the same answer and leave the same lent bytes and the same numbers behind its pointers: on files good and
 //! damaged, on steps and runs mixed at random, on runs of any budget from any place of a file, on stores of which every single byte is
-//! changed in turn, those of the ring's order in more ways, on lent stores that no file leads to, and on 01's edges and 02's of a Q line.
+//! changed in turn, those of the ring's order in more ways, on lent stores that no file leads to, and on 01's edges and 02's of a Q line
+//! and of reported emitters.
 //!
 //! Usage: platform [SEED [COUNT]]. A difference prints its seed and index, the call and the file, and the program fails.
 //!
@@ -88,6 +89,9 @@ struct Seen {
     numbers: [u64; 14],
     spent: u64,
     done: u64,
+    /// Reports that moved a node; and steps by which one did so and left the node alone.
+    reported: u64,
+    alone: u64,
     met: runs::Met,
 }
 
@@ -119,7 +123,12 @@ impl Seen {
     /// Makes the call both ways. `held` is what the store holds, before and after.
     fn call(&mut self, call: Call, store: &mut Lent, part: &mut Lent, held: &mut Option<Held>) -> Result<Answer, String> {
         let (before, mut part_left) = (store.part().to_vec(), part.part().to_vec());
+        let reported = held.as_ref().map_or(0, |held| held.platform.moves_by_report());
         let wanted = simulated(call, held.as_mut(), &mut part_left);
+        if let Some(platform) = held.as_ref().map(|held| &held.platform).filter(|platform| platform.moves_by_report() > reported) {
+            self.reported += platform.moves_by_report() - reported;
+            self.alone += u64::from(call == Call::Step && platform.nodes()[wanted[3] as usize].emitter == wanted[3] as u8);
+        }
         let store_left = held.as_ref().map_or(before, Held::encode);
         let answer = proved::call(call, store.part_mut(), part.part_mut());
         self.count(answer[0]);
@@ -336,7 +345,27 @@ fn changed_orders(seen: &mut Seen) -> Result<(), String> {
     Ok(())
 }
 
-// ---- 01's edges, and 02's of a Q line
+// ---- listed emitters in a store
+
+/// A node that lists its emitter is refused by 7, a crashed one too; one that lists another node instead is not. The first file's node 3
+/// has crashed after 50 events.
+fn listed_emitters(seen: &mut Seen) -> Result<(), String> {
+    for (file, events) in [(MIDST, 0), (MIDST, 50), (ORDERED, 50)] {
+        let bytes = reached(file.as_bytes(), events);
+        for place in 0..5 {
+            let emitter = layout::get(&bytes, layout::EMITTER, place);
+            let another = (0..5).find(|node| *node != emitter && *node != place as u64).expect("there are five nodes");
+            for (node, number) in [(emitter, REFUSED_STORE), (another, 0)] {
+                let mut changed = bytes.clone();
+                layout::put(&mut changed, layout::DEAD_LIST, place, 1 << node);
+                gets(seen, &changed, number).map_err(|error| format!("node {place} lists {node}: {error}\n{}", shown(file.as_bytes())))?;
+            }
+        }
+    }
+    Ok(())
+}
+
+// ---- 01's edges, and 02's of a Q line and of reported emitters
 
 /// A store opened from the file, and what it holds.
 fn opened(seen: &mut Seen, file: &[u8]) -> Result<(Lent, Option<Held>), String> {
@@ -468,6 +497,27 @@ fn orders(seen: &mut Seen) -> Result<(), String> {
     Ok(())
 }
 
+/// A report of the emitter moves node 4 of ten at tick 27, node 5 of nine at tick 81.
+fn reported_emitters(seen: &mut Seen) -> Result<(), String> {
+    logged(seen, include_str!("reported-ten.run"), include_str!("reported-ten.log"))?;
+    logged(seen, include_str!("reported-nine.run"), include_str!("reported-nine.log"))
+}
+
+/// A report of the emitter leaves a node alone only on a lent store: here node 1, which lists 2 and observes 0.
+fn alone_by_report(seen: &mut Seen) -> Result<(), String> {
+    use layout::*;
+    let mut bytes = reached(b"P,3,5,20,6,90\n", 0);
+    let message = [(MESSAGE_DUE, 3), (MESSAGE_KIND, u64::from(b'R')), (MESSAGE_SENDER, 2), (MESSAGE_RECEIVER, 1), (MESSAGE_SUBJECT, 0)];
+    [(MESSAGES, 1), (NEXT_NUMBER, 1)].into_iter().chain(message).for_each(|(field, number)| put(&mut bytes, field, 0, number));
+    put(&mut bytes, DEAD_LIST, 1, 0b100);
+    let (mut store, mut held) = (Lent::new(&bytes), store::decode(&bytes));
+    let line = "R,3,1,0,0000000000000005\n";
+    let wanted = answer(0, &[u64::from(b'R'), 3, 1, 0, line.len() as u64]);
+    same("the report", seen.call(Call::Step, &mut store, &mut Lent::filled(LINE_BYTES), &mut held)?, wanted)?;
+    let left = [EMITTER, OBSERVER, WATCH, HEARTBEAT, DEAD_LIST].map(|field| get(store.part(), field, 1));
+    same("node 1, alone,", (left, get(store.part(), MESSAGES, 0)), ([1, 1, 0, 0, 0b101], 0))
+}
+
 /// 63 survivors, W 100, D 5: S is 140. A run of 64 nodes has settled by then, in any order of the ring.
 fn settling(seen: &mut Seen) -> Result<(), String> {
     if settle::settling_time(100, 5, 63) != 140 {
@@ -516,6 +566,8 @@ fn edges(seen: &mut Seen) -> Result<(), String> {
     refused_files(seen)?;
     worked_log(seen)?;
     orders(seen)?;
+    reported_emitters(seen)?;
+    alone_by_report(seen)?;
     full_flight(seen)?;
     settling(seen)?;
     last_number(seen)
@@ -528,14 +580,19 @@ fn all(seen: &mut Seen, seed: u64, count: u64) -> Result<(), String> {
     runs::all(seen, seed)?;
     generated(seen, seed, count)?;
     changed_orders(seen)?;
+    listed_emitters(seen)?;
     changed_bytes(seen)
 }
 
 /// Every kind of answer has to come up.
 fn summary(seen: &Seen, count: u64) -> Result<(), String> {
-    let Seen { opened, calls, numbers, spent, done, met } = seen;
+    let Seen { opened, calls, numbers, spent, done, reported, alone, met } = seen;
     let answered = NUMBERS.map(|number| (number, numbers[number]));
     println!("platform: {calls} calls agree, {opened} stores opened; answers by number: {answered:?}; {spent} runs spent, {done} done");
+    println!("platform: {reported} moves by report, {alone} steps of them to be alone");
+    if count > 0 && (*reported < count || *alone == 0) {
+        return Err("too few reports moved a node".to_string());
+    }
     if count > 0 && (answered.iter().any(|(_, answers)| *answers == 0) || *spent == 0 || *done == 0) {
         return Err("an answer never came up".to_string());
     }

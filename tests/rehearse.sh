@@ -1,7 +1,7 @@
 #!/bin/sh
 # The rehearsal program beside the simulator: the same bytes for generated run files, good and damaged, for a few large ones, for rings in
-# another order, for files at and beyond the greatest length, and for input that comes in pieces. Then its streams: slow, full, closed or no file.
-# Stops at the first difference, prints its seed and keeps its file.
+# another order, for reported emitters, for files at and beyond the greatest length, and for input that comes in pieces. Then its streams:
+# slow, full, closed or no file. Stops at the first difference, prints its seed and keeps its file.
 #
 # Usage: tests/rehearse.sh [SEED [COUNT]]; REHEARSE names another program to compare.
 
@@ -76,7 +76,7 @@ large() {
 }
 
 worked_log() {
-    for ring in worked shuffled; do
+    for ring in worked shuffled reported-ten reported-nine; do
         run < "tests/$ring.run" > "$work/$ring" || true
         cmp "tests/$ring.log" "$work/$ring" || fail "the log of tests/$ring.run differs"
     done
@@ -109,4 +109,6 @@ c "$work/streams.so" -shared -fPIC tests/streams.c -ldl
 python3 tests/streams.py "$rehearse" "$work/large.run" "$work/large.log" "$work/streams.so"
 each_generated '' $((count / 50)) "$work" same
 each_generated small "$count" "$work" same
-echo "rehearse: $files files, $lines lines agree"
+moves=$("$out/simulate" moves "$work/$seed"-*.run)
+[ "$moves" -ge $((count / 100)) ] || fail "$moves moves by report in the small files"
+echo "rehearse: $files files, $lines lines agree; $moves moves by report in the small files"

@@ -6,7 +6,7 @@
 use super::calls::Call;
 use super::common::shown;
 use super::{opened, platform_of, Lent, Seen};
-use simulator::generator::{self, Draft, CROWD, ORDERS};
+use simulator::generator::{self, Draft, CROWD, ORDERS, USUAL};
 use simulator::log::Line;
 use simulator::node::{Content, Node};
 use simulator::platform::{Platform, Step};
@@ -21,6 +21,8 @@ const FEW_BUDGETS: [u64; 6] = [0, 11, 12, 13, 1_000, u64::MAX];
 /// How many tiny and how many small files are generated.
 const TINY: u64 = 60;
 const SMALL: u64 = 12;
+/// How many files are generated in which a report of the emitter may well move a node.
+const REPORTED: u64 = 40;
 /// Messages for which the queue has places.
 const PLACES: u64 = 4_096;
 /// At tick 8 a crash comes before two watches, no message and no heartbeat among them.
@@ -35,15 +37,18 @@ pub struct Met {
     long: [u64; 2],
     /// Runs of some events that were then refused by 8.
     refused: u64,
+    /// Generated files in which a report moves a node.
+    reported: u64,
 }
 
 impl Met {
     /// Every cut that a tick allows has to come up, and each kind of run.
     pub fn summary(&self) -> Result<(), String> {
-        let Met { cuts, long, refused } = self;
+        let Met { cuts, long, refused, reported } = self;
         println!("platform: cuts within a tick by class {cuts:?}; {long:?} runs of more than {PLACES} messages; {refused} refused late");
+        println!("platform: a report moves a node in {reported} of {REPORTED} generated files");
         let missing = (0..4).any(|one| (one.min(2)..4).any(|other| cuts[one][other] == 0));
-        if missing || long.contains(&0) || *refused == 0 {
+        if missing || long.contains(&0) || *refused == 0 || *reported < REPORTED / 8 {
             return Err("a kind of run never came up".to_string());
         }
         Ok(())
@@ -165,13 +170,35 @@ fn small_files(seen: &mut Seen, seed: u64) -> Result<(), String> {
     Ok(())
 }
 
+// ---- files in which a report of the emitter moves a node
+
+/// The first place of a file's run before which a report has moved a node; nothing where none does.
+fn moved_by_report(file: &[u8]) -> Option<u64> {
+    let mut platform = platform_of(file);
+    while platform.moves_by_report() == 0 && platform.run(1).events == 1 {}
+    (platform.moves_by_report() > 0).then(|| platform.events_done())
+}
+
+/// Runs up to that place, to it and beyond it, from the opened store and from just before.
+fn reported(seen: &mut Seen, seed: u64) -> Result<(), String> {
+    for index in 0..REPORTED {
+        let file = generator::reported_plan(seed, index, USUAL);
+        let Some(place) = moved_by_report(&file) else { continue };
+        seen.met.reported += 1;
+        let budgets = |from: u64| vec![place - 1 - from, place - from, place + 12 - from, u64::MAX];
+        from_places(seen, &file, [0, place - 12, place - 1], budgets)
+            .map_err(|error| format!("seed {seed} file {index} of reported emitters: {error}"))?;
+    }
+    Ok(())
+}
+
 // ---- lent stores without timers
 
-/// No timer is on but those that a message sets: a heartbeat a watch, or a new observer a heartbeat.
+/// No timer is on but those that a message sets: a heartbeat a watch, a new observer a heartbeat, or a report of the emitter a watch.
 fn woken(seen: &mut Seen) -> Result<(), String> {
     let opened = platform_of(b"P,4,5,20,6,90\n");
     let asleep = |node: &Node| Node { watch: None, heartbeat: None, ..*node };
-    for content in [Content::Heartbeat, Content::NewObserver] {
+    for content in [Content::Heartbeat, Content::NewObserver, Content::Report { subject: 0 }] {
         let message = (6, Message { number: 0, sender: 0, receiver: 1, content });
         let nodes = opened.nodes().iter().map(asleep).collect();
         let held = Held::from(Platform::resume(opened.plan().clone(), nodes, vec![message], 1, 0, 3));
@@ -234,6 +261,7 @@ fn long_runs(seen: &mut Seen) -> Result<(), String> {
 
 pub fn all(seen: &mut Seen, seed: u64) -> Result<(), String> {
     small_files(seen, seed)?;
+    reported(seen, seed)?;
     woken(seen)?;
     crowds(seen)?;
     long_runs(seen)

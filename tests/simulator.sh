@@ -1,7 +1,7 @@
 #!/bin/sh
 # Builds the simulator and the generator of run files with rustc alone, runs the simulator's own
-# tests, compares the worked logs of document 01 and that of a shuffled ring byte by byte, runs generated
-# files, good and damaged, and prints the simulator's speed. Stops at the first failure.
+# tests, compares the worked logs of document 01, that of a shuffled ring and those of reported emitters byte by
+# byte, runs generated files, good and damaged, and prints the simulator's speed. Stops at the first failure.
 #
 # Usage: tests/simulator.sh [SEED [COUNT]]
 
@@ -21,7 +21,9 @@ answers() {
 
 worked_logs() {
     answers two "$(cat tests/worked.run)\n" "$(cat tests/worked.log)\n" ''
-    answers shuffled "$(cat tests/shuffled.run)\n" "$(cat tests/shuffled.log)\n" ''
+    for worked in shuffled reported-ten reported-nine; do
+        answers "$worked" "$(cat "tests/$worked.run")\n" "$(cat "tests/$worked.log")\n" ''
+    done
     answers alone 'P,1,1,2,1,5\n' 'E,5,1,0,0000000000000000\n' ''
     answers empty '' '1,0\n' ''
     answers short 'P,2,2,2,1,6\n' '4,1\n' ''
@@ -44,6 +46,7 @@ commands() {
         "0$none\n3$none\n3$none\n2$none\n" table
     answers lines 'S,2,0,1,0000000000000000\nE,0,64,2049,0000000000000000\nS,02,0,1,0000000000000000\n' \
         '0,S,2,0,1,0000000000000000\n3\n2\n' lines
+    answers moves '' '2\n' 'moves tests/worked.run tests/reported-ten.run tests/worked.log tests/reported-nine.run'
 }
 
 echo "simulator: seed $seed, $count generated files"
@@ -54,6 +57,7 @@ worked_logs
 commands
 mkdir -p "$files"
 each_generated '' "$count" "$files" ends
+echo "simulator: $("$out/simulate" moves "$files"/*.run) moves by report in the generated files"
 rm -r "$files"
 printf 'P,64,10,265,255,1000000\n' > "$out/speed.run"
 "$out/simulate" time "$out/speed.run"

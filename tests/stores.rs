@@ -17,8 +17,8 @@ pub fn any(plan: &Plan, random: &mut Random) -> Vec<u8> {
     let crashes_done = random.range(past, plan.crashes.len() as u64) as usize;
     let is_crashed = |number| plan.crashes[..crashes_done].iter().any(|row| row.node == number);
     let density = random.range(0, 4);
-    let nodes = (0..plan.nodes).map(|number| node(plan, last, number, !is_crashed(number), density, random)).collect();
-    let messages = messages(plan, last, random);
+    let nodes: Vec<Node> = (0..plan.nodes).map(|number| node(plan, last, number, !is_crashed(number), density, random)).collect();
+    let messages = messages(plan, last, &nodes, random);
     let next_number = messages.last().map_or(0, |(_, message)| message.number + 1);
     let next_number = random.pick(&[next_number, next_number + 1, MAX_NEXT_NUMBER]);
     let mut bytes = store::encode(&Platform::resume(plan.clone(), nodes, messages.clone(), next_number, crashes_done, last));
@@ -47,7 +47,7 @@ fn timer(last: u32, most: u32, random: &mut Random) -> Option<u32> {
     random.pick(&[None, Some(last), Some(last + later.min(3)), Some(last + later), Some(last + later), Some(last + most)])
 }
 
-/// A live node does not list itself, nor have itself as emitter or observer with the timer on; a crashed one may.
+/// A live node does not list itself, nor have itself as emitter or observer with the timer on; a crashed one may. None lists its emitter.
 fn node(plan: &Plan, last: u32, number: u8, alive: bool, density: u64, random: &mut Random) -> Node {
     let alone = plan.nodes == 1;
     let list = (0..plan.nodes).filter(|_| random.range(1, 4) <= density).fold(0, |list, node| list | 1u64 << node);
@@ -70,19 +70,22 @@ fn node(plan: &Plan, last: u32, number: u8, alive: bool, density: u64, random: &
         node.watch = random.pick(&[node.watch, Some(0)]);
         node.dead_list = list;
     }
+    node.dead_list &= !(1 << node.emitter);
     node
 }
 
-fn messages(plan: &Plan, last: u32, random: &mut Random) -> Vec<(u32, Message)> {
+/// Some reports are of their receiver's emitter.
+fn messages(plan: &Plan, last: u32, nodes: &[Node], random: &mut Random) -> Vec<(u32, Message)> {
     let count = if plan.nodes == 1 { 0 } else { random.pick(&[0, 1, 5, 5, 40, 40, 300, 2_040, 2_048]) };
     let gap = random.pick(&[1, 3, 1_000_000]);
     let mut number = 0;
     let one = |_| {
         number += random.range(1, gap);
         let sender = some_node(plan, random);
-        let subject = some_node(plan, random);
-        let content = random.pick(&[Content::Heartbeat, Content::NewObserver, Content::Report { subject }]);
         let receiver = other_node(plan, sender, random);
+        let (any, emitter) = (some_node(plan, random), nodes[usize::from(receiver)].emitter);
+        let subject = random.pick(&[any, any, any, emitter]);
+        let content = random.pick(&[Content::Heartbeat, Content::NewObserver, Content::Report { subject }]);
         let due = last + random.range(0, u64::from(plan.delay)) as u32;
         (due, Message { number, sender, receiver, content })
     };

@@ -184,6 +184,11 @@ def other_run_files():
     by_hand = b"C,3,2,2,0000000000000000\nW,6,1,2,0000000000000004\nE,6,2,0,0000000000000004\n"
     drawn(by_hand, run_file=b"P,3,9,12,3,60\nQ,2,1,0\n")
     refused(by_hand, "by line 2 of the log node 1 follows node 2", "by the run file node 0", arguments=("-", place, kept(b"P,3,9,12,3,60\n")))
+    # So are all that expire in that tick.
+    by_hand = b"C,3,0,0,0000000000000000\nC,3,2,2,0000000000000000\nW,6,1,0,0000000000000001\nW,6,3,2,0000000000000004\nE,6,2,0,0000000000000005\n"
+    drawn(by_hand, run_file=b"P,4,9,12,3,60\n")
+    arguments = "-", place, kept(b"P,4,9,12,3,60\nQ,0,1,3,2\n")
+    refused(by_hand, "by line 4 of the log node 3 follows node 2", "by the run file node 0", arguments=arguments)
     os.remove(rehearsed)
 
 
@@ -227,6 +232,24 @@ def taken(ring, node, left, dead):
     return next((ring[at - back] for back in range(1, len(ring)) if not dead >> ring[at - back] & 1), node)
 
 
+def moves(ring, log, name):
+    """Each event by which a node leaves its emitter: letter, tick, node, whom it leaves and whom it takes. A watch expires on the emitter."""
+    emitters = {node: ring[place - 1] for place, node in enumerate(ring)}
+    for letter, tick, node, other, dead in fields(log):
+        check(letter != "W" or emitters[node] == other, f"{name}: at tick {tick} node {node} does not expire on its emitter")
+        if letter in "WR" and emitters[node] == other != node:
+            emitters[node] = taken(ring, node, other, dead)
+            yield letter, tick, node, other, emitters[node]
+
+
+def tells_its_ring(run_file, log):
+    """Whether the log shows each node, or each but one, beside the next: it lives to send a heartbeat, or the next one lives to expire on it."""
+    period, timeout = map(int, run_file.split(b",")[2:4])
+    ring, crashes = ring_of(run_file), {node: tick for letter, tick, node, *_ in fields(log) if letter == "C"}
+    hidden = [crashes.get(ring[place - 1], period + 1) <= period and crashes.get(node, timeout + 1) <= timeout for place, node in enumerate(ring)]
+    return sum(hidden) <= 1
+
+
 # ---- what the picture says
 
 
@@ -254,6 +277,9 @@ class Seen:
     def words(self, kind):
         return " ".join(text.text for text in self.of(kind))
 
+    def titles(self, part):
+        return [title.text for title in self.root.iter(SVG + "title") if part in title.text]
+
     def size(self, text):
         return min((self.sizes[name] for name in text.get("class").split() if name in self.sizes), default=self.usual)
 
@@ -280,10 +306,11 @@ class Seen:
                 found.append([tuple(map(float, point.split())) for point in element.get("d")[1:-2].split(" L")])
         return found
 
-    def marks(self, kind):
-        """The middles of the marks above the legend, each as its row and its place across."""
-        middles = [[(min(values) + max(values)) / 2 for values in zip(*points)] for points in self.points(kind)]
-        return [(self.row(y), round(x, 1)) for x, y in middles if self.row(y) is not None]
+    def marks(self, kind, corners=range(2, 5)):
+        """The middles of the marks above the legend that have so many points, each as its row and its place across."""
+        middles = [[(min(values) + max(values)) / 2 for values in zip(*points)] for points in self.points(kind) if len(points) in corners]
+        places = [(self.row(y), round(x, 1)) for x, y in middles]
+        return [(row, x) for row, x in places if row is not None]
 
 
 def close(ones, others):
@@ -300,21 +327,41 @@ def every_mark(picture, log, name):
     check(close(picture.marks("report") + picture.marks("known"), at["R"]), f"{name}: the marks of R are not those of the log's lines")
 
 
-def every_arrow(picture, ring, log, name):
-    """An arrow for each O, to its receiver, from the watch of its sender that expired and made it take the receiver."""
-    watches, wanted, found = {}, [], []
+def every_move(picture, moved, name, told):
+    """A mark with a title for each emitter that is left by a report, and a legend where there is one. Those that the order does not tell may be missing."""
+    titles, places = set(), []
+    for letter, tick, node, left, after in moved:
+        if letter == "R":
+            what = "is alone" if after == node else f"leaves it for node {after}"
+            titles.add(f"tick {tick}: node {node} gets the report of node {left}, its emitter, and {what}")
+            places.append((node, picture.across(tick)))
+    found, marked = picture.titles(", its emitter, "), picture.marks("report", [3])
+    if told:
+        check(sorted(found) == sorted(titles), f"{name}: told {found}, not {titles}")
+        check(close(marked, places), f"{name}: the marks of emitters left by a report are not those of the log's lines")
+    else:
+        titles |= {title.split(" for node")[0] for title in titles}
+        check(titles.issuperset(found) and len(marked) == len(found), f"{name}: told {found}, but there is no more than {titles}")
+    legend = "R of the emitter, which is left at once" in picture.words("small")
+    check(legend == bool(marked), f"{name}: the legend is wrong about emitters left by a report")
+    seen["left by a report"] += len(marked)
+
+
+def every_arrow(picture, moved, log, name, told):
+    """An arrow for each O, to its receiver, from the event by which its sender took the receiver. One that the order does not tell may be upright."""
+    sent, wanted, found = {(node, after): picture.across(tick) for _, tick, node, _, after in moved}, [], []
     for letter, tick, node, other, dead in fields(log):
-        if letter == "W":
-            watches[node, taken(ring, node, other, dead)] = picture.across(tick)
-        elif letter == "O":
-            check((other, node) in watches, f"{name}: node {other} is not the one that takes node {node}")
+        if letter == "O":
+            check((other, node) in sent, f"{name}: node {other} is not the one that takes node {node}")
             wanted.append((other, node, picture.across(tick)))
     for [(x, y), _], [(tip_x, tip_y), *_] in zip(picture.points("observer"), picture.points("head")):
         sender, receiver = picture.row(y), picture.row(tip_y)
         if sender is not None and receiver is not None:
             found.append((sender, receiver, tip_x))
-            by_watch = abs(x - watches.get((sender, receiver), -1)) < 0.3
-            check(by_watch, f"{name}: an arrow from node {sender} to {receiver} that is not from the watch that sent it")
+            right = abs(x - sent.get((sender, receiver), -1)) < 0.3
+            upright = not right and not told and x == tip_x
+            check(right or upright, f"{name}: an arrow from node {sender} to {receiver} that is not from the event that sent it")
+            seen["upright"] += upright
     check(close(found, wanted), f"{name}: the arrows are not those of the lines O")
 
 
@@ -410,15 +457,17 @@ def in_order(picture, ring, name):
     check(said == (ring != sorted(ring)), f"{name}: what is said about the rows' order is wrong")
 
 
-def held(picture, run_file, ring, log, name):
-    """Holds all of a picture against the log. Answers the tick of the mark."""
+def held(picture, run_file, ring, log, name, told):
+    """Holds all of a picture against the log; told says whether the script knows the ring's order. Answers the tick of the mark."""
     letters = Counter(line[:1] for line in log.decode().splitlines())
     thin = letters["S"] + letters["H"] + letters["X"] > 8000 or letters["R"] > 8000
     check(thin == ("not all are drawn" in picture.words("faint")), f"{name}: what is said about thinning is wrong")
     if not thin:
         every_mark(picture, log, name)
     if picture.scale:
-        every_arrow(picture, ring, log, name)
+        moved = list(moves(ring, log, name))
+        every_move(picture, moved, name, told)
+        every_arrow(picture, moved, log, name, told)
         every_list(picture, log, name)
     apart(picture, name)
     return all_know(picture, run_file, log, name)
@@ -428,16 +477,16 @@ def whole(run_file, name, status=0, log=None):
     """Draws the log of a run file, or the one given, without and with the run file. Answers the latter picture and the tick of the mark."""
     log, ring = log or log_of(run_file), ring_of(run_file)
     by_number, by_ring = drawn(log, status), drawn(log, status, run_file)
-    pictures = [(by_ring, ring, name)]
+    pictures = [(by_ring, ring, name, True)]
     if ring != sorted(ring):
-        pictures.insert(0, (by_number, sorted(ring), f"{name}, drawn without the run file"))
+        pictures.insert(0, (by_number, sorted(ring), f"{name}, drawn without the run file", tells_its_ring(run_file, log)))
         seen["shuffled"] += 1
     else:
         check(by_ring == by_number, f"{name}: another picture with the run file")
-    for picture, rows, what in pictures:
+    for picture, rows, what, told in pictures:
         picture = Seen(picture)
         in_order(picture, rows, what)
-        since = held(picture, run_file, ring, log, what)
+        since = held(picture, run_file, ring, log, what, told)
     os.remove(rehearsed)
     return picture, since
 
@@ -471,6 +520,41 @@ def shuffled():
     whole(b"P,4,3,5,2,90\nQ,2,3,1,0\nC,1,2\nC,3,0\n", "an O from the second watch")
     whole(b"P,8,2,3,1,60\nQ,0,4,2,6,1,5,3,7\nC,5,1\nC,5,6\nC,9,2\nC,20,7\n", "neighbours crash in a shuffled ring")
     whole(b"P,64,1,34,33,200\nQ,%s\nC,30,5\n" % ",".join(map(str, range(63, -1, -1))).encode(), "2,049 in flight, backwards", 2)
+
+
+def left_by_a_report():
+    """Two plans in which a report moves a node, in number order and with other numbers for the nodes; and moves by hand."""
+    ten = b"P,10,1,5,4,60\n", [(1, 2), (1, 3), (2, 8), (7, 0), (12, 9), (16, 1)], (27, 4, 0, 9)
+    nine = b"P,9,1,13,12,120\n", [(3, 4), (21, 1), (32, 3), (50, 2)], (81, 5, 1, 0)
+    for start, crashes, (tick, node, left, after) in [ten, nine]:
+        nodes = int(start.split(b",")[1])
+        for order in [list(range(nodes)), list(range(nodes))[::-1], random.Random(2).sample(range(nodes), nodes)]:
+            ring_line = b"Q,%s\n" % ",".join(map(str, order)).encode() if order != sorted(order) else b""
+            rows = b"".join(b"C,%d,%d\n" % row for row in sorted((tick, order[place]) for tick, place in crashes))
+            picture, _ = whole(start + ring_line + rows, f"a move by report in the order {order}")
+            wanted = f"tick {tick}: node {order[node]} gets the report of node {order[left]}, its emitter, and leaves it for node {order[after]}"
+            check(picture.titles(", its emitter, ") == [wanted], f"a move by report in the order {order}: not told {wanted!r}")
+    # By hand: a move over a listed node, and one by which the node is alone, as no run is known that has it. A report of the node itself is no move.
+    by_hand = [("C,3,2,2", 0), ("C,3,3,3", 0), ("R,4,0,0", 0), ("R,5,0,2", 4), ("R,6,0,3", 12), ("O,7,1,0", 0), ("C,8,1,1", 0), ("R,9,0,1", 14)]
+    log = "".join(f"{line},{dead:016x}\n" for line, dead in [*by_hand, ("R,10,0,0", 14), ("E,12,1,0", 14)]).encode()
+    picture, _ = whole(b"P,4,9,12,3,12\n", "alone by a report", log=log)
+    wanted = [
+        "tick 6: node 0 gets the report of node 3, its emitter, and leaves it for node 1",
+        "tick 9: node 0 gets the report of node 1, its emitter, and is alone",
+    ]
+    check(picture.titles(", its emitter, ") == wanted, f"alone by a report: not told {wanted}")
+
+
+def early_crashes():
+    """Nodes that crash before their first heartbeat in a shuffled ring: what the log shows of its order without the run file."""
+    # Of nodes 0, 2 and 4 the next one tells, all in one tick. Then node 6 expires on 3 and goes back over 2 to 7.
+    whole(b"P,9,2,3,1,60\nQ,8,0,1,7,2,3,6,4,5\nC,1,0\nC,1,2\nC,1,4\nC,40,3\n", "three watches in one tick")
+    # That 0 is before 4 stands in no line, but that is all that is missing. Node 2 expires on 1 and goes back over these two to 3.
+    whole(b"P,5,2,3,1,60\nQ,3,0,4,1,2\nC,1,0\nC,1,4\nC,40,1\n", "an order with one gap")
+    # Nor that 5 is before 6: two gaps.
+    before = seen["upright"]
+    whole(b"P,7,2,3,1,60\nQ,3,0,4,1,2,5,6\nC,1,0\nC,1,4\nC,1,5\nC,1,6\nC,40,1\n", "an order with two gaps")
+    check(seen["upright"] == before + 1, "an order with two gaps: without the run file one arrow is upright")
 
 
 def known_ticks():
@@ -529,8 +613,10 @@ def main():
     known_ticks()
     many_nodes()
     shuffled()
+    left_by_a_report()
+    early_crashes()
     generated()
-    for outcome in ["mark", "lack", "none crashes", "none survives", "refused", "shuffled"]:
+    for outcome in ["mark", "lack", "none crashes", "none survives", "refused", "shuffled", "left by a report"]:
         check(seen[outcome], f"no file had the outcome: {outcome}")
     print("timeline: " + ", ".join(f"{outcome} {count}" for outcome, count in sorted(seen.items())))
 

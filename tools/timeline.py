@@ -9,8 +9,9 @@ status is not 0, standard error says why.
 
 A row for each node, ticks across. A column's meaning is that of README.md's table of letters: on H, O and X `other` is the sender, on R the subject, on W the
 node listed, on S the observer. The log does not name the sender of a report, so a report is drawn at its receiver, without an arrow.
-An O is drawn from the expired watch that sent it. The log tells which, whatever the ring's order: a node's next W line names the node to which it
-sent at the W line before.
+An O is drawn from the event that sent it, by which its sender left its emitter: an expired watch, or the report of the emitter, which has a mark
+of its own. To tell which, each node's emitter is followed by the ring's order: the run file's, else that of the numbers. Where the log shows that it is
+another one, only the neighbours that it shows are gone by, and an O whose sending they do not tell is drawn upright.
 """
 import contextlib
 import os
@@ -160,15 +161,24 @@ def read_ring(text, nodes):
     return ring
 
 
-def check_ring(ring, events):
-    """Until a watch expires each node sends to the next one of the ring, and the first watch that expires is on the one before."""
-    following = dict(zip(ring, ring[1:] + ring[:1]))
+def neighbours(events):
+    """The neighbours that a log shows, as line, node and the next one of the ring. Up to the first tick in which watches expire each node sends to the next
+    one, and those watches are on the one before."""
+    until = next((event.tick for event in events if event.letter == "W"), None)
     for number, event in enumerate(events, 1):
-        sender, observer = (event.other, event.node) if event.letter == "W" else (event.node, event.other)
-        if event.letter in "SW" and following[sender] != observer:
-            not_its_run_file(f"by line {number} of the log node {observer} follows node {sender} in the ring, by the run file node {following[sender]}")
-        if event.letter == "W":
+        if until is not None and event.tick > until:
             return
+        if event.letter == "S":
+            yield number, event.node, event.other
+        elif event.letter == "W":
+            yield number, event.other, event.node
+
+
+def check_ring(ring, events):
+    following = dict(zip(ring, ring[1:] + ring[:1]))
+    for number, sender, observer in neighbours(events):
+        if following[sender] != observer:
+            not_its_run_file(f"by line {number} of the log node {observer} follows node {sender} in the ring, by the run file node {following[sender]}")
 
 
 # ---- lists
@@ -222,6 +232,40 @@ def knowledge(nodes, events):
     return since, lacking
 
 
+# ---- emitters
+
+
+def nodes_before(ring, events):
+    """The node before each one by this order. Where the log shows another one, before those whose neighbour it shows; if that is all but one, that one
+    closes the ring."""
+    before = dict(zip(ring, ring[-1:] + ring[:-1]))
+    shown = {observer: sender for _, sender, observer in neighbours(events)}
+    if shown.items() <= before.items():
+        return before
+    if len(shown) == len(ring) - 1:
+        shown.update(zip(before.keys() - shown.keys(), before.keys() - shown.values()))
+    return shown
+
+
+def first_back(before, node, dead):
+    """The first node going back that a list does not hold, or nothing where the order does not tell."""
+    for _ in before:
+        node = before.get(node)
+        if node is None or not dead >> node & 1:
+            return node
+
+
+def moves(before, events):
+    """The events by which a node leaves its emitter, by their identity, each with the node that it takes: itself where it is alone, nothing where
+    that is not known."""
+    emitters, taken = dict(before), {}
+    for event in events:
+        reported = event.letter == "R" and event.other == emitters.get(event.node) and event.list >> event.other & 1
+        if event.letter == "W" or reported:
+            emitters[event.node] = taken[id(event)] = first_back(before, event.other, event.list)
+    return taken
+
+
 class Picture:
     """Where things stand, and the elements drawn so far."""
 
@@ -241,6 +285,7 @@ class Picture:
         self.scale = min(MOST_TICK_WIDTH, width / (self.end + 1))
         self.row = 44 if self.nodes <= 12 else 28 if self.nodes <= 32 else 22
         self.crashes = {event.node: event.tick for event in events if event.letter == "C"}
+        self.moves = moves(nodes_before(self.ring, events), events)
         self.last_words = [self.at_end(node, members(dead)) for node, dead in enumerate(last_lists(self.nodes, events))]
         longest = max(len(words) for words in [LISTS, *self.last_words])
         self.right = round(max(self.x(self.end) + 10 + LETTER_WIDTH * longest, LEFT + NARROWEST))
@@ -290,8 +335,11 @@ class Picture:
     def diamond(self, kind, x, y, told=None):
         self.shape(kind, [(x, y - 4.5), (x + 4.5, y), (x, y + 4.5), (x - 4.5, y)], told)
 
-    def triangle(self, x, y, told=None):
+    def expired(self, x, y, told=None):
         self.shape("watch", [(x - 6, y - 7), (x + 6, y - 7), (x, y + 4)], told)
+
+    def reported(self, x, y, told=None):
+        self.shape("report", [(x - 6, y + 4), (x + 6, y + 4), (x, y - 7)], told)
 
     def arrow(self, x1, y1, x2, y2):
         length = max(((x2 - x1) ** 2 + (y2 - y1) ** 2) ** 0.5, 1)
@@ -376,36 +424,44 @@ def draw_heartbeats(picture):
 
 
 def draw_observers(picture):
-    """An arrow for each O, from the expired watch that sent it. Where the log does not show that watch, it is drawn upright."""
-    last, sent = {}, {}
+    """An arrow for each O, from the event that sent it. Where that is not known, it is drawn upright."""
+    sent = {}
     for event in picture.events:
-        if event.letter == "W":
-            sent[event.node, event.other] = last.get(event.node)
-            last[event.node] = event.tick
-    for event in picture.events:
-        if event.letter == "O":
-            tick = sent.get((event.other, event.node), last.get(event.other))
-            tick = event.tick if tick is None else min(tick, event.tick)
+        if id(event) in picture.moves:
+            sent[event.node, picture.moves[id(event)]] = event.tick
+        elif event.letter == "O":
+            tick = sent.get((event.other, event.node), event.tick)
             picture.arrow(picture.x(tick), picture.y(event.other), picture.x(event.tick), picture.y(event.node))
 
 
+def report_in_words(event):
+    return f"tick {event.tick}: node {event.node} gets the report of node {event.other}"
+
+
 def draw_reports(picture):
+    """Those by which no emitter is left."""
     news = {id(event) for event, _ in grown(picture.events)}
-    reports = [event for event in picture.events if event.letter == "R"]
+    reports = [event for event in picture.events if event.letter == "R" and id(event) not in picture.moves]
     kept, thin = thinned(picture, [event for event in reports if id(event) not in news])
     for event in kept + [event for event in reports if id(event) in news]:
-        told = f"tick {event.tick}: node {event.node} gets the report of node {event.other}"
-        picture.diamond("report" if id(event) in news else "known", picture.x(event.tick), picture.y(event.node), told)
+        picture.diamond("report" if id(event) in news else "known", picture.x(event.tick), picture.y(event.node), report_in_words(event))
     return thin
 
 
-def draw_watches_and_crashes(picture):
+def draw_moves_and_crashes(picture):
+    """Answers whether an emitter is left by a report."""
+    by_report = False
     for event in picture.events:
         x, y = picture.x(event.tick), picture.y(event.node)
         if event.letter == "W":
-            picture.triangle(x, y, f"tick {event.tick}: node {event.node} lists node {event.other}, whose heartbeat did not come")
+            picture.expired(x, y, f"tick {event.tick}: node {event.node} lists node {event.other}, whose heartbeat did not come")
         elif event.letter == "C":
             picture.cross("crash", x, y, 6)
+        elif id(event) in picture.moves:
+            by_report, taken = True, picture.moves[id(event)]
+            what = "is alone" if taken == event.node else "leaves it" if taken is None else f"leaves it for node {taken}"
+            picture.reported(x, y, f"{report_in_words(event)}, its emitter, and {what}")
+    return by_report
 
 
 def draw_labels(picture):
@@ -457,7 +513,7 @@ def draw_knowledge(picture, since, lacking):
     return ""
 
 
-def draw_legend(picture, lacks, labelled, thin):
+def draw_legend(picture, lacks, by_report, labelled, thin):
     """Who lacks whom, the marks with their meaning, and a note. Answers where the picture ends."""
     y = picture.paragraph(picture.bottom() + 46, lacks, "bad" if lacks.startswith("At") else "small") + (4 if lacks else 0)
     entries = [
@@ -465,12 +521,14 @@ def draw_legend(picture, lacks, labelled, thin):
         (lambda x, y: picture.line("sent", x, y - 6, x, y + 4), "S, heartbeat sent"),
         (lambda x, y: picture.line("heard", x, y - 4, x, y + 6), "H, heartbeat received"),
         (lambda x, y: picture.cross("dropped", x, y, 2.5), "X, dropped at a crashed node"),
-        (lambda x, y: picture.triangle(x, y + 1), "W, watch expired: the emitter is listed"),
+        (lambda x, y: picture.expired(x, y + 1), "W, watch expired: the emitter is listed"),
         (lambda x, y: picture.arrow(x - 10, y, x + 8, y), "O, from the new observer to its emitter"),
         (lambda x, y: picture.diamond("report", x, y), "R, report that adds its subject"),
         (lambda x, y: picture.diamond("known", x, y), "R of a node listed before"),
         (lambda x, y: picture.rect("listed", x - 8, y - 4, 16, 8), "share of the nodes listed" + labelled),
     ]
+    if by_report:
+        entries.insert(-1, (lambda x, y: picture.reported(x, y + 1), "R of the emitter, which is left at once"))
     if picture.crashes and not lacks:
         entries.append((lambda x, y: picture.line("all", x - 9, y, x + 9, y), "from here all survivors list all crashed nodes"))
     x = LEFT
@@ -499,10 +557,10 @@ def draw(events, last, run_file):
     draw_ticks(picture)
     draw_observers(picture)
     thin = draw_reports(picture) or thin
-    draw_watches_and_crashes(picture)
+    by_report = draw_moves_and_crashes(picture)
     labelled = draw_labels(picture)
     draw_end(picture)
-    width, height = picture.right + 8, draw_legend(picture, lacks, labelled, thin)
+    width, height = picture.right + 8, draw_legend(picture, lacks, by_report, labelled, thin)
     head = f'<svg xmlns="http://www.w3.org/2000/svg" width="{width:g}" height="{height:g}" viewBox="0 0 {width:g} {height:g}">'
     ground = f'<rect fill="#ffffff" x="0" y="0" width="{width:g}" height="{height:g}"/>'
     return "\n".join([head, f"<style>{STYLE}</style>", ground, *picture.elements, "</svg>"]) + "\n"

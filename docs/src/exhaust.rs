@@ -1,22 +1,25 @@
 //! All runs of a small ring, in number order or another: every delay from 1 to D of every message, every crash at
-//! every tick, up to an end tick. It asks demand 3's words of the state after each event.
+//! every tick, up to an end tick. It asks demand 3's words of the state after each event. For a larger ring the choices
+//! may be fewer: longer delays alone, and crashes of some nodes alone.
 //!
 //! The search goes from tick to tick. Ticks are counted from the state's own, and what can no longer matter
 //! is left out, so that states which go on alike are one and are met once; where no new state comes up, the
 //! answer holds for every end tick. A run in which something is found comes back as a plan.
 
-use super::node::{Content, Node, Sends, Settings, Timer};
+use super::node::{self, Content, Node, Sends, Settings, Timer};
 use super::plan::{Crash, Delay, Plan};
 use super::ring;
 use super::settle;
 use std::collections::HashMap;
 
-/// The rules that the search goes by: the paper's, or wrong ones, of which the first two are "natural".
+/// The rules that the search goes by: the papers', or wrong ones, of which 01 names the first and the third as "natural".
 #[derive(Clone, Copy, PartialEq, Eq, Debug)]
 pub enum Rules {
     Paper,
     /// "W instead of 2 × W after moving".
     ShortWatch,
+    /// The same after a move by report alone.
+    ShortReported,
     /// "timers before deliveries of the same tick".
     TimersFirst,
     /// Not a rule but a claim: S without its 2 × D.
@@ -32,6 +35,10 @@ pub struct Search {
     pub period: u32,
     pub timeout: u32,
     pub delay: u32,
+    /// The least delay: 1, or more where not every delay is gone through.
+    pub least_delay: u32,
+    /// The nodes that may crash, as a list: all, or fewer where not every crash is gone through.
+    pub mortal: u64,
     pub end: u32,
     pub rules: Rules,
 }
@@ -57,6 +64,8 @@ pub struct Outcome {
     /// States at the start of a tick, equal ones counted once.
     pub states: usize,
     pub events: u64,
+    /// Of the events, the reports that made their receiver leave its emitter.
+    pub moves_by_report: u64,
     /// Different runs up to the end tick: plans of crashes and delays of all messages sent.
     pub runs: f64,
     /// The ticks after which no new state came up; nothing where the end tick came first.
@@ -164,17 +173,12 @@ impl State {
             Crashes::Close => 1,
             Crashes::Spaced(since) => 2 + since as u8,
         };
-        let live = self.nodes.iter().fold(0, |live, node| live << 1 | u8::from(node.alive));
+        let crashed = (node::crashed(&self.nodes) as u16).to_le_bytes();
         key.clear();
-        key.extend([live, self.idle as u8, crashes]);
+        key.extend([crashed[0], crashed[1], self.idle as u8, crashes]);
         for node in self.nodes.iter().filter(|node| node.alive) {
-            key.extend([
-                node.emitter,
-                node.observer,
-                due(node.watch),
-                due(node.heartbeat),
-                node.dead_list as u8,
-            ]);
+            let list = (node.dead_list as u16).to_le_bytes();
+            key.extend([node.emitter << 4 | node.observer, due(node.watch), due(node.heartbeat), list[0], list[1]]);
         }
         for Flight { due, sender, receiver, content } in &self.flights {
             let content = match content {
@@ -205,7 +209,7 @@ impl Search {
 
     /// Searches to the end tick, or until something is found.
     pub fn explore(&self) -> Outcome {
-        assert!(self.nodes <= 8 && 2 * self.timeout < 250 && self.delay < 8, "the search is for small rings");
+        assert!(self.nodes <= 16 && 2 * self.timeout < 250 && self.delay < 8, "the search is for small rings");
         let mut tree = Tree::new(self);
         let mut layer = vec![0];
         let mut closed = None;
@@ -243,6 +247,7 @@ struct Tree<'search> {
     /// For each state that was gone on from, the states one tick later and in how many ways each is led to.
     ways: Vec<Vec<(usize, u32)>>,
     events: u64,
+    moves_by_report: u64,
     /// Of the state that is being gone on from: what is chosen so far, and the states led to.
     chosen: Choice,
     leads: Vec<usize>,
@@ -260,6 +265,7 @@ impl<'search> Tree<'search> {
             led_by: Vec::new(),
             ways: Vec::new(),
             events: 0,
+            moves_by_report: 0,
             chosen: Choice::default(),
             leads: Vec::new(),
             from: 0,
@@ -297,7 +303,7 @@ impl<'search> Tree<'search> {
     /// Crashes of this tick, by node: each live node from `number` on crashes or does not.
     fn crash_from(&mut self, state: State, number: usize) -> Option<Finding> {
         let Some(node) = state.nodes.get(number) else { return self.go_on(state) };
-        if !node.alive {
+        if !node.alive || !ring::listed(self.search.mortal, node.number) {
             return self.crash_from(state, number + 1);
         }
         let finding = self.crash_from(state.clone(), number + 1);
@@ -334,14 +340,26 @@ impl<'search> Tree<'search> {
             }
             _ if delivery => {
                 let Flight { sender, receiver, content, .. } = state.flights.remove(0);
-                let node = &mut state.nodes[usize::from(receiver)];
-                let alive = node.alive;
-                let sends = if alive { node.deliver(&self.settings, 0, sender, content) } else { Sends::none() };
-                (receiver, sends)
+                (receiver, self.deliver(&mut state.nodes[usize::from(receiver)], sender, content))
             }
             _ => return self.end_tick(state),
         };
         self.after_event(&state).or_else(|| self.send(state, number, &sends, 0))
+    }
+
+    fn deliver(&mut self, node: &mut Node, sender: u8, content: Content) -> Sends {
+        if !node.alive {
+            return Sends::none();
+        }
+        let emitter = node.emitter;
+        let sends = node.deliver(&self.settings, 0, sender, content);
+        if node.emitter != emitter {
+            self.moves_by_report += 1;
+            if self.search.rules == Rules::ShortReported {
+                node.watch = node.watch.map(|_| self.settings.timeout);
+            }
+        }
+        sends
     }
 
     fn expire(&self, state: &mut State, (number, timer): (usize, Timer)) -> (u8, Sends) {
@@ -359,7 +377,7 @@ impl<'search> Tree<'search> {
     /// Puts the messages from `place` on in flight, with every delay.
     fn send(&mut self, state: State, sender: u8, sends: &Sends, place: usize) -> Option<Finding> {
         let Some(sent) = sends.as_slice().get(place) else { return self.go_on(state) };
-        for due in 1..=self.search.delay {
+        for due in self.search.least_delay..=self.search.delay {
             let mut other = state.clone();
             other.put(Flight { due, sender, receiver: sent.receiver, content: sent.content });
             self.chosen.delays.push(due as u8);
@@ -423,7 +441,8 @@ impl<'search> Tree<'search> {
 
     fn outcome(&self, found: Option<Found>, closed: Option<u32>) -> Outcome {
         let runs = if found.is_none() { self.runs() } else { 0.0 };
-        Outcome { states: self.states.len(), events: self.events, runs, closed, found }
+        let (events, moves_by_report) = (self.events, self.moves_by_report);
+        Outcome { states: self.states.len(), events, moves_by_report, runs, closed, found }
     }
 
     /// How many runs there are up to the end tick.
@@ -467,8 +486,17 @@ mod tests {
     use super::super::platform::{Platform, Step};
     use super::*;
 
-    const SMALL: Search =
-        Search { nodes: 3, order: Vec::new(), period: 1, timeout: 3, delay: 2, end: 40, rules: Rules::Paper };
+    const SMALL: Search = Search {
+        nodes: 3,
+        order: Vec::new(),
+        period: 1,
+        timeout: 3,
+        delay: 2,
+        least_delay: 1,
+        mortal: u64::MAX,
+        end: 40,
+        rules: Rules::Paper,
+    };
 
     /// What a state and a platform have in common at the start of a tick: the live nodes, with their timers
     /// counted from that tick, and the messages that matter, by due tick.
@@ -499,17 +527,28 @@ mod tests {
         Search { nodes: 4, order: vec![0, 2, 1, 3], ..SMALL }
     }
 
-    #[test]
-    fn the_platform_comes_to_the_same_states() {
-        compare_states(&SMALL);
-        compare_states(&shuffled());
+    /// Nine nodes of which four in a row may crash, every message being three ticks in flight: a report moves node 5.
+    fn reported() -> Search {
+        Search { nodes: 9, timeout: 4, delay: 3, least_delay: 3, mortal: 0b11110, end: 100, ..SMALL }
     }
 
-    /// The platform comes to each state of the search by the plan of the choices that led to it.
-    fn compare_states(search: &Search) {
+    #[test]
+    fn the_platform_comes_to_the_same_states() {
+        compare_states(&SMALL, 2_000);
+        compare_states(&shuffled(), 2_000);
+    }
+
+    #[test]
+    fn the_platform_comes_to_the_same_states_by_reports() {
+        assert!(compare_states(&reported(), usize::MAX) > 2);
+    }
+
+    /// The platform comes to each of the first states of the search by the plan of the choices that led to it. The answer
+    /// says to how many of them by a report that moves a node.
+    fn compare_states(search: &Search, most: usize) -> usize {
         let mut tree = Tree::new(search);
-        let mut id = 0;
-        while id < tree.states.len() && id < 2_000 {
+        let (mut id, mut reported) = (0, 0);
+        while id < tree.states.len().min(most) {
             assert_eq!(tree.expand(id), None);
             let choices = tree.choices(id);
             let tick = choices.len() as u32;
@@ -519,10 +558,12 @@ mod tests {
                 let state = &tree.states[id];
                 let live: Vec<Node> = state.nodes.iter().filter(|node| node.alive).copied().collect();
                 assert_eq!((live, state.flights.clone()), common(&platform, tick), "{choices:?}");
+                reported += usize::from(platform.moves_by_report() > 0);
             }
             id += 1;
         }
         assert!(id > 1_000);
+        reported
     }
 
     /// Each node crashes at one of the ticks or not at all, and with D = 1 no delay is left to choose.
@@ -547,6 +588,19 @@ mod tests {
         let outcome = SMALL.explore();
         assert_eq!(outcome.found, None);
         assert!(outcome.closed.is_some() && outcome.states > 4_000);
+    }
+
+    /// Neither is where a report moves a node, in number order and in another, but where the watch is then W.
+    #[test]
+    fn nothing_is_found_where_a_report_moves_a_node() {
+        let shuffled = Search { order: vec![0, 2, 4, 6, 8, 1, 3, 5, 7], mortal: 0b1_0101_0100, ..reported() };
+        for search in [reported(), shuffled] {
+            let outcome = search.explore();
+            assert_eq!(outcome.found, None);
+            assert!(outcome.closed.is_some() && outcome.moves_by_report > 0);
+            let found = Search { rules: Rules::ShortReported, ..search }.explore().found;
+            assert_eq!(found.map(|found| found.finding), Some(Finding::LiveNodeListed));
+        }
     }
 
     /// With D = 1 no delay is left to choose: the ring's order and the order of numbers within a tick decide.

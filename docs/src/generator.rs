@@ -1,8 +1,8 @@
 //! A seeded generator of run files, good and damaged. A file depends on its seed and index alone.
 //!
 //! `file(seed, index, size)` gives the bytes of one file, `plan(seed, index)` an undamaged one, `spaced_plan(seed, index)` one whose
-//! crashes are all spaced by S; `crowd(order)` is a plan that brings 2,048 messages into flight, due in that order; `some_order` is an
-//! order of a ring's nodes, or none.
+//! crashes are all spaced by S, `reported_plan(seed, index, size)` one in which a report of the emitter may well move a node;
+//! `crowd(order)` is a plan that brings 2,048 messages into flight, due in that order; `some_order` is an order of a ring's nodes, or none.
 
 use super::limits::{FILE_BYTES, MAX_DELAY_ROWS};
 use super::random::Random;
@@ -15,7 +15,7 @@ pub struct Size {
     events: u64,
     /// At most, where the plan is damaged.
     most_events: u64,
-    /// Whether some plans bring about 2,048 messages into flight, however many events that takes.
+    /// Whether some plans bring about 2,048 messages into flight or reports over many relays, however many events that takes.
     crowded: bool,
 }
 
@@ -98,6 +98,11 @@ pub fn spaced_plan(seed: u64, index: u64) -> Vec<u8> {
     draft.bytes()
 }
 
+/// One file in which a report of the emitter may well move a node.
+pub fn reported_plan(seed: u64, index: u64, size: Size) -> Vec<u8> {
+    reported_draft(&mut Random::new(seed, index), size).bytes()
+}
+
 /// How the due ticks of messages go with their numbers.
 #[derive(Clone, Copy, PartialEq, Eq, Debug)]
 pub enum Order {
@@ -137,6 +142,9 @@ pub fn crowd(order: Order) -> Draft {
 fn draft(random: &mut Random, size: Size) -> Draft {
     if random.chance(8) && size.crowded {
         return crowded_draft(random);
+    }
+    if random.chance(6) {
+        return reported_draft(random, size);
     }
     let mut draft = open_draft(random, size);
     match random.range(0, 6) {
@@ -209,6 +217,44 @@ fn crowded_draft(random: &mut Random) -> Draft {
         crash_anywhere(random, &mut draft);
     }
     if random.chance(2) {
+        put_delays(random, &mut draft);
+    }
+    draft
+}
+
+/// A plan in which a report of the emitter may well move a node. Four or six nodes in a row die, and the node after them moves so:
+///
+/// - All of the row but the first two die at once. The node after the row expires on one after another of them, 2 × W apart, and
+///   comes to the second.
+/// - The first dies, and the second expires on it. It reports that to the nodes at distances of powers of two, among them the dead
+///   of which it has not heard. So it passes over the node after the row, the third or fifth ahead, which then hears of it by
+///   relays, all around the ring.
+/// - The second dies too. The node after the row expires on it and comes to the first, of which it has not heard. The report finds
+///   it there.
+///
+/// How long the report takes goes by D and by the number of relays, which N decides; how long the watches take goes by W. So D is
+/// large against H, W hardly above H + D, and N mostly one that takes many relays.
+fn reported_draft(random: &mut Random, size: Size) -> Draft {
+    let usual_nodes = [10, 14, 16, 17, 28, 29, 33];
+    let (usual_nodes, most_nodes, most_periods) = if size.crowded { (&usual_nodes[..], 34, 10) } else { (&usual_nodes[..4], 18, 5) };
+    let gap = if size.crowded && random.chance(3) { 4 } else { 2 };
+    let nodes = if random.chance(4) { random.range(10, most_nodes) } else { random.pick(usual_nodes) };
+    let period = random.range(1, 3);
+    let delay = period * random.range(4, most_periods);
+    let timeout = period + delay + random.pick(&[0, 0, 0, 1]);
+    let at_second = (2 * gap as u64 - 1) * timeout;
+    let end = at_second + random.range(3, 5) * timeout;
+    let order = some_order(random, nodes);
+    let mut draft = Draft { nodes, period, timeout, delay, end, order, crashes: Vec::new(), delays: Vec::new() };
+    let mut row = draft.ring();
+    row.rotate_left(random.below(nodes) as usize);
+    let reported = at_second + delay - random.range(delay / 4, 3 * delay / 2);
+    let first_dies = reported.saturating_sub(timeout + delay);
+    let mut rows = vec![(first_dies, row[0]), (reported + random.range(1, delay / 2), row[1])];
+    rows.extend(row[2..].iter().take(gap).map(|node| (random.range(0, period), *node)));
+    rows.extend((0..random.pick(&[0, 0, 1, 2, nodes / 6])).map(|_| (random.range(0, end), random.below(nodes))));
+    put_crashes(&mut draft, rows);
+    if random.chance(3) {
         put_delays(random, &mut draft);
     }
     draft
@@ -517,6 +563,7 @@ fn damage_fields(random: &mut Random, fields: &mut Vec<String>, nodes: u64) {
 #[cfg(test)]
 mod tests {
     use super::super::plan;
+    use super::super::platform::Platform;
     use super::*;
 
     /// About half of the good files have a Q line. Among rings of more than four nodes, each kind of order comes up, and most
@@ -540,6 +587,32 @@ mod tests {
             assert!(count > 20, "{count} orders are {kind}");
         }
         assert!(mixed * 3 > large.len() * 2, "{mixed} of {} orders are mixed", large.len());
+    }
+
+    /// How many of these files move a node by a report.
+    fn moving(files: impl Iterator<Item = Vec<u8>>) -> usize {
+        let moves = |file: Vec<u8>| {
+            let mut platform = Platform::open(plan::read(&file).expect("the file is accepted"));
+            platform.run(u64::MAX);
+            platform.moves_by_report() > 0
+        };
+        files.filter(|file| moves(file.clone())).count()
+    }
+
+    /// Of the files that are made for it about a third moves a node by a report, with a Q line and without one, and of all
+    /// good files one in twenty.
+    #[test]
+    fn reports_of_the_emitter_move_nodes() {
+        for size in [USUAL, SMALL] {
+            let (ordered, plain): (Vec<_>, Vec<_>) =
+                (0..300).map(|index| reported_plan(102, index, size)).partition(|file| file.windows(3).any(|part| part == b"\nQ,"));
+            for files in [ordered, plain] {
+                let (all, moving) = (files.len(), moving(files.into_iter()));
+                assert!(all > 100 && moving * 6 > all, "{moving} of {all} files made for it");
+            }
+        }
+        let moving = moving((0..600).map(|index| plan(102, index)));
+        assert!(moving > 15, "{moving} of 600 files");
     }
 
     /// Damaged files have bad Q lines in the second place, refused by each number that there is, and Q lines in others.

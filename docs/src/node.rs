@@ -1,4 +1,4 @@
-//! The rules of one node, in 01's order and words.
+//! The rules of one node, in 01's order and words, R as request 102 amends it.
 
 use super::limits::MAX_SENDS;
 use super::ring::{self, Ring};
@@ -117,7 +117,7 @@ impl Node {
         match content {
             Content::Heartbeat => self.take_heartbeat(settings, tick, sender),
             Content::NewObserver => self.take_new_observer(tick, sender),
-            Content::Report { subject } => return self.take_report(settings, subject),
+            Content::Report { subject } => return self.take_report(settings, tick, subject),
         }
         Sends::none()
     }
@@ -136,13 +136,18 @@ impl Node {
     }
 
     /// "Message R of a subject: already listed or the node itself, nothing. Otherwise it is listed
-    /// and R of the same subject goes to the forward targets. The emitter and the watch don't change."
-    fn take_report(&mut self, settings: &Settings, subject: u8) -> Sends {
+    /// and R of the same subject goes to the forward targets." The emitter "is left straight away":
+    /// "such a report makes the node move in the same event".
+    fn take_report(&mut self, settings: &Settings, tick: u32, subject: u8) -> Sends {
         let mut sends = Sends::none();
-        if subject != self.number && !ring::listed(self.dead_list, subject) {
-            self.dead_list = ring::with(self.dead_list, subject);
-            self.report(settings, subject, &mut sends);
+        if subject == self.number || ring::listed(self.dead_list, subject) {
+            return sends;
         }
+        if subject == self.emitter {
+            return self.leave_emitter(settings, tick);
+        }
+        self.dead_list = ring::with(self.dead_list, subject);
+        self.report(settings, subject, &mut sends);
         sends
     }
 
@@ -162,11 +167,16 @@ impl Node {
         sends
     }
 
-    /// "Watch due: list the emitter; the new emitter is the first unlisted node going back from it.
-    /// If that is the node itself, it is alone. Otherwise watch due becomes this tick + 2 × W;
-    /// send O to the new emitter, then R of the old one to the forward targets, also if it was
-    /// listed before."
+    /// The watch is due.
     pub fn expire_watch(&mut self, settings: &Settings, tick: u32) -> Sends {
+        self.leave_emitter(settings, tick)
+    }
+
+    /// What an expired watch and a report of the emitter both do: "list the emitter; the new emitter is
+    /// the first unlisted node going back from it. If that is the node itself, it is alone. Otherwise
+    /// watch due becomes this tick + 2 × W; send O to the new emitter, then R of the old one to the
+    /// forward targets".
+    fn leave_emitter(&mut self, settings: &Settings, tick: u32) -> Sends {
         let mut sends = Sends::none();
         let left = self.emitter;
         self.dead_list = ring::with(self.dead_list, left);
@@ -234,6 +244,21 @@ mod tests {
         assert_eq!((alone.emitter, alone.observer, alone.watch, alone.heartbeat), (0, 0, None, None));
     }
 
+    /// In the same ring, 2 → 0 → 3 → 1 → 2, by reports: node 3 goes back from 0 over 2, which it lists, to 1, and then is alone.
+    #[test]
+    fn a_reported_emitter_is_left_in_the_order_of_the_ring() {
+        let settings = Settings { ring: Ring::in_order(&[2, 0, 3, 1]), ..EIGHT };
+        let mut node = Node::open(&settings, 3);
+        assert_eq!(node.deliver(&settings, 3, 1, Content::Report { subject: 2 }).as_slice(), reports(2, &[1, 0]));
+        assert_eq!((node.emitter, node.watch), (0, Some(10)));
+        let sends = node.deliver(&settings, 4, 1, Content::Report { subject: 0 });
+        assert_eq!((node.emitter, node.dead_list, node.watch), (1, 0b0101, Some(24)));
+        let observer = vec![Sent { receiver: 1, content: Content::NewObserver }];
+        assert_eq!(sends.as_slice(), [observer, reports(0, &[1])].concat());
+        assert!(node.deliver(&settings, 5, 2, Content::Report { subject: 1 }).as_slice().is_empty());
+        assert_eq!((node.emitter, node.observer, node.watch, node.heartbeat), (3, 3, None, None));
+    }
+
     #[test]
     fn only_the_emitter_renews_the_watch() {
         let before = Node::open(&EIGHT, 1);
@@ -291,12 +316,76 @@ mod tests {
         }
     }
 
+    /// Node 1 lists 7 and gets a report of 0: it goes back from 0 over 7 to 6, as an expired watch would at that tick.
     #[test]
-    fn a_report_of_the_emitter_leaves_emitter_and_watch() {
-        let before = Node::open(&EIGHT, 1);
+    fn a_report_of_the_emitter_moves_as_an_expired_watch_does() {
+        let before = Node { dead_list: 1 << 7, ..Node::open(&EIGHT, 1) };
+        let (mut reported, mut expired) = (before, before);
+        let sends = reported.deliver(&EIGHT, 4, 5, Content::Report { subject: 0 });
+        assert_eq!(reported, Node { emitter: 6, watch: Some(4 + 20), dead_list: 1 << 7 | 1, ..before });
+        let observer = Sent { receiver: 6, content: Content::NewObserver };
+        assert_eq!(sends.as_slice(), [vec![observer], reports(0, &[2, 3, 5])].concat());
+        assert_eq!(sends.as_slice(), expired.expire_watch(&EIGHT, 4).as_slice());
+        assert_eq!(reported, expired);
+    }
+
+    /// Once it has moved, the same report is of a listed node, and one of the new emitter moves it again.
+    #[test]
+    fn reports_of_one_emitter_after_another() {
+        let mut node = Node::open(&EIGHT, 1);
+        let report = |node: &mut Node, tick, subject| node.deliver(&EIGHT, tick, 5, Content::Report { subject });
+        report(&mut node, 4, 0);
+        let moved = node;
+        assert!(report(&mut node, 5, 0).as_slice().is_empty());
+        assert_eq!(node, moved);
+        let sends = report(&mut node, 6, 7);
+        assert_eq!(node, Node { emitter: 6, watch: Some(26), dead_list: 1 << 7 | 1, ..moved });
+        assert_eq!(sends.as_slice()[1..], reports(7, &[2, 3, 5]));
+    }
+
+    /// Where all others are listed but the emitter, a report of it leaves the node alone: both timers off, nothing sent.
+    #[test]
+    fn a_node_is_alone_by_report() {
+        let before = Node { dead_list: 0b1111_1100, ..Node::open(&EIGHT, 1) };
         let mut node = before;
-        node.deliver(&EIGHT, 4, 6, Content::Report { subject: 0 });
-        assert_eq!(node, Node { dead_list: 1, ..before });
+        assert!(node.deliver(&EIGHT, 4, 5, Content::Report { subject: 0 }).as_slice().is_empty());
+        let alone = Node { emitter: 1, observer: 1, watch: None, heartbeat: None, dead_list: 0b1111_1101, ..before };
+        assert_eq!(node, alone);
+    }
+
+    /// A lent node may have its watch off beside another emitter. A move sets it.
+    #[test]
+    fn a_report_of_the_emitter_sets_a_watch_that_is_off() {
+        let before = Node { watch: None, ..Node::open(&EIGHT, 1) };
+        let mut node = before;
+        node.deliver(&EIGHT, 4, 5, Content::Report { subject: 0 });
+        assert_eq!(node, Node { emitter: 7, watch: Some(24), dead_list: 1, ..before });
+    }
+
+    /// Of the eight nodes, a report of each but the emitter leaves emitter and watch.
+    #[test]
+    fn other_reports_leave_emitter_and_watch() {
+        let before = Node::open(&EIGHT, 1);
+        for subject in 2..8 {
+            let mut node = before;
+            let sends = node.deliver(&EIGHT, 4, 5, Content::Report { subject });
+            assert_eq!(node, Node { dead_list: 1 << subject, ..before });
+            let targets = EIGHT.ring.forward_targets(1 << subject, 1);
+            assert_eq!(sends.as_slice(), reports(subject, targets.as_slice()));
+        }
+    }
+
+    /// A node that is alone is its own emitter, and a report of itself is nothing, whatever it lists.
+    #[test]
+    fn a_report_at_a_node_that_is_alone() {
+        let mut alone = Node { dead_list: 0b1111_1100, ..Node::open(&EIGHT, 1) };
+        alone.expire_watch(&EIGHT, 10);
+        let before = Node { dead_list: 1, ..alone };
+        let mut node = before;
+        assert!(node.deliver(&EIGHT, 11, 5, Content::Report { subject: 1 }).as_slice().is_empty());
+        assert_eq!(node, before);
+        assert_eq!(node.deliver(&EIGHT, 11, 5, Content::Report { subject: 4 }).as_slice(), reports(4, &[2, 3, 6]));
+        assert_eq!(node, Node { dead_list: 1 << 4 | 1, ..before });
     }
 
     #[test]
@@ -317,14 +406,6 @@ mod tests {
         let mut expected = vec![Sent { receiver: 6, content: Content::NewObserver }];
         expected.extend(reports(0, &[2, 3, 5]));
         assert_eq!(sends.as_slice(), expected);
-    }
-
-    #[test]
-    fn an_emitter_listed_before_is_reported_again() {
-        let mut node = Node { dead_list: 1, ..Node::open(&EIGHT, 1) };
-        let sends = node.expire_watch(&EIGHT, 10);
-        assert_eq!((node.emitter, node.dead_list), (7, 1));
-        assert_eq!(sends.as_slice()[1..], reports(0, &[2, 3, 5]));
     }
 
     #[test]

@@ -90,6 +90,8 @@ fn check_part(length: usize) -> Result<(), u8> {
 
 #[cfg(test)]
 mod tests {
+    use super::super::random::Random;
+    use super::super::ring;
     use super::*;
 
     const H: u64 = b'H' as u64;
@@ -150,6 +152,42 @@ mod tests {
         assert_eq!((record.last_tick, record.node.watch), (7, Some(17)));
         record.deliver(1_000_000, O, 3, 0, 56).unwrap();
         assert_eq!((record.last_tick, record.node.heartbeat), (1_000_000, Some(1_000_000)));
+    }
+
+    /// A report of the emitter moves the node at the call's tick, the watch overdue or not, until it is alone.
+    #[test]
+    fn a_reported_emitter_is_left() {
+        let mut record = Record::open(1, 3, 2, 10).unwrap();
+        assert_eq!(record.deliver(30, R, 2, 0, 56).unwrap().as_slice().len(), 1 + 1);
+        assert_eq!((record.node.emitter, record.node.watch, record.node.dead_list), (2, Some(50), 0b001));
+        assert!(record.deliver(31, R, 0, 2, 56).unwrap().as_slice().is_empty());
+        assert_eq!((record.node.emitter, record.node.watch, record.node.heartbeat), (1, None, None));
+        assert_eq!((record.node.observer, record.node.dead_list, record.last_tick), (1, 0b101, 31));
+        assert_eq!(record.deliver(32, R, 0, 1, 56).map(|_| ()), Err(11));
+    }
+
+    /// Whatever the calls, no accepted one leaves a record whose emitter is listed. Some leave the node alone.
+    #[test]
+    fn no_call_leaves_a_listed_emitter() {
+        let mut random = Random::seeded(102);
+        let (mut reported, mut alone) = (0, 0);
+        for _ in 0..400 {
+            let nodes = random.range(1, 9);
+            let mut record = Record::open(random.below(nodes), nodes, 3, random.range(1, 20)).unwrap();
+            for _ in 0..40 {
+                let (before, tick) = (record.node, u64::from(record.last_tick) + random.below(8));
+                if random.chance(3) {
+                    record.do_timer(tick, 56).unwrap();
+                } else {
+                    let (kind, sender) = (random.pick(&[H, O, R, R]), random.below(nodes));
+                    let moved = record.deliver(tick, kind, sender, random.below(nodes), 56).is_ok() && record.node.emitter != before.emitter;
+                    reported += u64::from(moved);
+                    alone += u64::from(moved && record.node.emitter == record.node.number);
+                }
+                assert!(!ring::listed(record.node.dead_list, record.node.emitter), "{record:?}");
+            }
+        }
+        assert!(reported > 200 && alone > 50, "{reported} moves by report, {alone} of them to be alone");
     }
 
     #[test]

@@ -4,6 +4,7 @@
 //! - `simulate table`: lines `N,LIST`; writes the refusal number and the 384 targets of each.
 //! - `simulate lines`: log lines; writes the log reader's answer to each.
 //! - `simulate time FILE..`: does the events of each file without a log and prints the time.
+//! - `simulate moves FILE..`: prints how many moves by report the files lead to, all together.
 
 use simulator::fields;
 use simulator::limits::*;
@@ -23,7 +24,8 @@ fn main() -> ExitCode {
         (Some("table"), 1) => answer_lines(&mut out, answer_table),
         (Some("lines"), 1) => answer_lines(&mut out, answer_log_line),
         (Some("time"), _) => arguments[1..].iter().try_for_each(|path| time(&mut out, path)),
-        _ => Err(io::Error::other("usage: simulate [table | lines | time FILE..]")),
+        (Some("moves"), _) => moves(&mut out, &arguments[1..]),
+        _ => Err(io::Error::other("usage: simulate [table | lines | time FILE.. | moves FILE..]")),
     };
     match answer.and_then(|()| out.flush()) {
         Ok(()) => ExitCode::SUCCESS,
@@ -113,4 +115,17 @@ fn time(out: &mut impl Write, path: &std::ffi::OsString) -> io::Result<()> {
     let seconds = start.elapsed().as_secs_f64();
     let rate = run.events as f64 / seconds.max(1e-9);
     writeln!(out, "{name}: {:?}, {} events, {seconds:.3} s, {rate:.0} events/s", run.ending, run.events)
+}
+
+/// Prints the number of reports that move a node, in all the files; a refused file has none.
+fn moves(out: &mut impl Write, paths: &[std::ffi::OsString]) -> io::Result<()> {
+    let mut moves = 0;
+    for path in paths {
+        if let Ok(plan) = plan::read(&read_run_file(std::fs::File::open(path)?)?) {
+            let mut platform = Platform::open(plan);
+            platform.run(u64::MAX);
+            moves += platform.moves_by_report();
+        }
+    }
+    writeln!(out, "{moves}")
 }

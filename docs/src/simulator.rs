@@ -1,5 +1,5 @@
-//! A simulator of document 01, with request 101 of document 02: the ring failure detector, in any order of the ring, and its
-//! rehearsal platform.
+//! A simulator of document 01, with requests 101 and 102 of document 02: the ring failure detector, in any order of the ring, and
+//! its rehearsal platform.
 //!
 //! It is a second opinion on the proved platform, written from the papers alone.
 //!

@@ -1,5 +1,5 @@
 //! The store: "65,536 lent bytes, opened from an accepted run file, its unused part zero". Its fields
-//! and their ranges are those of docs/LAYOUTS.md and of document 01.
+//! and their ranges are those of docs/LAYOUTS.md, of document 01 and of request 102.
 //!
 //! `check` is number 7: "other length, a field out of range, or an unused byte not zero".
 
@@ -73,7 +73,8 @@ impl Parts {
     }
 
     /// Out of range is "a live node that lists itself, observes itself with the watch on or sends to itself
-    /// with the heartbeat on", and "a live node's timer .. due before the last event's tick".
+    /// with the heartbeat on", and "a live node's timer .. due before the last event's tick". "A listed emitter
+    /// is from now on a field out of range", a crashed node's too: no rule leads there.
     fn node_in_range(&self, node: &Node) -> bool {
         let Plan { nodes, period, timeout, .. } = self.plan;
         let last = u64::from(self.last_tick);
@@ -84,6 +85,7 @@ impl Parts {
         node.emitter < nodes
             && node.observer < nodes
             && (u64::from(nodes) == MAX_NODES || node.dead_list >> nodes == 0)
+            && !ring::listed(node.dead_list, node.emitter)
             && up_to(node.watch, 2 * timeout)
             && up_to(node.heartbeat, period)
             && (!node.alive
@@ -491,10 +493,11 @@ mod tests {
             (HEARTBEAT, 0, last + period + 1, true),
             (HEARTBEAT, 0, last + period + 2, false),
             (HEARTBEAT, 3, 1, true),
-            (DEAD_LIST, 0, 0b11110, true),
+            (DEAD_LIST, 0, 0b01110, true),
             (DEAD_LIST, 0, 0b1, false),
             (DEAD_LIST, 0, 0b100000, false),
-            (DEAD_LIST, 3, 0b11111, true),
+            (DEAD_LIST, 3, 0b11011, true),
+            (DEAD_LIST, 3, 0b100000, false),
             (CRASH_TICK, 0, 0, true),
             (CRASH_TICK, 0, 41, false),
             (CRASH_TICK, 1, last, true),
@@ -525,6 +528,27 @@ mod tests {
         for (field, place, number, passes) in cases {
             assert_eq!(check(&changed(field, place, number)), passes, "{field:?} place {place}: {number}");
         }
+    }
+
+    /// No node lists its emitter: neither a live one, 4, which has left 3 for 2, nor a crashed one, 3, which observes 2,
+    /// with the watch on or off, nor one that is its own emitter, which only a crashed one could list.
+    #[test]
+    fn a_listed_emitter_is_out_of_range() {
+        let platform = in_midst();
+        assert_eq!([3, 4].map(|place| (platform.nodes()[place].alive, platform.nodes()[place].emitter)), [(false, 2), (true, 2)]);
+        for (place, emitter, others) in [(4, 2, 0b01011), (3, 2, 0b11011), (3, 3, 0b10111)] {
+            for watch in [0, 14] {
+                let mut bytes = changed(WATCH, place, if emitter as usize == place { 0 } else { watch });
+                put(&mut bytes, EMITTER, place, emitter);
+                put(&mut bytes, DEAD_LIST, place, others);
+                assert!(check(&bytes), "node {place} observes {emitter}");
+                put(&mut bytes, DEAD_LIST, place, 1 << emitter);
+                assert!(!check(&bytes), "node {place} lists {emitter}");
+                put(&mut bytes, DEAD_LIST, place, others | 1 << emitter);
+                assert!(!check(&bytes), "node {place} lists {emitter} among others");
+            }
+        }
+        assert!(!check(&changed(EMITTER, 4, 3)), "node 4 lists 3");
     }
 
     /// The bytes of every store in range come back from what is read from it.

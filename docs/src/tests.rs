@@ -6,7 +6,7 @@ use super::log::{self, Line};
 use super::node::{Content, Node, Timer};
 use super::plan::{self, Crash, Plan};
 use super::platform::{Ending, Platform, Run, Step};
-use super::queue::{Cause, Pending};
+use super::queue::{Cause, Message, Pending};
 use super::random::Random;
 use super::ring::{self, Ring};
 use super::settle;
@@ -156,6 +156,69 @@ fn a_shuffled_ring_settles_in_its_order() {
     assert!(settle::settled(platform.ring(), platform.nodes()));
     assert!(!settle::settled(&Ring::of(8), platform.nodes()));
     assert_eq!((platform.nodes()[1].emitter, platform.nodes()[2].observer), (2, 1));
+}
+
+/// The events at which a report moves a node: the line, and the node after it.
+fn moves_by_report(file: &str) -> Vec<(Line, Node)> {
+    let mut platform = open(file);
+    let mut moves = Vec::new();
+    let mut before = platform.moves_by_report();
+    while let Step::Event(line) = platform.step() {
+        if platform.moves_by_report() != before {
+            moves.push((line, platform.nodes()[line.node as usize]));
+        }
+        before = platform.moves_by_report();
+    }
+    moves
+}
+
+/// H 1, W 5, D 4, every delay 4. Node 4 expires on 3 at tick 5, on 2 at 15 and on 1 at 25, and then observes 0, which is long dead:
+///
+/// - 1 expired on 0 at tick 15. It lists 8 and 0, not yet 2 and 3, and reports to 2, 3 and 5, its first, second and fourth ahead.
+///   It crashes at 16, so that the O of 4, due at 19, is dropped.
+/// - 5 hears of it at 19 and passes it on to 6, 7 and 1; 6 and 7 hear of it at 23, and each passes it on to 4, the fourth ahead.
+/// - At tick 27 both reports come to 4. The first makes it leave 0 for 9, watch due at 27 + 10; it sends O to 9 and R of 0 to 5, 6
+///   and 8. The second does nothing. 9 is dead too: at tick 31 the O is dropped, and at 37 node 4 expires on 9.
+#[test]
+fn a_reported_emitter_among_ten() {
+    let (file, log) = (include_str!("../../tests/reported-ten.run"), include_str!("../../tests/reported-ten.log"));
+    assert_eq!(log_of(file), log);
+    let [(line, node)] = moves_by_report(file)[..] else { panic!("there is one move by report") };
+    assert_eq!(line, Line { letter: b'R', tick: 27, node: 4, other: 0, list: 0b1111 });
+    assert_eq!((node.emitter, node.watch, node.dead_list), (9, Some(37), 0b1111));
+    assert!(log.contains("W,25,4,1,000000000000000e\n") && log.contains("W,37,4,9,000000000000020f\n"));
+}
+
+/// H 1, W 13, D 12, every delay 12. Node 5 expires on 4 at tick 27, on 3 at 53 and on 2 at 79, and then observes 1, which is long dead:
+///
+/// - 2 expired on 1 at tick 45, listing nothing else, and reports to 3, 4 and 6, its first, second and fourth ahead.
+/// - 6 hears of it at 57 and passes it on to 7, 8 and 2; 7 and 8 hear of it at 69, and each passes it on to 5, the fourth ahead.
+/// - At tick 81 both reports come to 5. The first makes it leave 1 for 0, watch due at 81 + 26; it sends O to 0 and R of 1 to 6, 7
+///   and 0. 0 is live: it gets the O at 93 and sends to 5 at once.
+#[test]
+fn a_reported_emitter_among_nine() {
+    let (file, log) = (include_str!("../../tests/reported-nine.run"), include_str!("../../tests/reported-nine.log"));
+    assert_eq!(log_of(file), log);
+    let [(line, node)] = moves_by_report(file)[..] else { panic!("there is one move by report") };
+    assert_eq!(line, Line { letter: b'R', tick: 81, node: 5, other: 1, list: 0b11110 });
+    assert_eq!((node.emitter, node.watch, node.dead_list), (0, Some(107), 0b11110));
+    assert!(log.contains("O,93,0,5,000000000000001e\n") && log.contains("S,93,0,5,000000000000001e\n"));
+}
+
+/// A lent store may hold a report that leaves a node alone: node 1 lists 2 and observes 0.
+#[test]
+fn a_node_is_alone_by_report_in_a_lent_store() {
+    let opened = open("P,3,5,20,6,90\n");
+    let mut nodes = opened.nodes().to_vec();
+    nodes[1].dead_list = 0b100;
+    let message = Message { number: 0, sender: 2, receiver: 1, content: Content::Report { subject: 0 } };
+    let lent = store::encode(&Platform::resume(opened.plan().clone(), nodes, vec![(3, message)], 1, 0, 3));
+    let mut platform = store::decode(&lent).expect("the store is in range").platform;
+    assert_eq!(platform.step(), Step::Event(Line { letter: b'R', tick: 3, node: 1, other: 0, list: 0b101 }));
+    let node = platform.nodes()[1];
+    assert_eq!((node.emitter, node.observer, node.watch, node.heartbeat), (1, 1, None, None));
+    assert_eq!((platform.moves_by_report(), platform.in_flight()), (1, 0));
+    assert!(store::check(&store::encode(&platform)));
 }
 
 /// A Q line in number order, or a rotation of it, is the ring without one; so it is with one node.
@@ -342,13 +405,16 @@ fn no_claim_of_settling_before_a_crash() {
     assert!(!settle::settling_time_passed(&mut open("P,3,3,4,1,8\n")));
 }
 
-/// Every generated plan is accepted, comes back from the writer, and keeps demand 3 after each event.
+/// Every generated plan is accepted, comes back from the writer, and keeps demand 3 after each event. In some a report moves a node.
 #[test]
 fn demand_3_on_generated_plans() {
-    let mut owed = 0u64;
-    for index in 0..300 {
-        let file =
-            if index % 2 == 0 { generator::plan(SEED, index) } else { generator::spaced_plan(SEED, index) };
+    let (mut owed, mut moves) = (0u64, 0);
+    for index in 0..400 {
+        let file = match index % 4 {
+            0 | 2 => generator::plan(SEED, index),
+            1 => generator::spaced_plan(SEED, index),
+            _ => generator::reported_plan(SEED, index, generator::USUAL),
+        };
         let plan = plan::read(&file).unwrap_or_else(|refusal| panic!("index {index}: {refusal:?}"));
         assert_eq!(plan.bytes(), file, "index {index}");
         let mut platform = Platform::open(plan);
@@ -357,8 +423,10 @@ fn demand_3_on_generated_plans() {
             owed += u64::from(settle::crashes_spaced(platform) && settle::settling_time_passed(platform));
         });
         assert!(platform.next_number_in_range());
+        moves += platform.moves_by_report();
     }
     assert!(owed > 10_000, "settling was owed after {owed} events only");
+    assert!(moves > 20, "{moves} moves by report only");
 }
 
 /// The settled test does not hold of every state: after a crash it fails until the reports are through.
@@ -451,21 +519,42 @@ fn messages_in_flight_are_in_range() {
 #[test]
 fn every_store_that_events_lead_to() {
     for index in 0..40 {
-        let mut platform = Platform::open(plan::read(&generator::plan(SEED + 5, index)).unwrap());
-        for round in 0..100 {
-            let bytes = store::encode(&platform);
-            let held = store::decode(&bytes);
-            let case = format!("index {index}, round {round}");
-            assert!(store::check(&bytes) && held.is_some(), "{case}");
-            let mut held = held.unwrap();
-            assert_eq!(held.encode(), bytes, "{case}");
-            assert_eq!(held_state(&held.platform), held_state(&platform), "{case}");
-            let step = platform.step();
-            assert_eq!(held.platform.step(), step, "{case}");
-            assert_eq!(held_state(&held.platform), held_state(&platform), "{case}");
-            if !matches!(step, Step::Event(_)) || platform.run(3).ending != Ending::Spent {
-                break;
-            }
+        let platform = Platform::open(plan::read(&generator::plan(SEED + 5, index)).unwrap());
+        stores_agree(platform, 100, 3, index);
+    }
+}
+
+/// The same about the event at which a report moves a node.
+#[test]
+fn the_stores_about_a_move_by_report() {
+    let mut moved = 0;
+    for index in 0..60 {
+        let file = generator::reported_plan(SEED + 7, index, generator::SMALL);
+        let mut ahead = Platform::open(plan::read(&file).unwrap());
+        let mut platform = ahead.clone();
+        while ahead.moves_by_report() == 0 && matches!(ahead.step(), Step::Event(_)) {}
+        platform.run(ahead.events_done() - 2);
+        stores_agree(platform, 6, 0, index);
+        moved += ahead.moves_by_report();
+    }
+    assert!(moved > 10, "{moved} moves by report only");
+}
+
+/// Does a step and a run of some events, so many times, from the platform and from its store.
+fn stores_agree(mut platform: Platform, rounds: u64, budget: u64, index: u64) {
+    for round in 0..rounds {
+        let bytes = store::encode(&platform);
+        let held = store::decode(&bytes);
+        let case = format!("index {index}, round {round}");
+        assert!(store::check(&bytes) && held.is_some(), "{case}");
+        let mut held = held.unwrap();
+        assert_eq!(held.encode(), bytes, "{case}");
+        assert_eq!(held_state(&held.platform), held_state(&platform), "{case}");
+        let step = platform.step();
+        assert_eq!(held.platform.step(), step, "{case}");
+        assert_eq!(held_state(&held.platform), held_state(&platform), "{case}");
+        if !matches!(step, Step::Event(_)) || platform.run(budget).ending != Ending::Spent {
+            break;
         }
     }
 }

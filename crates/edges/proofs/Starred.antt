@@ -1,4 +1,4 @@
--- Document 01's starred edges hold, and those of document 02's Q line: each definition computes to what the table says. Assumes nothing.
+-- Document 01's starred edges hold, and those of document 02's Q line and reported emitter: each definition computes to what the table says. Assumes nothing.
 use mathlib.Core.Path.{refl}
 use Rattle.ring.specs.Ring.{among, eachOnce, listingAll}
 use Rattle.ring.specs.Ring.{keep, numbers, listed, listing, unlisted, place, round, ahead, back, next, count, powers, jumps, targets}
@@ -14,11 +14,11 @@ use Rattle.logline.specs.Line.{lineText}
 use Rattle.model.specs.Platform.{alive, survivors, crashedList, start, crashEntries, messageEntries, timerEntry, timerEntries, pending, earlier}
 use Rattle.model.specs.Platform.{first, upTo, nextEvent, delayIn, numbered, taken, without, received, apply, fits, tried, try, delayOf as messageDelay}
 use Rattle.model.specs.Lines.{otherOf, lastLine, linesFrom, log, messageDeed, deedOf, deedLines}
-use Rattle.edges.specs.Edges.{dead, targetsOf, backFrom, bytes, judged, logText, written, logOf, workedLog, Edges}
+use Rattle.edges.specs.Edges.{dead, targetsOf, backFrom, five, reportTo5, bytes, judged, logText, written, logOf, workedLog, Edges}
 
 pub edges : Edges
 unfolding among eachOnce listingAll numbersThen ringOf fresh ringLine withRing ringOrder orderOf every ringRange keep numbers listed listing
-    unlisted place round ahead back next count powers jumps targets dead targetsOf backFrom reports nodeOpening onHeartbeat onObserver onReport
+    unlisted place round ahead back next count powers jumps targets dead targetsOf backFrom five reportTo5 reports nodeOpening onHeartbeat onObserver onReport
     onHeartbeatDue leaving onMessage digit decimal hexByte numberFieldAt ends within startRanges longEnough crashRange delayRange risingFrom rising
     later hits noneTwice crashOrder above delayOrder fewDelays onto lines startPlan fieldThen pairOf crashOf delayOf startOf formOf rowOf orElse
     withCrash withDelay startLine early crashLine delayLine firstLine laterLine stepThen laterLines allLines fileOf lineText alive survivors
@@ -49,4 +49,9 @@ edges = record {
   four-numbers-refused = refl;
   ring-twice-refused = refl;
   ring-after-crash-refused = refl;
+  emitter-reported = refl;
+  last-emitter-reported = refl;
+  other-reported = refl;
+  listed-reported = refl;
+  itself-reported = refl;
 }

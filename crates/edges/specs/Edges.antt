@@ -1,11 +1,13 @@
 -- The table of document 01's starred edges, an entry each with 01's words above it: what a definition gives there; and those of document
--- 02's line Q. To add one, write its line here and `refl` for it in proofs/Starred.antt. Assumes nothing.
+-- 02's line Q and of its reported emitter. To add one, write its line here and `refl` for it in proofs/Starred.antt. Assumes nothing.
 use mathlib.Core.Path.{_≡_}
 use mathlib.Core.List.{List, [], _∷_, _++_}
 use Prim.Native.Nat.{ℕ}
 use Prim.Native.Char.{code}
 use Prim.Native.String.{String, [] as empty, _∷_ as before}
 use Rattle.ring.specs.Ring.{numbers, listing, place, back, powers, targets}
+use Rattle.node.specs.declared.Node.{Node}
+use Rattle.node.specs.Node.{Turn, due, O, R, message, silent, alone, onMessage}
 use Rattle.runfile.specs.File.{FileAnswer, accepted, turnedDown, fileOf}
 use Rattle.plans.specs.Plan.{startPlan, withRing, withDelay}
 use Rattle.logline.specs.declared.Line.{Line}
@@ -23,6 +25,14 @@ targetsOf n d i = targets (numbers 0 n) d (place (numbers 0 n) i)
 
 unfoldable pub backFrom : ℕ → ℕ → ℕ → ℕ
 backFrom n d i = back (numbers 0 n) d (place (numbers 0 n) i)
+
+-- node 5 of eight with these nodes listed and 4 as emitter, watch and heartbeat due at ticks 24 and 21
+unfoldable pub five : List ℕ → Node
+five nodes = record { emitter = 4; observer = 6; watch = due 24; heartbeat = due 21; list = dead nodes }
+
+-- what it does at tick 20 with a report of a subject from node 7, W being 10
+unfoldable pub reportTo5 : ℕ → List ℕ → Turn
+reportTo5 subject nodes = onMessage (numbers 0 8) 10 20 5 R 7 subject (five nodes)
 
 -- the bytes of a text
 unfoldable pub bytes : String → List ℕ
@@ -105,3 +115,16 @@ pub record Edges : Type 0 where
   pub four-numbers-refused : judged "P,3,2,3,1,2\nQ,1,0,2,1\n" ≡ turnedDown 2 2
   pub ring-twice-refused : judged "P,3,2,3,1,2\nQ,1,0,2\nQ,1,0,2\n" ≡ turnedDown 2 3
   pub ring-after-crash-refused : judged "P,3,2,3,1,2\nC,1,0\nQ,1,0,2\n" ≡ turnedDown 2 3
+  -- the report of document 02, #102: node 5 of eight, whose emitter is 4
+  -- "such a report makes the node move in the same event: list, new emitter, watch due tick + 2 × W, O to the new emitter, then the R messages"
+  pub emitter-reported : reportTo5 4 (3 ∷ [])
+      ≡ record {
+        node = record { emitter = 2; observer = 6; watch = due 40; heartbeat = due 21; list = dead (3 ∷ 4 ∷ []) };
+        sends = message O 2 0 ∷ message R 6 4 ∷ message R 7 4 ∷ message R 1 4 ∷ [];
+      }
+  -- "if it is alone, it stops as at an expiry"
+  pub last-emitter-reported : reportTo5 4 (0 ∷ 1 ∷ 2 ∷ 3 ∷ 6 ∷ 7 ∷ []) ≡ silent (alone 5 (dead (0 ∷ 1 ∷ 2 ∷ 3 ∷ 4 ∷ 6 ∷ 7 ∷ [])))
+  -- a report of any other node as before: listed and relayed, and nothing where it is listed already or the node itself
+  pub other-reported : reportTo5 3 (2 ∷ []) ≡ record { node = five (2 ∷ 3 ∷ []); sends = message R 6 3 ∷ message R 7 3 ∷ message R 1 3 ∷ [] }
+  pub listed-reported : reportTo5 3 (3 ∷ []) ≡ silent (five (3 ∷ []))
+  pub itself-reported : reportTo5 5 (3 ∷ []) ≡ silent (five (3 ∷ []))

@@ -2,7 +2,7 @@
 use mathlib.Core.Path.{_≡_, refl, sym, ap, _∙_, subst}
 use mathlib.Core.Logic.{_⊎_, inl, inr, _≢_}
 use mathlib.Core.Bool.{Bool, true, false, cond, not}
-use mathlib.Core.List.{[], _∷_, List·Memᴰ, List·Memᴰ·not-nil, List·Memᴰ·head}
+use mathlib.Core.List.{List, [], _∷_, List·Memᴰ, List·Memᴰ·not-nil, List·Memᴰ·head}
 use Prim.Native.Nat.{ℕ, zero, suc, _+_, _≤_, _<_}
 use native.Mathlib.Omega.{arith}
 use lib.ListN.{length}
@@ -11,7 +11,8 @@ use Rattle.ring.proofs.Neighbours.{found-back}
 use Rattle.node.specs.declared.Node.{Node}
 use Rattle.node.specs.Node.{H, O, R, Turn, silent, alone, due, reports, onMessage, message, sending, leftList, newEmitter, moved, withObserver, withWatch}
 use Rattle.node.specs.Node.{withHeartbeat, withList}
-use Rattle.node.proofs.Moves.{Heard, renews, unheard, Reported, known, own, relays, Messaged, beats, observes, tells, messaged, other-is-report, beaten}
+use Rattle.node.proofs.Moves.{Heard, renews, unheard, Reported, known, own, leaves, relays, Messaged, beats, observes, tells, messaged, beaten}
+use Rattle.node.proofs.Moves.{other-is-report}
 use Rattle.node.proofs.Moves.{movedSends, Left, stops, moves, left}
 use Rattle.plans.specs.Plan.{Crash, Plan, orderOf}
 use Rattle.model.specs.Platform.{InFlight, State, Event, alive, survivors, delayOf, numbered, nodeOf, taken, messageAt, without, received, apply}
@@ -24,9 +25,10 @@ use Rattle.ring.proofs.GoingBack.{Found}
 use Rattle.ring.proofs.Laws.{keep-ext}
 use Rattle.ring.proofs.Lists.{listing-other}
 use Rattle.ring.proofs.Gaps.{gap}
-use Rattle.model.proofs.Events.{Frame, AtTimer, AtMessage, Expiry, Step, crash, drop, idle, beat, watched, report, alone as aloneS, sends, Seen}
-use Rattle.model.proofs.Events.{moves as moves-on}
+use Rattle.model.proofs.Events.{Seen, Frame, AtTimer, AtMessage, Cause, byExpiry, byReport, Leaves, Step, crash, drop, idle, beat}
+use Rattle.model.proofs.Events.{watched, report, moves as moves-on, alone as aloneS, sends}
 use Rattle.model.proofs.Invariant.{Inv}
+use Rattle.model.proofs.EmitterLeft.{report-not-alone}
 use Rattle.model.proofs.Phases.{span, crashedIn}
 use Rattle.model.proofs.SpacedRuns.{Last, none as never, at, after, SpacedStep}
 use Rattle.plans.proofs.Rows.{hit-of}
@@ -62,6 +64,77 @@ module _ (p : Plan) (ac : Accepted p) where
         → (rowAt p n) .tick + span (P p ac) (countBy (p .n) (crashedIn (view p s))) ≤ t
     unfolding Spaced settledBy S
     spaced-at n t e q sp = rw (survivors-cnt s, e) (rw (sym q, e) (sp n (omega arith)))
+
+    live-is : (x : ℕ) → alive p (s .done) x ≡ true → (n : Node) → seen (alive p (s .done) x) n ≡ seen true n
+    live-is x l n = ap (λ (b : Bool). seen b n) l
+
+    -- ---- a node that leaves its emitter: `gone` is delivered by it, `rest` is left in flight
+
+    module _ (t : ℕ) (a : s .last ≤ t) (b : t ≤ p .end) (x : ℕ) (xN : x < p .n) (alive-x : alive p (s .done) x ≡ true) (gone rest : List InFlight)
+        (why : Cause (P p ac) (view p s) t x gone) (other : (nodeOf s x) .emitter ≢ x) (at-message : AtMessage (P p ac) (view p s) t)
+        (keeps : (g : InFlight) → List·Memᴰ g (s .flight) → List·Memᴰ g gone ⊎ List·Memᴰ g rest)
+        (old : (g : InFlight) → List·Memᴰ g rest → List·Memᴰ g (s .flight)) where
+      abbrev nx : Node
+      nx = nodeOf s x
+
+      abbrev io : InOrder (p .n) (orderOf p)
+      io = (ac .plain) .order
+
+      abbrev y : ℕ
+      y = newEmitter (orderOf p) nx
+
+      un : listed (leftList nx) x ≡ false
+      un = listing-other (nx .list) (nx .emitter) x other ((r .live x alive-x) .lists)
+
+      -- the new emitter is found going back from the old one, seen from x
+      back-found : Found (p .n) io (listed (leftList nx)) x (gap (p .n) io x (nx .emitter)) y
+      back-found = found-back (p .n) (leftList nx) (orderOf p) io x xN un (nx .emitter) ((r .fields x xN) .emitter) other
+
+      leaving : Leaves (P p ac) (view p s) t x gone (listed (leftList nx)) y
+      leaving = record {
+        live = alive-x;
+        cause = why;
+        apart = other;
+        adds = adds p ac s r (nx .list) (nx .emitter);
+        back = record { inN = back-found .inN; unlisted = back-found .unlisted; past = back-found .past; passed = back-found .passed };
+        least = at-message;
+      }
+
+      leaves-does : (u : Turn) → Left (orderOf p) (p .w) t x nx u → Does (taken p s t x rest u)
+      unfolding taken numbered
+      leaves-does u (stops e) = stop gone why leaving keeps
+        where
+          stop : (gone : List InFlight) → Cause (P p ac) (view p s) t x gone → Leaves (P p ac) (view p s) t x gone (listed (leftList nx)) y
+              → ((g : InFlight) → List·Memᴰ g (s .flight) → List·Memᴰ g gone ⊎ List·Memᴰ g rest) → Does (taken p s t x rest u)
+          stop _ (byExpiry on due none) l kp = record {
+            step = aloneS t x (listed (leftList nx)) record {
+              leaves = rw e at l;
+              frame = frame p ac s r t x [] rest (silent (alone x (leftList nx))) _ xN a b (live-is x alive-x (alone x (leftList nx))) kp old;
+            };
+            last = refl;
+            spaced = λ sp. tt;
+            more = omega arith;
+          }
+          stop _ (byReport m h to k about due) l kp = absurd (report-not-alone (P p ac) (view p s) (view p s) i t x _ _ y l m h to k due e)
+      leaves-does u (moves ne) = record {
+        step = moves-on t x gone (listed (leftList nx)) _
+            (record { number = s .next; kind = O; from = x; to = y; subject = 0; due = t + delayOf p (s .next) })
+            (numbered p t x (suc (s .next)) (reports (nx .emitter) (targets (orderOf p) (leftList nx) (place (orderOf p) x)))) record {
+              leaves = leaving;
+              other = ne;
+              o-by = refl;
+              o-after = omega (arith, (delay-ok p (ac .plain) (s .next)) .0);
+              o-within = omega (arith, (delay-ok p (ac .plain) (s .next)) .1);
+              o-kind = refl;
+              o-to = refl;
+              rs = told p ac s r x t (nx .emitter) (leftList nx) (suc (s .next)) xN un;
+              frame = frame p ac s r t x gone rest (sending (moved (p .w) t y (leftList nx) nx) (movedSends (orderOf p) (p .w) t x nx)) _ xN a b
+                  (live-is x alive-x (moved (p .w) t y (leftList nx) nx)) keeps old;
+            };
+        last = refl;
+        spaced = λ sp. tt;
+        more = omega arith;
+      }
 
     module _ (t : ℕ) (a : s .last ≤ t) (b : t ≤ p .end) where
       crash-does : (k : ℕ) → Chosen p (ac .plain) s t (crashE k) → Does (apply p s t (crashE k))
@@ -101,9 +174,6 @@ module _ (p : Plan) (ac : Accepted p) where
       timer-least : NotBefore p s (suc t) (suc t) t → AtTimer (P p ac) (view p s) t
       timer-least nb = least p ac s r (suc t) (suc t) t nb
 
-      live-is : (x : ℕ) → alive p (s .done) x ≡ true → (n : Node) → seen (alive p (s .done) x) n ≡ seen true n
-      live-is x l n = ap (λ (b : Bool). seen b n) l
-
       beat-does : (x : ℕ) → Chosen p (ac .plain) s t (beatE x) → Does (apply p s t (beatE x))
       unfolding Chosen apply taken numbered
       beat-does x ch = rw (beaten (p .h) t (nodeOf s x)) (record {
@@ -125,77 +195,18 @@ module _ (p : Plan) (ac : Accepted p) where
         more = omega arith;
       })
 
-      -- ---- a watch that is due
-
-      module _ (x : ℕ) (xN : x < p .n) (alive-x : alive p (s .done) x ≡ true) (due-x : (nodeOf s x) .watch ≡ suc t)
-          (nb : NotBefore p s (suc t) (suc t) t) where
-        abbrev nx : Node
-        nx = nodeOf s x
-
-        abbrev io : InOrder (p .n) (orderOf p)
-        io = (ac .plain) .order
-
-        abbrev o : InOrder (p .n) (orderOf p)
-        o = io
-
-        abbrev y : ℕ
-        y = newEmitter (orderOf p) nx
-
-        other : nx .emitter ≢ x
-        other = (r .live x alive-x) .observes (λ z. omega arith)
-
-        un : listed (leftList nx) x ≡ false
-        un = listing-other (nx .list) (nx .emitter) x other ((r .live x alive-x) .lists)
-
-        -- the new emitter is found going back from the old one, seen from x
-        back-found : Found (p .n) o (listed (leftList nx)) x (gap (p .n) o x (nx .emitter)) y
-        back-found = found-back (p .n) (leftList nx) (orderOf p) io x xN un (nx .emitter) ((r .fields x xN) .emitter) other
-
-        expiry : Expiry (P p ac) (view p s) t x (listed (leftList nx)) y
-        expiry = record {
-          live = alive-x;
-          on = (on-of (nx .watch) t due-x) .0;
-          due = (on-of (nx .watch) t due-x) .1;
-          adds = adds p ac s r (nx .list) (nx .emitter);
-          back = record { inN = back-found .inN; unlisted = back-found .unlisted; past = back-found .past; passed = back-found .passed };
-          least = timer-least nb;
-        }
-
-        -- the node leaves its emitter
-        leaves : (u : Turn) → Left (orderOf p) (p .w) t x nx u → Does (taken p s t x (s .flight) u)
-        unfolding taken numbered
-        leaves u (stops e) = record {
-          step = aloneS t x (listed (leftList nx)) record {
-            expiry = rw e at expiry;
-            frame = frame p ac s r t x [] (s .flight) (silent (alone x (leftList nx))) _ xN a b
-                (live-is x alive-x (alone x (leftList nx))) (λ g h. inr h) (λ g h. h);
-          };
-          last = refl;
-          spaced = λ sp. tt;
-          more = omega arith;
-        }
-        leaves u (moves ne) = record {
-          step = moves-on t x (listed (leftList nx)) _ (record { number = s .next; kind = O; from = x; to = y; subject = 0; due = t + delayOf p (s .next) })
-              (numbered p t x (suc (s .next)) (reports (nx .emitter) (targets (orderOf p) (leftList nx) (place (orderOf p) x)))) record {
-                expiry = expiry;
-                other = ne;
-                o-by = refl;
-                o-after = omega (arith, (delay-ok p (ac .plain) (s .next)) .0);
-                o-within = omega (arith, (delay-ok p (ac .plain) (s .next)) .1);
-                o-kind = refl;
-                o-to = refl;
-                rs = told p ac s r x t (nx .emitter) (leftList nx) (suc (s .next)) xN un;
-                frame = frame p ac s r t x [] (s .flight) (sending (moved (p .w) t y (leftList nx) nx) (movedSends (orderOf p) (p .w) t x nx)) _ xN a b
-                    (live-is x alive-x (moved (p .w) t y (leftList nx) nx)) (λ g h. inr h) (λ g h. h);
-              };
-          last = refl;
-          spaced = λ sp. tt;
-          more = omega arith;
-        }
+      watch-least : AtTimer (P p ac) (view p s) t → AtMessage (P p ac) (view p s) t
+      watch-least l =
+          record { message≥ = λ g h. omega (arith, l .message≥ g h); watch≥ = l .watch≥; heartbeat≥ = l .heartbeat≥; crash≥ = l .crash≥ }
 
       watch-does : (x : ℕ) → Chosen p (ac .plain) s t (watchE x) → Does (apply p s t (watchE x))
       unfolding Chosen apply
-      watch-does x ch = leaves x (in-n p (ac .plain) s r x (ch .0)) (ch .1) (ch .2) (ch .3) _ (left (orderOf p) (p .w) t x (nodeOf s x))
+      watch-does x ch =
+          let on = on-of ((nodeOf s x) .watch) t (ch .2) in
+          let at-timer = timer-least (ch .3) in
+          leaves-does t a b x (in-n p (ac .plain) s r x (ch .0)) (ch .1) [] (s .flight) (byExpiry (on .0) (on .1) (at-timer .message≥))
+          ((r .live x (ch .1)) .observes (λ z. omega (arith, ch .2))) (watch-least at-timer) (λ g h. inr h) (λ g h. h) _
+          (left (orderOf p) (p .w) t x (nodeOf s x))
 
     -- a message, at the tick at which it is due
     module _ (k : ℕ) (less : k < length (s .flight)) (b : (messageAt s k) .due ≤ p .end)
@@ -221,22 +232,21 @@ module _ (p : Plan) (ac : Accepted p) where
       dl : AtMessage (P p ac) (view p s) (m .due)
       dl = least p ac s r (suc (m .due)) (m .due) (m .due) nb
 
+      keeps : (g : InFlight) → List·Memᴰ g (s .flight) → List·Memᴰ g (m ∷ []) ⊎ List·Memᴰ g (without k (s .flight))
+      keeps g h = go (without-has (s .flight) k g h)
+        where
+          go : (g ≡ m) ⊎ List·Memᴰ g (without k (s .flight)) → List·Memᴰ g (m ∷ []) ⊎ List·Memᴰ g (without k (s .flight))
+          go (inl e) = inl (List·Memᴰ·head e)
+          go (inr h) = inr h
+
       fr : (u : Turn) (n' : Seen) → seen (alive p (s .done) x) (u .node) ≡ n'
           → Frame (P p ac) (view p s) (view p (taken p s (m .due) x (without k (s .flight)) u)) (m .due) x n' (m ∷ [])
           (numbered p (m .due) x (s .next) (u .sends))
       fr u n' e =
-          frame p ac s r (m .due) x (m ∷ []) (without k (s .flight)) u n' (fl .to) a b e (λ g h. kp g (without-has (s .flight) k g h))
-          (without-in (s .flight) k)
-        where
-          kp : (g : InFlight) → (g ≡ m) ⊎ List·Memᴰ g (without k (s .flight)) → List·Memᴰ g (m ∷ []) ⊎ List·Memᴰ g (without k (s .flight))
-          kp g (inl e) = inl (List·Memᴰ·head e)
-          kp g (inr h) = inr h
+          frame p ac s r (m .due) x (m ∷ []) (without k (s .flight)) u n' (fl .to) a b e keeps (without-in (s .flight) k)
 
       abbrev Goes : Turn → Type 0
       Goes u = Does (taken p s (m .due) x (without k (s .flight)) u)
-
-      live : alive p (s .done) x ≡ true → (v : Node) → seen (alive p (s .done) x) v ≡ seen true v
-      live l v = ap (λ (c : Bool). seen c v) l
 
       drops : alive p (s .done) x ≡ false → Goes (silent n)
       unfolding taken numbered
@@ -262,7 +272,7 @@ module _ (p : Plan) (ac : Accepted p) where
       unfolding taken numbered
       heartbeat-does l k0 u (unheard e) = idles l (inl (k0, e))
       heartbeat-does l k0 u (renews e) = let v : Node = withWatch n (due (m .due + p .w)) in record {
-        step = beat m record { has = has; live = l; kind = k0; of = e; least = dl; frame = fr (silent v) _ (live l v) };
+        step = beat m record { has = has; live = l; kind = k0; of = e; least = dl; frame = fr (silent v) _ (live-is x l v) };
         last = refl;
         spaced = λ sp. tt;
         more = omega arith;
@@ -276,18 +286,21 @@ module _ (p : Plan) (ac : Accepted p) where
           live = l;
           kind = k1;
           least = dl;
-          frame = fr (silent v) _ (live l v);
+          frame = fr (silent v) _ (live-is x l v);
         };
         last = refl;
         spaced = λ sp. tt;
         more = omega arith;
       }
 
-      report-does : alive p (s .done) x ≡ true → m .kind ≡ R → (u : Turn) → Reported (orderOf p) x (m .subject) n u → Goes u
+      report-does : alive p (s .done) x ≡ true → m .kind ≡ R → (u : Turn) → Reported (orderOf p) (p .w) (m .due) x (m .subject) n u → Goes u
       unfolding taken
       report-does l k2 u (known e) = idles l (inr (k2, inl e))
       report-does l k2 u (own e) = idles l (inr (k2, inr e))
-      report-does l k2 u (relays fresh ne) =
+      report-does l k2 u (leaves fresh ne about v g) =
+          leaves-does (m .due) a b x (fl .to) l (m ∷ []) (without k (s .flight)) (byReport m has refl k2 about refl) (λ q. ne (about ∙ q)) dl keeps
+          (without-in (s .flight) k) v g
+      report-does l k2 u (relays fresh ne other) =
           let list : ℕ = listing (n .list) (m .subject) in
           let un : listed list x ≡ false = listing-other (n .list) (m .subject) x ne ((r .live x l) .lists) in
           record {
@@ -299,7 +312,7 @@ module _ (p : Plan) (ac : Accepted p) where
               fresh = fresh;
               rs = told p ac s r x (m .due) (m .subject) list (s .next) (fl .to) un;
               least = dl;
-              frame = fr (sending (withList n list) (reports (m .subject) (targets (orderOf p) list (place (orderOf p) x)))) _ (live l (withList n list));
+              frame = fr (sending (withList n list) (reports (m .subject) (targets (orderOf p) list (place (orderOf p) x)))) _ (live-is x l (withList n list));
             };
             last = refl;
             spaced = λ sp. tt;

@@ -182,7 +182,7 @@ module _ (p : Params) where
         list = l;
       }
 
-  -- its watch expired at t: the list became l, the emitter e
+  -- it left its emitter at t: the list became l, the emitter e
   abbrev pub moving : Seen → (ℕ → Bool) → ℕ → ℕ → Seen
   moving n l e t =
       record {
@@ -255,7 +255,7 @@ module _ (p : Params) where
     pub least : AtMessage s (m .due)
     pub frame : Frame s s' (m .due) (m .to) (watching (s .node (m .to)) (m .from) (m .due)) (m ∷ []) []
 
-  -- a report of a node that is not listed yet
+  -- a report of a node that is not listed yet and is not the emitter
   pub record Report (s s' : View) (m : InFlight) (list' : ℕ → Bool) (out : List InFlight) : Type 0 where
     pub has : m ∈ s .flight
     pub live : Live s (m .to)
@@ -266,18 +266,24 @@ module _ (p : Params) where
     pub least : AtMessage s (m .due)
     pub frame : Frame s s' (m .due) (m .to) (listing (s .node (m .to)) list') (m ∷ []) out
 
-  -- the watch of x is due at t
-  pub record Expiry (s : View) (t x : ℕ) (list' : ℕ → Bool) (e : ℕ) : Type 0 where
+  -- why x leaves its emitter at t, and the message that is delivered by it: the watch is due, and no message is; or a report of the emitter
+  pub data Cause (s : View) (t x : ℕ) : List InFlight → Type 0 where
+    byExpiry : (s .node x) .watchOn ≡ true → (s .node x) .watch ≡ t → ((m : InFlight) → m ∈ s .flight → t < m .due) → Cause s t x []
+    byReport : (m : InFlight) → m ∈ s .flight → m .to ≡ x → m .kind ≡ R → m .subject ≡ (s .node x) .emitter → m .due ≡ t
+        → Cause s t x (m ∷ [])
+
+  -- x leaves its emitter at t, and e is the next
+  pub record Leaves (s : View) (t x : ℕ) (gone : List InFlight) (list' : ℕ → Bool) (e : ℕ) : Type 0 where
     pub live : Live s x
-    pub on : (s .node x) .watchOn ≡ true
-    pub due : (s .node x) .watch ≡ t
+    pub cause : Cause s t x gone
+    pub apart : (s .node x) .emitter ≢ x
     pub adds : Adds ((s .node x) .list) list' ((s .node x) .emitter)
     pub back : Back x ((s .node x) .emitter) e list'
-    pub least : AtTimer s t
+    pub least : AtMessage s t
 
-  -- the watch expires, and x moves to e: o is the O, out are the reports
-  pub record Moves (s s' : View) (t x : ℕ) (list' : ℕ → Bool) (e : ℕ) (o : InFlight) (out : List InFlight) : Type 0 where
-    pub expiry : Expiry s t x list' e
+  -- x moves to e: o is the O, out are the reports
+  pub record Moves (s s' : View) (t x : ℕ) (gone : List InFlight) (list' : ℕ → Bool) (e : ℕ) (o : InFlight) (out : List InFlight) : Type 0 where
+    pub leaves : Leaves s t x gone list' e
     pub other : e ≢ x
     pub o-by : o .from ≡ x
     pub o-after : t < o .due
@@ -285,11 +291,11 @@ module _ (p : Params) where
     pub o-kind : o .kind ≡ O
     pub o-to : o .to ≡ e
     pub rs : Reports x t ((s .node x) .emitter) list' out
-    pub frame : Frame s s' t x (moving (s .node x) list' e t) [] (o ∷ out)
+    pub frame : Frame s s' t x (moving (s .node x) list' e t) gone (o ∷ out)
 
-  -- the watch expires, and x is alone
+  -- x is alone, by its expired watch
   pub record Alone (s s' : View) (t x : ℕ) (list' : ℕ → Bool) : Type 0 where
-    pub expiry : Expiry s t x list' x
+    pub leaves : Leaves s t x [] list' x
     pub frame : Frame s s' t x (left x list') [] []
 
   -- the heartbeat of x is due at t: it sends m
@@ -312,6 +318,7 @@ module _ (p : Params) where
     beat : (m : InFlight) → Beat s s' m → Step s s'
     watched : (m : InFlight) → Watched s s' m → Step s s'
     report : (m : InFlight) (list' : ℕ → Bool) (out : List InFlight) → Report s s' m list' out → Step s s'
-    moves : (t x : ℕ) (list' : ℕ → Bool) (e : ℕ) (o : InFlight) (out : List InFlight) → Moves s s' t x list' e o out → Step s s'
+    moves : (t x : ℕ) (gone : List InFlight) (list' : ℕ → Bool) (e : ℕ) (o : InFlight) (out : List InFlight)
+        → Moves s s' t x gone list' e o out → Step s s'
     alone : (t x : ℕ) (list' : ℕ → Bool) → Alone s s' t x list' → Step s s'
     sends : (t x : ℕ) (m : InFlight) → Sends s s' t x m → Step s s'

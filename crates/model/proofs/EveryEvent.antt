@@ -34,7 +34,7 @@ module _ (p : Params) where
     pub self : m .from ≢ m .to
     pub observer : m .kind ≡ O → Tied p s' (m .from) (m .to)
     pub report : m .kind ≡ R → GoneBy s t (m .subject)
-    pub N : m .kind ≡ R → m .to < p .N
+    pub N : m .kind ≡ R → (m .from < p .N) × (m .to < p .N)
 
   -- what every event does alike
   pub record Alike (s s' : View) (t : ℕ) : Type 0 where
@@ -114,7 +114,7 @@ module _ (p : Params) where
         self : m .from ≢ m .to
         observer : m .kind ≡ O → Tied p s' (m .from) (m .to)
         report : m .kind ≡ R → Gone p s' (m .subject)
-        N : m .kind ≡ R → m .to < p .N
+        N : m .kind ≡ R → (m .from < p .N) × (m .to < p .N)
 
       -- a message of before, or a new one
       msg : (m : InFlight) → (m ∈ s .flight) ⊎ NewMessage s s' t m → All m

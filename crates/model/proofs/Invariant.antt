@@ -55,8 +55,8 @@ module _ (p : Params) where
     pub m-O : (m : InFlight) → m ∈ s .flight → m .kind ≡ O → Tied s (m .from) (m .to)
     -- no message is from its receiver
     pub m-self : (m : InFlight) → m ∈ s .flight → m .from ≢ m .to
-    -- reports go to nodes of the ring
-    pub m-N : (m : InFlight) → m ∈ s .flight → m .kind ≡ R → m .to < p .N
+    -- reports go from nodes of the ring to nodes of the ring
+    pub m-N : (m : InFlight) → m ∈ s .flight → m .kind ≡ R → (m .from < p .N) × (m .to < p .N)
     -- a node's observer observes it, or lists it
     pub observer : (a : ℕ) → Tied s ((s .node a) .observer) a
     -- no planned crash of a live node is before the last event

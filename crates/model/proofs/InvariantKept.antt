@@ -16,7 +16,7 @@ use Rattle.model.proofs.MessageIgnored.{drop-inv, idle-inv}
 use Rattle.model.proofs.HeartbeatDelivered.{beat-inv}
 use Rattle.model.proofs.ObserverDelivered.{observer-inv}
 use Rattle.model.proofs.ReportDelivered.{report-inv}
-use Rattle.model.proofs.WatchDue.{moves-inv, alone-inv}
+use Rattle.model.proofs.EmitterLeft.{moves-inv, alone-inv}
 use Rattle.model.proofs.HeartbeatDue.{sends-inv}
 
 module _ (p : Params) where
@@ -27,7 +27,7 @@ module _ (p : Params) where
   step-inv s s' i (beat m e) = beat-inv p s s' i m e
   step-inv s s' i (watched m e) = observer-inv p s s' i m e
   step-inv s s' i (report m list' out e) = report-inv p s s' i m list' out e
-  step-inv s s' i (moves t x list' y o out e) = moves-inv p s s' i t x list' y o out e
+  step-inv s s' i (moves t x gone list' y o out e) = moves-inv p s s' i t x gone list' y o out e
   step-inv s s' i (alone t x list' e) = alone-inv p s s' i t x list' e
   step-inv s s' i (sends t x m e) = sends-inv p s s' i t x m e
 

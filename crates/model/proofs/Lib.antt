@@ -22,10 +22,10 @@ pub mod MessageIgnored
 pub mod HeartbeatDelivered
 -- O
 pub mod ObserverDelivered
--- R of an unlisted node
+-- R of an unlisted node that is not the emitter
 pub mod ReportDelivered
--- watch expired: the node moves or is alone
-pub mod WatchDue
+-- the emitter is left, by an expired watch or a report: the node moves or is alone
+pub mod EmitterLeft
 -- heartbeat sent
 pub mod HeartbeatDue
 -- opening, and any event

@@ -13,8 +13,8 @@ use Rattle.ring.specs.Ring.{listing, place, targets}
 use Rattle.node.specs.declared.Node.{Node}
 use Rattle.node.specs.declared.Message.{Message}
 use Rattle.node.specs.Node.{Turn, alone, reports, onMessage, onWatchDue, onHeartbeatDue, leftList}
-use Rattle.node.proofs.Moves.{Heard, renews, unheard, Reported, known, own, relays, Messaged, beats, observes, tells, messaged, beaten, Left, stops, moves}
-use Rattle.node.proofs.Moves.{left as left-by}
+use Rattle.node.proofs.Moves.{Heard, renews, unheard, Reported, known, own, leaves, relays, Messaged, beats, observes, tells, messaged, beaten}
+use Rattle.node.proofs.Moves.{Left, stops, moves, left as left-by}
 use Rattle.node.proofs.Sends.{reports-few}
 use Rattle.plans.specs.Plan.{Plan, orderOf}
 use Rattle.model.specs.Platform.{InFlight, State, Event, crash, message, watch, heartbeat, alive, delayOf, start, numbered, nodeOf, taken, noMessage}
@@ -100,28 +100,30 @@ module _ (p : Plan) (pl : Plain p) (t x : ℕ) (n : Node) where
   unfolding ringAt one
   beat-cost e = rw (beaten (p .h) t n, not-now (p .h) (pl .h≥), eq-eqb (n .heartbeat) (suc t) e) (omega arith)
 
-  watch-cost : n .watch ≡ suc t → cost (onWatchDue (orderOf p) (p .w) t x n) ≤ 7 * ringAt t n
+  -- a node that leaves its emitter sends seven at most, and its watch is not due now
+  left-cost : (u : Turn) → Left (orderOf p) (p .w) t x n u → cost u ≤ 7 * one (eqb (n .heartbeat) (suc t)) + 7
   unfolding ringAt one
-  watch-cost e = go (onWatchDue (orderOf p) (p .w) t x n) (left-by (orderOf p) (p .w) t x n)
+  left-cost u (stops z) = rw off-not-now (omega arith)
+  left-cost u (moves z) = rw (not-now (2 * p .w) (double (p .w) (pl .w≥))) (omega (arith, few (n .emitter) (leftList n)))
     where
       double : (w : ℕ) → 1 ≤ w → 1 ≤ 2 * w
       double w h = omega arith
 
-      go : (u : Turn) → Left (orderOf p) (p .w) t x n u → cost u ≤ 7 * ringAt t n
-      go u (stops z) = rw (eq-eqb (n .watch) (suc t) e, off-not-now) (omega arith)
-      go u (moves z) =
-          rw (eq-eqb (n .watch) (suc t) e, not-now (2 * p .w) (double (p .w) (pl .w≥))) (omega (arith, few (n .emitter) (leftList n)))
+  watch-cost : n .watch ≡ suc t → cost (onWatchDue (orderOf p) (p .w) t x n) ≤ 7 * ringAt t n
+  unfolding ringAt one
+  watch-cost e = rw (eq-eqb (n .watch) (suc t) e) (omega (arith, left-cost _ (left-by (orderOf p) (p .w) t x n)))
 
   heartbeat-cost : (from : ℕ) (u : Turn) → Heard (p .w) t from n u → cost u ≤ 7 * ringAt t n + 7
   unfolding ringAt one
   heartbeat-cost from u (renews e) = rw (not-now (p .w) (pl .w≥)) (omega arith)
   heartbeat-cost from u (unheard e) = omega arith
 
-  report-cost : (subject : ℕ) (u : Turn) → Reported (orderOf p) x subject n u → cost u ≤ 7 * ringAt t n + 7
+  report-cost : (subject : ℕ) (u : Turn) → Reported (orderOf p) (p .w) t x subject n u → cost u ≤ 7 * ringAt t n + 7
   unfolding ringAt
   report-cost subject u (known e) = omega arith
   report-cost subject u (own e) = omega arith
-  report-cost subject u (relays e f) = omega (arith, few subject (listing (n .list) subject))
+  report-cost subject u (leaves e f g v l) = omega (arith, left-cost v l)
+  report-cost subject u (relays e f g) = omega (arith, few subject (listing (n .list) subject))
 
   message-cost : (kind from subject : ℕ) → cost (onMessage (orderOf p) (p .w) t x kind from subject n) ≤ 7 * ringAt t n + 7
   unfolding ringAt

@@ -7,7 +7,7 @@ use Prim.Native.Nat.{ℕ, _≤_}
 use native.Mathlib.Omega.{arith}
 use Rattle.node.specs.Node.{H, O, R}
 use Rattle.model.specs.Platform.{InFlight}
-use Rattle.model.proofs.Events.{Seen, View, Live, Lists, _∈_, Params, Report, listing}
+use Rattle.model.proofs.Events.{View, Live, Lists, _∈_, Params, Report, listing}
 use Rattle.model.proofs.Invariant.{Inv, Covered}
 use Rattle.model.proofs.EveryEvent.{GoneBy, Alike, base'}
 use Rattle.model.proofs.OneNode.{OnEach, each, alike, timers}
@@ -42,7 +42,7 @@ module _ (p : Params) (s s' : View) (i : Inv p s) where
         heartbeat = λ k. absurd (omega (arith, e .rs .kinds g h));
         observer = λ k. absurd (omega (arith, e .rs .kinds g h));
         report = λ k. rw (e .rs .subject g h) report-late;
-        N = λ k. (e .rs .each g h) .inN;
+        N = λ k. (rw (e .rs .each g h .by) (i .base .m-N m (e .has) (e .kind) .1), (e .rs .each g h) .inN);
       };
     }
       where

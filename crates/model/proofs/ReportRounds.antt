@@ -11,7 +11,7 @@ use native.Mathlib.Decide.{ℕ-discrete, decLt}
 use Rattle.node.specs.Node.{H, O, R}
 use Rattle.model.specs.Platform.{InFlight}
 use Rattle.ring.proofs.GoingBack.{iter, First, iter-add}
-use Rattle.model.proofs.Events.{Seen, View, Live, Dead, Lists, _∈_, Params, Watched, Report, watching, listing}
+use Rattle.model.proofs.Events.{View, Live, Dead, Lists, _∈_, Params, Watched, Report, watching, listing}
 use Rattle.model.proofs.Invariant.{Inv}
 use Rattle.model.proofs.EveryEvent.{live-not-dead}
 use Rattle.model.proofs.OneState.{emitter-beats}
@@ -218,7 +218,7 @@ module _ (p : Params) (s : View) (i : Inv p s) (z c T q m : ℕ) (f : ℕ → �
     r-subject = (b .reports g (e .has) (e .kind)) .0
 
     ux : Up p s (g .to)
-    ux = (i .base .m-N g (e .has) (e .kind), e .live)
+    ux = (i .base .m-N g (e .has) (e .kind) .1, e .live)
 
     knows-x : Lists s' (g .to) z
     knows-x = rw (e .frame .here) (rw r-subject at (e .adds .is))

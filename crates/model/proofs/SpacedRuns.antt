@@ -1,17 +1,17 @@
 -- A run whose crashes are spaced is in one of the phases, and S ticks after a crash every survivor is settled. Assumes nothing.
 use mathlib.Core.Path.{_≡_, sym, _∙_}
 use mathlib.Core.Logic.{_⊎_, inl, inr}
-use mathlib.Core.List.{List·Memᴰ·not-nil}
+use mathlib.Core.List.{List, [], List·Memᴰ·not-nil}
 use mathlib.Core.Bool.{Bool, true}
 use Prim.Native.Nat.{ℕ, _+_, _≤_, _<_}
 use native.Mathlib.Omega.{arith}
 use native.Mathlib.Decide.{ℕ-discrete}
 use Rattle.model.specs.Platform.{InFlight}
-use Rattle.model.proofs.Events.{View, Live, Dead, Lists, _∈_, Params, Expiry, Crash, Step, crash, drop, idle, beat, watched, report, moves, alone}
+use Rattle.model.proofs.Events.{View, Live, Dead, Lists, _∈_, Params, Leaves, Crash, Step, crash, drop, idle, beat, watched, report, moves, alone}
 use Rattle.model.proofs.Events.{sends}
 use Rattle.model.proofs.Invariant.{Inv}
 use Rattle.model.proofs.EveryEvent.{live-not-dead}
-use Rattle.model.proofs.WatchDue.{expiry-other, expiry-late}
+use Rattle.model.proofs.EmitterLeft.{leaves-late}
 use Rattle.model.proofs.InvariantKept.{step-inv, Opened, opened-inv}
 use Rattle.model.proofs.Phases.{span, crashedIn, Up, Calm, Unnoticed, Spreading, Quiet, drop-quiet, idle-quiet, beat-quiet, sends-quiet}
 use Rattle.model.proofs.QuietEvents.{calm-quiet, unnoticed-quiet, spreading-quiet}
@@ -32,7 +32,7 @@ module _ (p : Params) where
   after s s' (beat m e) l = l
   after s s' (watched m e) l = l
   after s s' (report m a o e) l = l
-  after s s' (moves t x a y o r e) l = l
+  after s s' (moves t x g a y o r e) l = l
   after s s' (alone t x a e) l = l
   after s s' (sends t x m e) l = l
 
@@ -45,7 +45,7 @@ module _ (p : Params) where
   SpacedStep s s' (beat m e) l = Unit {0}
   SpacedStep s s' (watched m e) l = Unit {0}
   SpacedStep s s' (report m a o e) l = Unit {0}
-  SpacedStep s s' (moves t x a y o r e) l = Unit {0}
+  SpacedStep s s' (moves t x g a y o r e) l = Unit {0}
   SpacedStep s s' (alone t x a e) l = Unit {0}
   SpacedStep s s' (sends t x m e) l = Unit {0}
 
@@ -81,9 +81,11 @@ module _ (p : Params) where
     quiet t l e (unnoticed z q a) = unnoticed z q (unnoticed-quiet p s s' t i e z _ q a)
     quiet t l e (spreading z T q m f b) = spreading z T q m f (spreading-quiet p s s' t i e z _ T q m f b)
 
-    -- a watch expires on a crashed node only, so only while a crash is unnoticed
-    no-expiry : (t x : ℕ) (a : ℕ → Bool) (y : ℕ) → Expiry p s t x a y → ((j : ℕ) → Up p s j → Up p s ((s .node j) .emitter)) → ⊥
-    no-expiry t x a y e up = live-not-dead ((up x ((i .base .inN x (expiry-other p s s' i t x a y e)) .0, e .live)) .1) ((expiry-late p s s' i t x a y e) .dead)
+    -- only a crashed node is left, so only while a crash is unnoticed
+    no-leaving : (t x : ℕ) (g : List InFlight) (a : ℕ → Bool) (y : ℕ) → Leaves p s t x g a y
+        → ((j : ℕ) → Up p s j → Up p s ((s .node j) .emitter)) → ⊥
+    no-leaving t x g a y e up =
+        live-not-dead ((up x ((i .base .inN x (e .apart)) .0, e .live)) .1) ((leaves-late p s s' i t x g a y e) .dead)
 
     pub step-phase : (l : Last) (e : Step p s s') → SpacedStep s s' e l → Phase s l → Phase s' (after s s' e l)
     step-phase none (crash t k e) sp (calm x) = crashes t k e x
@@ -98,13 +100,13 @@ module _ (p : Params) where
     step-phase l (report m a o e) sp (calm x) = absurd ((x .kinds m (e .has)) .1 (e .kind))
     step-phase l (report m a o e) sp (unnoticed z q x) = absurd ((x .kinds m (e .has)) .1 (e .kind))
     step-phase l (report m a o e) sp (spreading z T q n f b) = spreading z T q n f (report-spreading p s i z _ T q n f b s' m a o e)
-    step-phase l (moves t x a y o r e) sp (calm c) = absurd (no-expiry t x a y (e .expiry) (c .emitter))
-    step-phase l (moves t x a y o r e) sp (unnoticed z q h) =
-        spreading z t x _ _ (moves-spreading p s s' i (step-inv p s s' i (moves t x a y o r e)) z _ q h t x a y o r e)
-    step-phase l (moves t x a y o r e) sp (spreading z T q n f b) = absurd (no-expiry t x a y (e .expiry) (λ j u. rw (b .em-is j) (b .emitter j u)))
-    step-phase l (alone t x a e) sp (calm c) = absurd (no-expiry t x a x (e .expiry) (c .emitter))
+    step-phase l (moves t x g a y o r e) sp (calm c) = absurd (no-leaving t x g a y (e .leaves) (c .emitter))
+    step-phase l (moves t x g a y o r e) sp (unnoticed z q h) =
+        spreading z t x _ _ (moves-spreading p s s' i (step-inv p s s' i (moves t x g a y o r e)) z _ q h t x g a y o r e)
+    step-phase l (moves t x g a y o r e) sp (spreading z T q n f b) = absurd (no-leaving t x g a y (e .leaves) (λ j u. rw (b .em-is j) (b .emitter j u)))
+    step-phase l (alone t x a e) sp (calm c) = absurd (no-leaving t x [] a x (e .leaves) (c .emitter))
     step-phase l (alone t x a e) sp (unnoticed z q h) = calm (alone-calm p s s' i (step-inv p s s' i (alone t x a e)) z _ q h t x a e)
-    step-phase l (alone t x a e) sp (spreading z T q n f b) = absurd (no-expiry t x a x (e .expiry) (λ j u. rw (b .em-is j) (b .emitter j u)))
+    step-phase l (alone t x a e) sp (spreading z T q n f b) = absurd (no-leaving t x [] a x (e .leaves) (λ j u. rw (b .em-is j) (b .emitter j u)))
 
   pub opened-calm : (s : View) → Opened p s → Calm p s
   opened-calm s o = record {

@@ -1,7 +1,7 @@
 -- The watch on the crashed node expires: its report begins to spread, or the one survivor is alone and calm. Assumes nothing.
 use mathlib.Core.Path.{_≡_, refl, ap, sym, _∙_, fun-ext}
 use mathlib.Core.Logic.{_⊎_, inl, inr, _≢_}
-use mathlib.Core.List.{List, _∷_, List·Memᴰ·cases-cons, List·Memᴰ·head, List·Memᴰ·tail}
+use mathlib.Core.List.{List, [], _∷_, List·Memᴰ·cases-cons, List·Memᴰ·head, List·Memᴰ·tail}
 use mathlib.Core.Bool.{Bool, true, false, true≢false, not}
 use Prim.Native.Nat.{ℕ, _+_, _*_, _^_, _≤_, _<_}
 use native.Mathlib.Omega.{arith}
@@ -9,13 +9,13 @@ use native.Mathlib.Decide.{ℕ-discrete, decLt}
 use Rattle.node.specs.Node.{O, R}
 use Rattle.model.specs.Platform.{InFlight}
 use Rattle.ring.proofs.GoingBack.{iter, First}
-use Rattle.model.proofs.Events.{View, Live, Dead, Lists, _∈_, Params, Moves, Alone, Expiry}
+use Rattle.model.proofs.Events.{View, Live, Dead, Lists, _∈_, Params, Cause, byExpiry, byReport, Leaves, Moves, Alone}
 use Rattle.model.proofs.Invariant.{Base, Inv}
 use Rattle.model.proofs.EveryEvent.{live-not-dead, not-true, Alike, GoneBy}
 use Rattle.model.proofs.OneState.{live-unlisted}
 use Rattle.model.proofs.OneNode.{each}
 use Rattle.model.proofs.WatchKept.{came0}
-use Rattle.model.proofs.WatchDue.{expiry-other, expiry-late, expiry-list', expiry-dead, expiry-between, moves-alike, moves-sames, alone-alike, alone-N}
+use Rattle.model.proofs.EmitterLeft.{leaves-late, leaves-list', leaves-dead, leaves-between, moves-alike, moves-sames, alone-alike, alone-N}
 use Rattle.model.proofs.Phases.{crashedIn, Up, Coming, Calm, Unnoticed, Spreading, byObserver}
 
 pub X-live : (s : View) (k : ℕ) → crashedIn s k ≡ false → Live s k
@@ -43,16 +43,16 @@ first p s b up = record {
 }
 
 module _ (p : Params) (s s' : View) (i : Inv p s) (i' : Inv p s') (z c q : ℕ) (a : Unnoticed p z c q s) where
-  module _ (t x : ℕ) (list' : ℕ → Bool) (y : ℕ) (e : Expiry p s t x list' y) where
+  module _ (t x : ℕ) (gone : List InFlight) (list' : ℕ → Bool) (y : ℕ) (e : Leaves p s t x gone list' y) where
     xN : x < p .N
-    xN = (i .base .inN x (expiry-other p s s' i t x list' y e)) .0
+    xN = (i .base .inN x (e .apart)) .0
 
     pub x-q : x ≡ q
     x-q = go (ℕ-discrete x q)
       where
         go : Dec (x ≡ q) → x ≡ q
         go (yes r) = r
-        go (no n) = absurd (live-not-dead ((a .emitter x (xN, e .live) n) .1) ((expiry-late p s s' i t x list' y e) .dead))
+        go (no n) = absurd (live-not-dead ((a .emitter x (xN, e .live) n) .1) ((leaves-late p s s' i t x gone list' y e) .dead))
 
     x-em : (s .node x) .emitter ≡ z
     x-em = rw x-q (a .of)
@@ -65,7 +65,11 @@ module _ (p : Params) (s s' : View) (i : Inv p s) (i' : Inv p s') (z c q : ℕ) 
         go (no n) = e .adds .kept k (rw x-q (a .lists q k (a .up) d n))
 
     pub x-early : t + 1 ≤ c + p .W + p .D
-    x-early = omega (arith, a .wq, ap (λ j. (s .node j) .watch) x-q, e .due)
+    x-early = go gone (e .cause)
+      where
+        go : (gone : List InFlight) → Cause p s t x gone → t + 1 ≤ c + p .W + p .D
+        go _ (byExpiry on due none) = omega (arith, a .wq, ap (λ j. (s .node j) .watch) x-q)
+        go _ (byReport m h to k about due) = absurd ((a .kinds m h) .1 k)
 
     y-up : Up p s y
     y-up = (e .back .inN, go ((s .node y) .alive) refl)
@@ -100,12 +104,13 @@ module _ (p : Params) (s s' : View) (i : Inv p s) (i' : Inv p s') (z c q : ℕ) 
 
         go : Dec (p .gap z y < p .gap z r) → Dec (p .gap z r < p .gap z y) → y ≡ r
         go (yes h) d = absurd (live-unlisted p s (i .base) z y (i .base .between z y h) (y-up .1))
-        go (no n) (yes h) = absurd (expiry-dead p s s' i t x list' y e r (e .back .passed r (rw x-em far') (omega (arith, gr, gy))) (a .prev .1))
+        go (no n) (yes h) = absurd (leaves-dead p s s' i t x gone list' y e r (e .back .passed r (rw x-em far') (omega (arith, gr, gy))) (a .prev .1))
         go (no n) (no m) = p .gap-inj z y r (a .zN) (omega arith)
 
-  module _ (t x : ℕ) (list' : ℕ → Bool) (y : ℕ) (o : InFlight) (out : List InFlight) (e : Moves p s s' t x list' y o out) where
+  module _ (t x : ℕ) (gone : List InFlight) (list' : ℕ → Bool) (y : ℕ) (o : InFlight) (out : List InFlight)
+      (e : Moves p s s' t x gone list' y o out) where
     sf : Alike p s s' t
-    sf = moves-alike p s s' i t x list' y o out e
+    sf = moves-alike p s s' i t x gone list' y o out e
 
     em-x : (s' .node x) .emitter ≡ y
     em-x = rw (e .frame .here)
@@ -114,26 +119,28 @@ module _ (p : Params) (s s' : View) (i : Inv p s) (i' : Inv p s') (z c q : ℕ) 
     up' j u = (u .0, sf .alive j (u .1))
 
     up : (j : ℕ) → Up p s j → Up p s' j
-    up j u = (u .0, moves-sames p s s' i t x list' y o out e j .alive ∙ u .1)
+    up j u = (u .0, moves-sames p s s' i t x gone list' y o out e j .alive ∙ u .1)
 
     dead' : (k : ℕ) → Dead s' k → Dead s k
-    dead' k d = sym (moves-sames p s s' i t x list' y o out e k .alive) ∙ d
+    dead' k d = sym (moves-sames p s s' i t x gone list' y o out e k .alive) ∙ d
 
     dead : (k : ℕ) → Dead s k → Dead s' k
-    dead k d = moves-sames p s s' i t x list' y o out e k .alive ∙ d
+    dead k d = moves-sames p s s' i t x gone list' y o out e k .alive ∙ d
 
     fx : Up p s x
-    fx = (xN t x list' y (e .expiry), e .expiry .live)
+    fx = (xN t x gone list' y (e .leaves), e .leaves .live)
 
     em-up : (j : ℕ) → Up p s' j → Up p s' ((s' .node j) .emitter)
     em-up j u = go (ℕ-discrete j x)
       where
         go : Dec (j ≡ x) → Up p s' ((s' .node j) .emitter)
-        go (yes r) = rw (r, em-x) (up y (y-up t x list' y (e .expiry)))
-        go (no n) = rw (e .frame .other j n) (up _ (a .emitter j (up' j u) (λ r. n (r ∙ sym (x-q t x list' y (e .expiry))))))
+        go (yes r) = rw (r, em-x) (up y (y-up t x gone list' y (e .leaves)))
+        go (no n) = rw (e .frame .other j n) (up _ (a .emitter j (up' j u) (λ r. n (r ∙ sym (x-q t x gone list' y (e .leaves))))))
 
     list-is : list' ≡ crashedIn s'
-    list-is = exact s' list' (λ k h. dead k (go k (expiry-list' p s s' i t x list' y (e .expiry) k h))) (λ k d. full t x list' y (e .expiry) k (dead' k d))
+    list-is =
+        exact s' list' (λ k h. dead k (go k (leaves-list' p s s' i t x gone list' y (e .leaves) k h)))
+        (λ k d. full t x gone list' y (e .leaves) k (dead' k d))
       where
         go : (k : ℕ) → Lists s x k ⊎ GoneBy p s t k → Dead s k
         go k (inl h) = (i .base .listed x k h) .dead
@@ -155,14 +162,14 @@ module _ (p : Params) (s s' : View) (i : Inv p s) (i' : Inv p s') (z c q : ℕ) 
         → (Up p s' ((s .node j) .observer) × ((s' .node ((s .node j) .observer)) .emitter ≡ j))
         ⊎ (((s' .node x) .emitter ≡ j) × Coming p s' O j (t + p .D))
     obs j u (inr r) =
-        let yj : y ≡ j = y-is t x list' y (e .expiry) ∙ r in
+        let yj : y ≡ j = y-is t x gone list' y (e .leaves) ∙ r in
         inr (em-x ∙ yj, record { m = o; has = e .frame .add o (List·Memᴰ·head refl); kind = e .o-kind; to = e .o-to ∙ yj; due = e .o-within })
     obs j u (inl h) = inl (up _ (h .0), go (ℕ-discrete ((s .node j) .observer) x))
       where
         go : Dec ((s .node j) .observer ≡ x) → (s' .node ((s .node j) .observer)) .emitter ≡ j
         go (no n) = rw (e .frame .other ((s .node j) .observer) n) (h .1)
         go (yes r) =
-            let ezj : z ≡ j = sym (x-em t x list' y (e .expiry)) ∙ (rw r at (h .1)) in
+            let ezj : z ≡ j = sym (x-em t x gone list' y (e .leaves)) ∙ (rw r at (h .1)) in
             absurd (live-not-dead ((up' j u) .1) (rw (sym ezj) (a .dead)))
 
     relay : (g w d j b : ℕ) → Up p s' g → Lists s' g z → d < 2 ^ j → Up p s' w → iter (λ j. (s' .node j) .emitter) (2 ^ b) w ≡ g
@@ -192,14 +199,14 @@ module _ (p : Params) (s s' : View) (i : Inv p s) (i' : Inv p s') (z c q : ℕ) 
     moves-spreading = record {
       up = up x fx;
       dead = dead z (a .dead);
-      knows = rw (e .frame .here) (rw (x-em t x list' y (e .expiry)) at (e .expiry .adds .is));
-      early = x-early t x list' y (e .expiry);
+      knows = rw (e .frame .here) (rw (x-em t x gone list' y (e .leaves)) at (e .leaves .adds .is));
+      early = x-early t x gone list' y (e .leaves);
       count = refl;
       em-is = λ j. refl;
       two = λ r. e .other (sym em-x ∙ r);
       lists = λ j k u d n. sf .list j k (a .lists j k (up' j u) (dead' k d) n);
       emitter = em-up;
-      observer = λ j u. rw (moves-sames p s s' i t x list' y o out e j .observer) (obs j u (a .observer j (up' j u)));
+      observer = λ j u. rw (moves-sames p s s' i t x gone list' y o out e j .observer) (obs j u (a .observer j (up' j u)));
       observers = λ g h k. fo g k (sent g h (inl k));
       reports = λ g h k. fr g k (sent g h (inr k));
       relay = λ g w d j b ug lg hd dj uw hw bm. inr (relay g w d j b ug lg dj uw hw bm);
@@ -214,12 +221,12 @@ module _ (p : Params) (s s' : View) (i : Inv p s) (i' : Inv p s') (z c q : ℕ) 
         fr : (g : InFlight) → g .kind ≡ R → (g ≡ o) ⊎ (g ∈ out)
             → (g .subject ≡ z) × (g .due ≤ t + (p .log (p .cnt (crashedIn s')) + 1) * p .D)
         fr g k (inl r) = absurd (omega (arith, e .o-kind, ap (λ m. m .kind) r))
-        fr g k (inr h) = (e .rs .subject g h ∙ x-em t x list' y (e .expiry), omega (arith, (e .rs .each g h) .within))
+        fr g k (inr h) = (e .rs .subject g h ∙ x-em t x gone list' y (e .leaves), omega (arith, (e .rs .each g h) .within))
 
         ws : (j : ℕ) → Up p s' j → j ≢ x → (s' .node j) .emitter ≢ j → (s' .node j) .watch ≤ s' .last + p .W
         ws j u n =
             rw (e .frame .other j n, e .frame .last')
-            (λ ne. omega (arith, a .watch j (up' j u) (λ r. n (r ∙ sym (x-q t x list' y (e .expiry)))) ne, sf .t≥))
+            (λ ne. omega (arith, a .watch j (up' j u) (λ r. n (r ∙ sym (x-q t x gone list' y (e .leaves)))) ne, sf .t≥))
 
   module _ (t x : ℕ) (list' : ℕ → Bool) (e : Alone p s s' t x list') where
     only : (j : ℕ) → Up p s' j → j ≡ x
@@ -229,7 +236,7 @@ module _ (p : Params) (s s' : View) (i : Inv p s) (i' : Inv p s') (z c q : ℕ) 
         lj = alone-alike p s s' i t x list' e .alive j (u .1)
 
         cyc : (p .gap x j < p .gap x x) ⊎ (p .gap j x < p .gap j x) → ⊥
-        cyc (inl h) = expiry-dead p s s' i t x list' x (e .expiry) j (expiry-between p s s' i t x list' x (e .expiry) j h) lj
+        cyc (inl h) = leaves-dead p s s' i t x [] list' x (e .leaves) j (leaves-between p s s' i t x [] list' x (e .leaves) j h) lj
         cyc (inr h) = omega arith
 
         go : Dec (j ≡ x) → j ≡ x
@@ -248,7 +255,7 @@ module _ (p : Params) (s s' : View) (i : Inv p s) (i' : Inv p s') (z c q : ℕ) 
 
     pub alone-calm : Calm p s'
     alone-calm = record {
-      lists = λ j k u d. rw (only j u, e .frame .here) (full t x list' x (e .expiry) k (alone-dead k d));
+      lists = λ j k u d. rw (only j u, e .frame .here) (full t x [] list' x (e .leaves) k (alone-dead k d));
       emitter = λ j u. rw (only j u, e .frame .here) ux;
       observer = λ j u. rw (only j u, e .frame .here) (ux, rw (e .frame .here));
       kinds = λ g h. a .kinds g (came0 (s .flight) g (e .frame .came g h));

@@ -1,17 +1,18 @@
--- A file with a crash, in number order and shuffled, whose settled state is computed and meets every hypothesis of `settling`, and the S of
--- document 01's edge. Assumes nothing.
+-- A file with a crash, in number order and shuffled, whose settled state is computed and meets every hypothesis of `settling`; one in which
+-- a node leaves its emitter by report; and the S of document 01's edge. Assumes nothing.
 use mathlib.Core.Path.{_≡_, refl, sym, subst}
 use mathlib.Core.Bool.{true}
 use mathlib.Core.List.{List, [], _∷_, map}
-use mathlib.Core.Option.{none}
+use mathlib.Core.Option.{none, some}
 use Prim.Native.Nat.{ℕ, _<_}
 use native.Mathlib.Omega.{arith}
 use Rattle.ring.specs.Ring.{keep, numbers, among, eachOnce, listed, listing, unlisted, round, place, ahead, back, next, count, powers, jumps, targets}
 use Rattle.node.specs.declared.Node.{Node}
-use Rattle.node.specs.Node.{reports, opening, onHeartbeat, onObserver, onReport, onHeartbeatDue, onMessage, leaving}
+use Rattle.node.specs.Node.{due, R, reports, opening, onHeartbeat, onObserver, onReport, onHeartbeatDue, onMessage, leaving}
 use Rattle.model.specs.Platform.{alive, survivors, start, crashEntries, messageEntries, timerEntry, timerEntries, pending, earlier, first, upTo}
+use Rattle.model.specs.Platform.{InFlight, State, message, messageAt}
 use Rattle.model.specs.Platform.{nextEvent, delayIn, delayOf, numbered, nodeOf, taken, without, received, apply, fits, tried, try, left, steps, after}
-use Rattle.plans.specs.Plan.{Plan, within, startRanges, longEnough, crashRange, risingFrom, rising, hits, noneTwice, crashOrder}
+use Rattle.plans.specs.Plan.{Crash, Plan, within, startRanges, longEnough, crashRange, risingFrom, rising, later, hits, noneTwice, crashOrder}
 use Rattle.plans.specs.Plan.{ringOrder, orderOf, ringTest, ringCount, ringRange, delayOrder, fewDelays, every, startTest, crashTest, delayTest, planTest}
 use Rattle.model.specs.Range.{Accepted, NotBefore}
 use Rattle.model.specs.Claims.{S, settledBy, Spaced, NoneLeftBefore, SettledAt}
@@ -88,3 +89,38 @@ pub four-settles : (j : ℕ) → j < 4
     × (alive (four shuffled) ((after (four shuffled) 200) .done) j ≡ true → SettledAt (four shuffled) (after (four shuffled) 200) j)
 four-settles j h =
     (settles [] _ (four-accepted .0) (four-ends .0) j h, settles shuffled _ (four-accepted .1) (four-ends .1) j h)
+
+-- ---- a file in which a node leaves its emitter by report: P,9,3,10,7,47 with six crashes. Node 6 takes node 2 at tick 46, by its expired
+-- watch; the 167th event, at tick 47, is a report of node 2
+
+unfoldable pub nine : Plan
+nine =
+    let at : ℕ → ℕ → Crash = λ tick node. record { tick = tick; node = node } in
+    record { n = 9; h = 3; w = 10; d = 7; end = 47; ring = []; crashes = at 2 4 ∷ at 2 8 ∷ at 10 2 ∷ at 11 5 ∷ at 15 1 ∷ at 28 3 ∷ []; delays = [] }
+
+pub nine-accepted : Accepted nine
+unfolding nine planTest startTest startRanges within longEnough ringTest ringCount ringRange crashTest every crashRange crashOrder rising
+    risingFrom later noneTwice eachOnce hits among delayTest delayOrder fewDelays
+nine-accepted = plan-accepted nine refl
+
+-- node 6 after some events
+unfoldable pub six : ℕ → Node
+six e = nodeOf (after nine e) 6
+
+-- kind, receiver and subject of the first message in flight
+unfoldable pub firstIn : State → List ℕ
+firstIn s = let m : InFlight = messageAt s 0 in m .kind ∷ m .to ∷ m .subject ∷ []
+
+-- the report moves node 6 on to node 1, the next one back, and gives that 2 × W from tick 47
+pub record SixLeaves : Type 0 where
+  pub observes-2 : six 166 ≡ record { emitter = 2; observer = 7; watch = due 66; heartbeat = due 48; list = 56 }
+  pub message-next : nextEvent nine (after nine 166) ≡ some (record { tick = 47; event = message 0 })
+  pub report-of-2 : firstIn (after nine 166) ≡ R ∷ 6 ∷ 2 ∷ []
+  pub observes-1 : six 167 ≡ record { emitter = 1; observer = 7; watch = due 67; heartbeat = due 48; list = 60 }
+
+pub six-leaves : SixLeaves
+unfolding nine six firstIn keep numbers listed listing unlisted round place ahead back next count powers jumps targets reports opening onHeartbeat
+    onObserver onReport onHeartbeatDue leaving onMessage ringOrder orderOf hits among alive survivors start crashEntries messageEntries
+    timerEntry timerEntries pending earlier first upTo nextEvent delayIn delayOf numbered taken without received apply fits tried try left
+    steps after
+six-leaves = record { observes-2 = refl; message-next = refl; report-of-2 = refl; observes-1 = refl }

@@ -52,66 +52,6 @@ pub observed : (tick from : ℕ) (n : Node) → onObserver tick from n ≡ silen
 unfolding onObserver
 observed tick from n = refl
 
--- ---- message R
-
-module _ (order : List ℕ) (me subject : ℕ) (n : Node) where
-  -- a subject that is listed already or the node itself changes nothing; a new one is listed and reported to the forward targets
-  pub data Reported : Turn → Type 0 where
-    known : listed (n .list) subject ≡ true → Reported (silent n)
-    own : subject ≡ me → Reported (silent n)
-    relays : listed (n .list) subject ≡ false → subject ≢ me
-        → Reported (sending (withList n (listing (n .list) subject)) (reports subject (targets order (listing (n .list) subject) (place order me))))
-
-  pub reported : Reported (onReport order me subject n)
-  unfolding onReport
-  reported = go (listed (n .list) subject) (eqb subject me) refl refl
-    where
-      d : ℕ
-      d = listing (n .list) subject
-
-      go : (a b : Bool) → listed (n .list) subject ≡ a → eqb subject me ≡ b
-          → Reported (cond (a || b) (silent n) (sending (withList n d) (reports subject (targets order d (place order me)))))
-      go true b e f = known e
-      go false true e f = own (eqb-true subject me f)
-      go false false e f = relays e (eqb-false subject me f)
-
--- ---- a message of a kind
-
-module _ (order : List ℕ) (w tick me kind from subject : ℕ) (n : Node) where
-  pub data Messaged : Turn → Type 0 where
-    beats : kind ≡ H → (u : Turn) → Heard w tick from n u → Messaged u
-    observes : kind ≡ O → Messaged (silent (withHeartbeat (withObserver n from) (due tick)))
-    tells : kind ≢ H → kind ≢ O → (u : Turn) → Reported order me subject n u → Messaged u
-
-  pub messaged : Messaged (onMessage order w tick me kind from subject n)
-  unfolding onMessage onObserver
-  messaged = go (eqb kind H) (eqb kind O) refl refl
-    where
-      go : (a b : Bool) → eqb kind H ≡ a → eqb kind O ≡ b
-          → Messaged (cond a (onHeartbeat w tick from n) (cond b (onObserver tick from n) (onReport order me subject n)))
-      go true b e f = beats (eqb-true kind H e) (onHeartbeat w tick from n) (heard w tick from n)
-      go false true e f = observes (eqb-true kind O f)
-      go false false e f = tells (eqb-false kind H e) (eqb-false kind O f) (onReport order me subject n) (reported order me subject n)
-
-pub other-is-report : (kind : ℕ) → Known kind → kind ≢ H → kind ≢ O → kind ≡ R
-other-is-report kind (inl e) h o = absurd (h e)
-other-is-report kind (inr (inl e)) h o = absurd (o e)
-other-is-report kind (inr (inr e)) h o = e
-
--- only a report's subject counts
-pub subject-counts : (order : List ℕ) (w tick me kind from subject : ℕ) (n : Node) → Known kind
-    → onMessage order w tick me kind from (cond (eqb kind R) subject 0) n ≡ onMessage order w tick me kind from subject n
-unfolding onMessage
-subject-counts order w tick me kind from subject n (inl e) = rw e
-subject-counts order w tick me kind from subject n (inr (inl e)) = rw e
-subject-counts order w tick me kind from subject n (inr (inr e)) = rw e
-
--- ---- timers
-
-pub beaten : (h tick : ℕ) (n : Node) → onHeartbeatDue h tick n ≡ sending (withHeartbeat n (due (tick + h))) (message H (n .observer) 0 ∷ [])
-unfolding onHeartbeatDue
-beaten h tick n = refl
-
 -- ---- leaving the emitter
 
 module _ (order : List ℕ) (w tick me : ℕ) (n : Node) where
@@ -131,3 +71,67 @@ module _ (order : List ℕ) (w tick me : ℕ) (n : Node) where
           → Left (cond b (silent (alone me (leftList n))) (sending (moved w tick (newEmitter order n) (leftList n) n) movedSends))
       go true e = stops (eqb-true (newEmitter order n) me e)
       go false e = moves (eqb-false (newEmitter order n) me e)
+
+-- ---- message R
+
+module _ (order : List ℕ) (w tick me subject : ℕ) (n : Node) where
+  -- a subject that is listed already or the node itself changes nothing; the emitter is left; any other is listed and reported to the
+  -- forward targets
+  pub data Reported : Turn → Type 0 where
+    known : listed (n .list) subject ≡ true → Reported (silent n)
+    own : subject ≡ me → Reported (silent n)
+    leaves : listed (n .list) subject ≡ false → subject ≢ me → subject ≡ n .emitter → (u : Turn) → Left order w tick me n u → Reported u
+    relays : listed (n .list) subject ≡ false → subject ≢ me → subject ≢ n .emitter
+        → Reported (sending (withList n (listing (n .list) subject)) (reports subject (targets order (listing (n .list) subject) (place order me))))
+
+  pub reported : Reported (onReport order w tick me subject n)
+  unfolding onReport
+  reported = go (listed (n .list) subject) (eqb subject me) (eqb subject (n .emitter)) refl refl refl
+    where
+      d : ℕ
+      d = listing (n .list) subject
+
+      go : (a b c : Bool) → listed (n .list) subject ≡ a → eqb subject me ≡ b → eqb subject (n .emitter) ≡ c
+          → Reported (cond (a || b) (silent n)
+          (cond c (leaving order w tick me n) (sending (withList n d) (reports subject (targets order d (place order me))))))
+      go true b c e f g = known e
+      go false true c e f g = own (eqb-true subject me f)
+      go false false true e f g = leaves e (eqb-false subject me f) (eqb-true subject (n .emitter) g) _ (left order w tick me n)
+      go false false false e f g = relays e (eqb-false subject me f) (eqb-false subject (n .emitter) g)
+
+-- ---- a message of a kind
+
+module _ (order : List ℕ) (w tick me kind from subject : ℕ) (n : Node) where
+  pub data Messaged : Turn → Type 0 where
+    beats : kind ≡ H → (u : Turn) → Heard w tick from n u → Messaged u
+    observes : kind ≡ O → Messaged (silent (withHeartbeat (withObserver n from) (due tick)))
+    tells : kind ≢ H → kind ≢ O → (u : Turn) → Reported order w tick me subject n u → Messaged u
+
+  pub messaged : Messaged (onMessage order w tick me kind from subject n)
+  unfolding onMessage onObserver
+  messaged = go (eqb kind H) (eqb kind O) refl refl
+    where
+      go : (a b : Bool) → eqb kind H ≡ a → eqb kind O ≡ b
+          → Messaged (cond a (onHeartbeat w tick from n) (cond b (onObserver tick from n) (onReport order w tick me subject n)))
+      go true b e f = beats (eqb-true kind H e) (onHeartbeat w tick from n) (heard w tick from n)
+      go false true e f = observes (eqb-true kind O f)
+      go false false e f = tells (eqb-false kind H e) (eqb-false kind O f) _ (reported order w tick me subject n)
+
+pub other-is-report : (kind : ℕ) → Known kind → kind ≢ H → kind ≢ O → kind ≡ R
+other-is-report kind (inl e) h o = absurd (h e)
+other-is-report kind (inr (inl e)) h o = absurd (o e)
+other-is-report kind (inr (inr e)) h o = e
+
+-- only a report's subject counts
+pub subject-counts : (order : List ℕ) (w tick me kind from subject : ℕ) (n : Node) → Known kind
+    → onMessage order w tick me kind from (cond (eqb kind R) subject 0) n ≡ onMessage order w tick me kind from subject n
+unfolding onMessage
+subject-counts order w tick me kind from subject n (inl e) = rw e
+subject-counts order w tick me kind from subject n (inr (inl e)) = rw e
+subject-counts order w tick me kind from subject n (inr (inr e)) = rw e
+
+-- ---- timers
+
+pub beaten : (h tick : ℕ) (n : Node) → onHeartbeatDue h tick n ≡ sending (withHeartbeat n (due (tick + h))) (message H (n .observer) 0 ∷ [])
+unfolding onHeartbeatDue
+beaten h tick n = refl

@@ -11,15 +11,17 @@ use lib.Pow.{pow-pos}
 use Rattle.limits.specs.Limits.{mostNodes, mostSent}
 use Rattle.ring.specs.Ring.{listed, place, targets, InOrder}
 use Rattle.ring.proofs.Lists.{listing-lt, listing-lists, listing-other, listed-none}
-use Rattle.ring.proofs.Neighbours.{open-back-below, open-back-other, open-next-below, open-next-other, count-some, back-below}
+use Rattle.ring.proofs.Gaps.{gap}
+use Rattle.ring.proofs.GoingBack.{Found}
+use Rattle.ring.proofs.Neighbours.{open-back-below, open-back-other, open-next-below, open-next-other, found-back}
 use Rattle.node.specs.declared.Message.{Message}
 use Rattle.node.specs.declared.Node.{Node}
 use Rattle.node.specs.Node.{Turn, off, H, O, R, message, reports, silent, leftList, newEmitter}
-use Rattle.node.specs.Node.{opening, onHeartbeat, onObserver, onReport, onHeartbeatDue, leaving, onWatchDue, onMessage}
+use Rattle.node.specs.Node.{opening, onHeartbeat, onObserver, onReport, onHeartbeatDue, onWatchDue, onMessage}
 use Rattle.node.specs.Range.{NodeRange, LiveRange, NotOverdue, Known}
 use Rattle.node.proofs.Moves.{Opened, joins, starts-alone, opened, Heard, renews, unheard, heard, observed}
-use Rattle.node.proofs.Moves.{Reported, known, own, relays, reported, Left, stops, moves, left, beaten}
-use Rattle.node.proofs.Sends.{Sendable, reports-sendable, report-few, leaving-few}
+use Rattle.node.proofs.Moves.{Left, stops, moves, left, Reported, known, own, leaves, relays, reported, beaten}
+use Rattle.node.proofs.Sends.{Sendable, reports-sendable, left-few, told-few}
 
 -- fields in range stay so at a later tick
 pub later-range : (n h w t u : ℕ) (a : Node) → t ≤ u → NodeRange n h w t a → NodeRange n h w u a
@@ -27,6 +29,7 @@ later-range n h w t u a l f = record {
   emitter = f .emitter;
   observer = f .observer;
   list = f .list;
+  unlisted = f .unlisted;
   watch = omega (arith, f .watch);
   heartbeat = omega (arith, f .heartbeat);
 }
@@ -53,6 +56,7 @@ module _ (n : ℕ) (order : List ℕ) (io : InOrder n order) (me : ℕ) (below :
               emitter = open-back-below n order io me below;
               observer = open-next-below n order io me below;
               list = pow-pos n;
+              unlisted = listed-none _;
               watch = omega arith;
               heartbeat = omega arith;
             },
@@ -63,7 +67,7 @@ module _ (n : ℕ) (order : List ℕ) (io : InOrder n order) (me : ℕ) (below :
             },
           )
       go a (starts-alone one) = (
-        record { emitter = below; observer = below; list = pow-pos n; watch = omega arith; heartbeat = omega arith },
+        record { emitter = below; observer = below; list = pow-pos n; unlisted = listed-none me; watch = omega arith; heartbeat = omega arith },
         record { lists = listed-none me; observes = λ on. absurd (on refl); sends = λ on. absurd (on refl) },
       )
 
@@ -90,7 +94,14 @@ module _ (n : ℕ) (order : List ℕ) (io : InOrder n order) (me : ℕ) (below :
         go u (unheard e) = silent-took
         go u (renews e) = record {
           fields = λ late.
-              record { emitter = f .emitter; observer = f .observer; list = f .list; watch = omega arith; heartbeat = omega (arith, f .heartbeat, late) };
+              record {
+                emitter = f .emitter;
+                observer = f .observer;
+                list = f .list;
+                unlisted = f .unlisted;
+                watch = omega arith;
+                heartbeat = omega (arith, f .heartbeat, late);
+              };
           live = record { lists = l .lists; observes = λ on q. ne (sym e ∙ q); sends = l .sends };
           timers = λ o. record { watch = λ on. omega arith; heartbeat = o .heartbeat };
           sends = λ v m. absurd (List·Memᴰ·not-nil m);
@@ -99,33 +110,97 @@ module _ (n : ℕ) (order : List ℕ) (io : InOrder n order) (me : ℕ) (below :
 
     pub observer-took : (from : ℕ) → from < n → from ≢ me → Took n h w last t me a (onObserver t from a)
     observer-took from fN ne = rw (observed t from a) (record {
-      fields = λ late. record { emitter = f .emitter; observer = fN; list = f .list; watch = omega (arith, f .watch, late); heartbeat = omega arith };
+      fields = λ late. record {
+        emitter = f .emitter;
+        observer = fN;
+        list = f .list;
+        unlisted = f .unlisted;
+        watch = omega (arith, f .watch, late);
+        heartbeat = omega arith;
+      };
       live = record { lists = l .lists; observes = l .observes; sends = λ on. ne };
       timers = λ o. record { watch = o .watch; heartbeat = λ on. omega arith };
       sends = λ v m. absurd (List·Memᴰ·not-nil m);
       few = omega arith;
     })
 
-    pub report-took : (subject : ℕ) → subject < n → Took n h w last t me a (onReport order me subject a)
-    report-took subject sN = go (onReport order me subject a) (reported order me subject a) (report-few order order-few me subject a)
+    -- leaving an emitter that is another node
+    module _ (ne : a .emitter ≢ me) where
+      left-unlisted : listed (leftList a) me ≡ false
+      left-unlisted = listing-other (a .list) (a .emitter) me ne (l .lists)
+
+      new-emitter : Found n io (listed (leftList a)) me (gap n io me (a .emitter)) (newEmitter order a)
+      new-emitter = found-back n (leftList a) order io me below left-unlisted (a .emitter) (f .emitter) ne
+
+      within : leftList a < 2 ^ n
+      within = listing-lt n (a .list) (a .emitter) (f .list) (f .emitter)
+
+      sent : (v : Message) → newEmitter order a ≢ me
+          → (v ≡ message O (newEmitter order a) 0) ⊎ List·Memᴰ v (reports (a .emitter) (targets order (leftList a) (place order me)))
+          → Sendable n me v
+      sent v other (inl e) =
+          rw e (record {
+            kind = inr (inl refl);
+            to = new-emitter .inN;
+            apart = other;
+            subject = omega arith;
+            about = λ q. absurd (eqb-false O R refl q);
+          })
+      sent v other (inr m) =
+          reports-sendable n order io me below (leftList a) left-unlisted (a .emitter) (f .emitter) (listing-lists (a .list) (a .emitter)) v m
+
+      left-took : (u : Turn) → Left order w t me a u → Took n h w last t me a u
+      left-took u (stops e) = record {
+        fields = λ late. record {
+          emitter = below;
+          observer = below;
+          list = within;
+          unlisted = left-unlisted;
+          watch = omega arith;
+          heartbeat = omega arith;
+        };
+        live = record { lists = left-unlisted; observes = λ on. absurd (on refl); sends = λ on. absurd (on refl) };
+        timers = λ o. record { watch = λ on. absurd (on refl); heartbeat = λ on. absurd (on refl) };
+        sends = λ v m. absurd (List·Memᴰ·not-nil m);
+        few = omega arith;
+      }
+      left-took u (moves other) = record {
+        fields = λ late. record {
+          emitter = new-emitter .inN;
+          observer = f .observer;
+          list = within;
+          unlisted = new-emitter .unlisted;
+          watch = omega arith;
+          heartbeat = omega (arith, f .heartbeat, late);
+        };
+        live = record { lists = left-unlisted; observes = λ on. other; sends = l .sends };
+        timers = λ o. record { watch = λ on. omega arith; heartbeat = o .heartbeat };
+        sends = λ v m. sent v other (List·Memᴰ·cases-cons m);
+        few = left-few order order-few w t me a _ (moves other);
+      }
+
+    report-took : (subject : ℕ) → subject < n → Took n h w last t me a (onReport order w t me subject a)
+    report-took subject sN = go (onReport order w t me subject a) (reported order w t me subject a)
       where
-        go : (u : Turn) → Reported order me subject a u → length (u .sends) ≤ mostSent → Took n h w last t me a u
-        go u (known e) s = silent-took
-        go u (own e) s = silent-took
-        go u (relays e ne) s =
+        go : (u : Turn) → Reported order w t me subject a u → Took n h w last t me a u
+        go u (known e) = silent-took
+        go u (own e) = silent-took
+        go u (leaves e ne of v x) = left-took (λ q. ne (of ∙ q)) v x
+        go u (relays e ne other) =
             let un = listing-other (a .list) subject me ne (l .lists) in
             record {
               fields = λ late. record {
                 emitter = f .emitter;
                 observer = f .observer;
                 list = listing-lt n (a .list) subject (f .list) sN;
+                unlisted = listing-other (a .list) subject (a .emitter) other (f .unlisted);
                 watch = omega (arith, f .watch, late);
                 heartbeat = omega (arith, f .heartbeat, late);
               };
               live = record { lists = un; observes = l .observes; sends = l .sends };
               timers = λ o. record { watch = o .watch; heartbeat = o .heartbeat };
               sends = reports-sendable n order io me below _ un subject sN (listing-lists (a .list) subject);
-              few = s;
+              few = told-few order order-few w t me subject a _ (relays e ne other);
             }
 
     pub message-took : (kind from subject : ℕ) → Known kind → from < n → from ≢ me → (kind ≡ R → subject < n)
@@ -137,7 +212,14 @@ module _ (n : ℕ) (order : List ℕ) (io : InOrder n order) (me : ℕ) (below :
 
     pub beat-took : a .heartbeat ≢ off → Took n h w last t me a (onHeartbeatDue h t a)
     beat-took on = rw (beaten h t a) (record {
-      fields = λ late. record { emitter = f .emitter; observer = f .observer; list = f .list; watch = omega (arith, f .watch, late); heartbeat = omega arith };
+      fields = λ late. record {
+        emitter = f .emitter;
+        observer = f .observer;
+        list = f .list;
+        unlisted = f .unlisted;
+        watch = omega (arith, f .watch, late);
+        heartbeat = omega arith;
+      };
       live = record { lists = l .lists; observes = l .observes; sends = λ z. l .sends on };
       timers = λ o. record { watch = o .watch; heartbeat = λ z. omega arith };
       sends = λ v m. rw (List·Memᴰ·eq-of-singleton m) (record {
@@ -150,58 +232,5 @@ module _ (n : ℕ) (order : List ℕ) (io : InOrder n order) (me : ℕ) (below :
       few = omega arith;
     })
 
-    -- ---- leaving an emitter that is another node
-
-    module _ (ne : a .emitter ≢ me) where
-      pub left-unlisted : listed (leftList a) me ≡ false
-      left-unlisted = listing-other (a .list) (a .emitter) me ne (l .lists)
-
-      pub new-emitter-below : newEmitter order a < n
-      new-emitter-below =
-          back-below n (leftList a) order io (place order (a .emitter)) (count-some n (leftList a) order io me below left-unlisted)
-
-      pub leaving-took : Took n h w last t me a (leaving order w t me a)
-      leaving-took = go (leaving order w t me a) (left order w t me a) (leaving-few order order-few w t me a)
-        where
-          within : leftList a < 2 ^ n
-          within = listing-lt n (a .list) (a .emitter) (f .list) (f .emitter)
-
-          sent : (v : Message) → newEmitter order a ≢ me
-              → (v ≡ message O (newEmitter order a) 0) ⊎ List·Memᴰ v (reports (a .emitter) (targets order (leftList a) (place order me)))
-              → Sendable n me v
-          sent v other (inl e) =
-              rw e (record {
-                kind = inr (inl refl);
-                to = new-emitter-below;
-                apart = other;
-                subject = omega arith;
-                about = λ q. absurd (eqb-false O R refl q);
-              })
-          sent v other (inr m) =
-              reports-sendable n order io me below (leftList a) left-unlisted (a .emitter) (f .emitter) (listing-lists (a .list) (a .emitter)) v m
-
-          go : (u : Turn) → Left order w t me a u → length (u .sends) ≤ mostSent → Took n h w last t me a u
-          go u (stops e) s = record {
-            fields = λ late. record { emitter = below; observer = below; list = within; watch = omega arith; heartbeat = omega arith };
-            live = record { lists = left-unlisted; observes = λ on. absurd (on refl); sends = λ on. absurd (on refl) };
-            timers = λ o. record { watch = λ on. absurd (on refl); heartbeat = λ on. absurd (on refl) };
-            sends = λ v m. absurd (List·Memᴰ·not-nil m);
-            few = s;
-          }
-          go u (moves other) s = record {
-            fields = λ late.
-                record {
-                  emitter = new-emitter-below;
-                  observer = f .observer;
-                  list = within;
-                  watch = omega arith;
-                  heartbeat = omega (arith, f .heartbeat, late);
-                };
-            live = record { lists = left-unlisted; observes = λ on. other; sends = l .sends };
-            timers = λ o. record { watch = λ on. omega arith; heartbeat = o .heartbeat };
-            sends = λ v m. sent v other (List·Memᴰ·cases-cons m);
-            few = s;
-          }
-
     pub watch-took : a .watch ≢ off → Took n h w last t me a (onWatchDue order w t me a)
-    watch-took on = leaving-took (l .observes on)
+    watch-took on = left-took (l .observes on) _ (left order w t me a)

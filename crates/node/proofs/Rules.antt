@@ -7,7 +7,7 @@ use native.Mathlib.Numerals.{add-one}
 use native.Mathlib.Omega.{arith}
 use borrow.Author.Tests.{eq-eqb, ne-eqb, lt-ltb, le-ltb}
 use lib.ListN.{length}
-use Rattle.limits.specs.Limits.{mostNodes, mostSent}
+use Rattle.limits.specs.Limits.{mostNodes}
 use Rattle.ring.specs.Ring.{listed, listing, place, back, next}
 use Rattle.node.specs.declared.Node.{Node}
 use Rattle.node.specs.Node.{H, O, message, silent, sending, alone, withObserver, withWatch, withHeartbeat, withList, turned, relayed, opening}
@@ -41,20 +41,27 @@ module _ (w tick from : ℕ) (n : Node) where
   unfolding onObserver
   observer-changes = rw (add-one tick)
 
-module _ (order : List ℕ) (me subject : ℕ) (n : Node) (b : Bool) (bq : b ≡ listed (n .list) subject) where
-  pub report-known : b ≡ true → onReport order me subject n ≡ silent n
+module _ (order : List ℕ) (w tick me subject : ℕ) (n : Node) (b : Bool) (bq : b ≡ listed (n .list) subject) where
+  pub report-known : b ≡ true → onReport order w tick me subject n ≡ silent n
   unfolding onReport
   report-known t = rw (sym bq ∙ t)
 
-  pub report-own : b ≡ false → subject ≡ me → onReport order me subject n ≡ silent n
-  unfolding onReport
-  report-own t e = rw (sym bq ∙ t, eq-eqb subject me e)
+  module _ (t : b ≡ false) where
+    pub report-own : subject ≡ me → onReport order w tick me subject n ≡ silent n
+    unfolding onReport
+    report-own e = rw (sym bq ∙ t, eq-eqb subject me e)
 
-  pub report-new : b ≡ false → (subject ≡ me → ⊥) → (d : ℕ) → d ≡ listing (n .list) subject → length order ≤ mostNodes
-      → turned (onReport order me subject n) ≡ relayed order me subject (turned (silent (withList n d)))
-  unfolding onReport
-  report-new t e d dq l =
-      rw (sym bq ∙ t, ne-eqb subject me e, ← dq) (sym (relayed-turned order me subject (withList n d) [] (omega arith) l))
+    module _ (ne : subject ≡ me → ⊥) where
+      pub report-leaves : subject ≡ n .emitter → onReport order w tick me subject n ≡ leaving order w tick me n
+      unfolding onReport
+      report-leaves e = rw (sym bq ∙ t, ne-eqb subject me ne, eq-eqb subject (n .emitter) e)
+
+      pub report-new : (subject ≡ n .emitter → ⊥) → (d : ℕ) → d ≡ listing (n .list) subject → length order ≤ mostNodes
+          → turned (onReport order w tick me subject n) ≡ relayed order me subject (turned (silent (withList n d)))
+      unfolding onReport
+      report-new e d dq l =
+          rw (sym bq ∙ t, ne-eqb subject me ne, ne-eqb subject (n .emitter) e, ← dq)
+          (sym (relayed-turned order me subject (withList n d) [] (omega arith) l))
 
 -- ---- timers
 
@@ -95,6 +102,6 @@ module _ (order : List ℕ) (w tick me kind from subject : ℕ) (n : Node) where
   unfolding onMessage
   message-observer o = rw o
 
-  pub message-report : (kind ≡ H → ⊥) → (kind ≡ O → ⊥) → onMessage order w tick me kind from subject n ≡ onReport order me subject n
+  pub message-report : (kind ≡ H → ⊥) → (kind ≡ O → ⊥) → onMessage order w tick me kind from subject n ≡ onReport order w tick me subject n
   unfolding onMessage
   message-report h o = rw (ne-eqb kind H h, ne-eqb kind O o)

@@ -12,11 +12,11 @@ use Rattle.ring.proofs.Counts.{targets-few}
 use Rattle.ring.proofs.Targets.{target-below, target-other, target-unlisted}
 use Rattle.node.specs.declared.Message.{Message}
 use Rattle.node.specs.declared.Node.{Node}
-use Rattle.node.specs.Node.{Turn, R, message, reports, onReport, leftList, leaving, onMessage}
+use Rattle.node.specs.Node.{Turn, R, message, reports, leftList, onMessage}
 use Rattle.node.specs.Range.{Known}
 use Rattle.node.proofs.Messages.{length-reports}
-use Rattle.node.proofs.Moves.{Heard, renews, unheard, Reported, known, own, relays, reported}
-use Rattle.node.proofs.Moves.{Messaged, beats, observes, tells, messaged, Left, stops, moves, left}
+use Rattle.node.proofs.Moves.{Heard, renews, unheard, Left, stops, moves, Reported, known, own, leaves, relays}
+use Rattle.node.proofs.Moves.{Messaged, beats, observes, tells, messaged}
 
 -- a message that node me of n may send: to another node, and of a subject that is a node; on R, not the receiver
 pub record Sendable (n me : ℕ) (v : Message) : Type 0 where
@@ -64,20 +64,15 @@ module _ (order : List ℕ) (few : length order ≤ mostNodes) where
   pub reports-few : (subject d p : ℕ) → length (reports subject (targets order d p)) ≤ rowSize
   reports-few subject d p = rw (length-reports subject (targets order d p)) (targets-few order d p few)
 
-  pub report-few : (me subject : ℕ) (n : Node) → length (onReport order me subject n .sends) ≤ mostSent
-  report-few me subject n = go (onReport order me subject n) (reported order me subject n)
-    where
-      go : (u : Turn) → Reported order me subject n u → length (u .sends) ≤ mostSent
-      go u (known e) = omega arith
-      go u (own e) = omega arith
-      go u (relays e f) = omega (arith, reports-few subject (listing (n .list) subject) (place order me))
+  pub left-few : (w tick me : ℕ) (n : Node) (u : Turn) → Left order w tick me n u → length (u .sends) ≤ mostSent
+  left-few w tick me n u (stops e) = omega arith
+  left-few w tick me n u (moves e) = omega (arith, reports-few (n .emitter) (leftList n) (place order me))
 
-  pub leaving-few : (w tick me : ℕ) (n : Node) → length (leaving order w tick me n .sends) ≤ mostSent
-  leaving-few w tick me n = go (leaving order w tick me n) (left order w tick me n)
-    where
-      go : (u : Turn) → Left order w tick me n u → length (u .sends) ≤ mostSent
-      go u (stops e) = omega arith
-      go u (moves e) = omega (arith, reports-few (n .emitter) (leftList n) (place order me))
+  pub told-few : (w tick me subject : ℕ) (n : Node) (u : Turn) → Reported order w tick me subject n u → length (u .sends) ≤ mostSent
+  told-few w tick me subject n u (known e) = omega arith
+  told-few w tick me subject n u (own e) = omega arith
+  told-few w tick me subject n u (leaves e f g v l) = left-few w tick me n v l
+  told-few w tick me subject n u (relays e f g) = omega (arith, reports-few subject (listing (n .list) subject) (place order me))
 
   pub message-few : (w tick me kind from subject : ℕ) (n : Node) → length (onMessage order w tick me kind from subject n .sends) ≤ mostSent
   message-few w tick me kind from subject n = go _ (messaged order w tick me kind from subject n)
@@ -86,12 +81,7 @@ module _ (order : List ℕ) (few : length order ≤ mostNodes) where
       silent-few u (renews e) = omega arith
       silent-few u (unheard e) = omega arith
 
-      told-few : (u : Turn) → Reported order me subject n u → length (u .sends) ≤ mostSent
-      told-few u (known e) = omega arith
-      told-few u (own e) = omega arith
-      told-few u (relays e f) = omega (arith, reports-few subject (listing (n .list) subject) (place order me))
-
       go : (u : Turn) → Messaged order w tick me kind from subject n u → length (u .sends) ≤ mostSent
       go u (beats e v h) = silent-few v h
       go u (observes e) = omega arith
-      go u (tells e f v r) = told-few v r
+      go u (tells e f v r) = told-few w tick me subject n v r

@@ -24,12 +24,14 @@ module _ (n h w t : ℕ) (a : Node) where
       let v = and-eq-true-iff _ _ .0 (u .1) in
       let x = and-eq-true-iff _ _ .0 (v .1) in
       let y = and-eq-true-iff _ _ .0 (x .1) in
+      let z = and-eq-true-iff _ _ .0 (y .1) in
       record {
         emitter = ltb-true _ _ (u .0);
         observer = ltb-true _ _ (v .0);
         list = ltb-true _ _ (x .0);
-        watch = leb-true _ _ (y .0);
-        heartbeat = leb-true _ _ (y .1);
+        unlisted = not-true _ (y .0);
+        watch = leb-true _ _ (z .0);
+        heartbeat = leb-true _ _ (z .1);
       }
 
   pub facts-node : NodeRange n h w t a → nodeTest n h w t a ≡ true
@@ -39,6 +41,7 @@ module _ (n h w t : ℕ) (a : Node) where
         lt-ltb _ _ (f .emitter),
         lt-ltb _ _ (f .observer),
         lt-ltb _ _ (f .list),
+        f .unlisted,
         le-leb _ _ (f .watch),
         le-leb _ _ (f .heartbeat),
       )
@@ -58,17 +61,21 @@ module _ (n h w t : ℕ) (a : Node) where
       unfolding nodeTest
       list-out l = rw (lt-ltb (a .emitter) n e<, lt-ltb (a .observer) n o<, le-ltb (a .list) (2 ^ n) (omega arith))
 
-      module _ (l≤ : a .list ≤ all) where
-        timers-on : nodeTest n h w t a ≡ (leb (a .watch) (suc (t + 2 * w)) && leb (a .heartbeat) (suc (t + h)))
+      module _ (l≤ : a .list ≤ all) (r : Bool) (is : r ≡ listed (a .list) (a .emitter)) where
+        rest-on : nodeTest n h w t a ≡ (not r && (leb (a .watch) (suc (t + 2 * w)) && leb (a .heartbeat) (suc (t + h))))
         unfolding nodeTest
-        timers-on =
-            rw (lt-ltb (a .emitter) n e<, lt-ltb (a .observer) n o<, lt-ltb (a .list) (2 ^ n) (omega (arith, pow-pos n)))
+        rest-on =
+            rw (lt-ltb (a .emitter) n e<, lt-ltb (a .observer) n o<, lt-ltb (a .list) (2 ^ n) (omega (arith, pow-pos n)), ← is)
 
-        pub watch-out : t + 2 * w + 1 < a .watch → false ≡ nodeTest n h w t a
-        watch-out x = rw (timers-on, lt-leb (a .watch) (suc (t + 2 * w)) (omega arith))
+        pub listed-out : r ≡ true → false ≡ nodeTest n h w t a
+        listed-out x = rw (rest-on, x)
 
-        pub heartbeat-last : a .watch ≤ t + 2 * w + 1 → leb (a .heartbeat) (t + h + 1) ≡ nodeTest n h w t a
-        heartbeat-last x = rw (timers-on, le-leb (a .watch) (suc (t + 2 * w)) (omega arith), add-one (t + h))
+        module _ (un : r ≡ false) where
+          pub watch-out : t + 2 * w + 1 < a .watch → false ≡ nodeTest n h w t a
+          watch-out x = rw (rest-on, un, lt-leb (a .watch) (suc (t + 2 * w)) (omega arith))
+
+          pub heartbeat-last : a .watch ≤ t + 2 * w + 1 → leb (a .heartbeat) (t + h + 1) ≡ nodeTest n h w t a
+          heartbeat-last x = rw (rest-on, un, le-leb (a .watch) (suc (t + 2 * w)) (omega arith), add-one (t + h))
 
 -- ---- a live node
 

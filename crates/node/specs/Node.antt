@@ -94,6 +94,18 @@ abbrev pub moved : ℕ → ℕ → ℕ → ℕ → Node → Node
 moved w tick emitter list n =
     record { emitter = emitter; observer = n .observer; watch = due (tick + 2 * w); heartbeat = n .heartbeat; list = list }
 
+-- "list the emitter; the new emitter is the first unlisted node going back from it. If that is the node itself, it is alone, as
+-- above. Otherwise watch due becomes this tick + 2 × W; send O to the new emitter, then R of the old one to the forward targets"
+unfoldable pub leaving : List ℕ → ℕ → ℕ → ℕ → Node → Turn
+leaving order w tick me n =
+    let list : ℕ = leftList n in
+    let emitter : ℕ = newEmitter order n in
+    cond (eqb emitter me) (silent (alone me list))
+    (record {
+      node = moved w tick emitter list n;
+      sends = message O emitter 0 ∷ reports (n .emitter) (targets order list (place order me));
+    })
+
 -- ---- the rules
 
 -- "opening, tick 0: emitter is the node before, observer the node after, watch due W, heartbeat due H, list empty. With N = 1 the node
@@ -109,32 +121,20 @@ onHeartbeat w tick from n = silent (cond (eqb (n .emitter) from) (withWatch n (d
 unfoldable pub onObserver : ℕ → ℕ → Node → Turn
 onObserver tick from n = silent (withHeartbeat (withObserver n from) (due tick))
 
--- message R of a subject: already listed or the node itself, nothing; otherwise it is listed, and R of the same subject goes to
--- the forward targets, taken with the list after the change
-unfoldable pub onReport : List ℕ → ℕ → ℕ → Node → Turn
-onReport order me subject n =
+-- message R of a subject: already listed or the node itself, nothing; the emitter, and the node leaves it "in the same event"; otherwise
+-- it is listed, and R of the same subject goes to the forward targets, taken with the list after the change
+unfoldable pub onReport : List ℕ → ℕ → ℕ → ℕ → ℕ → Node → Turn
+onReport order w tick me subject n =
     let list : ℕ = listing (n .list) subject in
     cond (listed (n .list) subject || eqb subject me) (silent n)
-    (record { node = withList n list; sends = reports subject (targets order list (place order me)) })
+    (cond (eqb subject (n .emitter)) (leaving order w tick me n)
+    (record { node = withList n list; sends = reports subject (targets order list (place order me)) }))
 
 -- heartbeat due: send H to the observer; due becomes this tick + H
 unfoldable pub onHeartbeatDue : ℕ → ℕ → Node → Turn
 onHeartbeatDue h tick n = record { node = withHeartbeat n (due (tick + h)); sends = message H (n .observer) 0 ∷ [] }
 
--- leaving the emitter: "list the emitter; the new emitter is the first unlisted node going back from it. If that is the node
--- itself, it is alone, as above. Otherwise watch due becomes this tick + 2 × W; send O to the new emitter, then R of the old one to
--- the forward targets, also if it was listed before"
-unfoldable pub leaving : List ℕ → ℕ → ℕ → ℕ → Node → Turn
-leaving order w tick me n =
-    let list : ℕ = leftList n in
-    let emitter : ℕ = newEmitter order n in
-    cond (eqb emitter me) (silent (alone me list))
-    (record {
-      node = moved w tick emitter list n;
-      sends = message O emitter 0 ∷ reports (n .emitter) (targets order list (place order me));
-    })
-
--- watch due: the emitter is left
+-- watch due: the node leaves its emitter
 abbrev pub onWatchDue : List ℕ → ℕ → ℕ → ℕ → Node → Turn
 onWatchDue order w tick me n = leaving order w tick me n
 
@@ -142,7 +142,7 @@ onWatchDue order w tick me n = leaving order w tick me n
 unfoldable pub onMessage : List ℕ → ℕ → ℕ → ℕ → ℕ → ℕ → ℕ → Node → Turn
 onMessage order w tick me kind from subject n =
     cond (eqb kind H) (onHeartbeat w tick from n)
-    (cond (eqb kind O) (onObserver tick from n) (onReport order me subject n))
+    (cond (eqb kind O) (onObserver tick from n) (onReport order w tick me subject n))
 
 -- ---- what the code answers: the messages in seven places, the unused ones zero, and their count
 

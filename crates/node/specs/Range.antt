@@ -12,11 +12,13 @@ use Rattle.node.specs.Node.{off, due, H, O, R}
 
 -- ---- facts
 
--- any node's fields: emitter, observer and list are of nodes below n, and a timer is off or due at a tick that a rule can set
+-- any node's fields: emitter, observer and list are of nodes below n, the list does not have the emitter, and a timer is off or due at a
+-- tick that a rule can set
 pub record NodeRange (n h w t : ℕ) (a : Node) : Type 0 where
   pub emitter : a .emitter < n
   pub observer : a .observer < n
   pub list : a .list < 2 ^ n
+  pub unlisted : listed (a .list) (a .emitter) ≡ false
   pub watch : a .watch ≤ due (t + 2 * w)
   pub heartbeat : a .heartbeat ≤ due (t + h)
 
@@ -41,7 +43,7 @@ Known kind = (kind ≡ H) ⊎ ((kind ≡ O) ⊎ (kind ≡ R))
 unfoldable pub nodeTest : ℕ → ℕ → ℕ → ℕ → Node → Bool
 nodeTest n h w t a =
     ltb (a .emitter) n && (ltb (a .observer) n && (ltb (a .list) (2 ^ n)
-    && (leb (a .watch) (due (t + 2 * w)) && leb (a .heartbeat) (due (t + h)))))
+    && (not (listed (a .list) (a .emitter)) && (leb (a .watch) (due (t + 2 * w)) && leb (a .heartbeat) (due (t + h))))))
 
 -- a timer is off, or what it is about is another node
 unfoldable pub apart : ℕ → ℕ → ℕ → Bool

@@ -124,6 +124,29 @@ fn lone(me: u8, list: u64) -> Node
     }
 }
 
+// Leaving the emitter: it is listed and reported, and the first unlisted node going back from it becomes the emitter.
+fn leave_emitter(order: &[u8], w: u32, tick: u32, me: u8, n: Node) -> Turned
+    requires { ⌜ (1 ≤ length (now order)) × (length (now order) ≤ mostNodes) × (w ≤ mostW) × (tick ≤ mostTick) × (n .emitter < mostNodes) ⌝ }
+    ensures { λ r. ⌜ r ≡ turned (leaving (now (order .entry)) w tick me n) ⌝ }
+{
+    let list = ring::with_listed(n.list, n.emitter);
+    let p = ring::place_of(order, n.emitter);
+    let emitter = ring::find_back(order, list, p);
+    if emitter == me {
+        return quiet(lone(me, list));
+    }
+    let mut m = n;
+    m.emitter = emitter;
+    m.watch = tick + 2 * w + 1;
+    m.list = list;
+    let observe = Message {
+        kind: b'O',
+        to: emitter,
+        subject: 0,
+    };
+    relay(order, me, n.emitter, sends_one(m, observe))
+}
+
 // Opening, at tick 0.
 pub fn opened(order: &[u8], h: u32, w: u32, me: u8) -> Node
     requires { ⌜ (length (now order) ≤ mostNodes) × (h ≤ mostH) × (w ≤ mostW) ⌝ }
@@ -168,16 +191,19 @@ pub fn on_observer(tick: u32, from: u8, n: Node) -> Turned
     quiet(m)
 }
 
-// Message R: a subject that is new here is listed and reported on.
-pub fn on_report(order: &[u8], me: u8, subject: u8, n: Node) -> Turned
-    requires { ⌜ (1 ≤ length (now order)) × (length (now order) ≤ mostNodes) × (subject < mostNodes) ⌝ }
-    ensures { λ r. ⌜ r ≡ turned (onReport (now (order .entry)) me subject n) ⌝ }
+// Message R: a subject that is new here is listed and reported on; an emitter is also left.
+pub fn on_report(order: &[u8], w: u32, tick: u32, me: u8, subject: u8, n: Node) -> Turned
+    requires { ⌜ (1 ≤ length (now order)) × (length (now order) ≤ mostNodes) × (w ≤ mostW) × (tick ≤ mostTick) × (subject < mostNodes) ⌝ }
+    ensures { λ r. ⌜ r ≡ turned (onReport (now (order .entry)) w tick me subject n) ⌝ }
 {
     if ring::is_listed(n.list, subject) {
         return quiet(n);
     }
     if subject == me {
         return quiet(n);
+    }
+    if subject == n.emitter {
+        return leave_emitter(order, w, tick, me, n);
     }
     let mut m = n;
     m.list = ring::with_listed(n.list, subject);
@@ -197,29 +223,6 @@ pub fn on_heartbeat_due(h: u32, tick: u32, n: Node) -> Turned
     let mut m = n;
     m.heartbeat = tick + h + 1;
     sends_one(m, beat)
-}
-
-// Leaving the emitter: it is listed and reported, and the first unlisted node going back from it becomes the emitter.
-fn leave_emitter(order: &[u8], w: u32, tick: u32, me: u8, n: Node) -> Turned
-    requires { ⌜ (1 ≤ length (now order)) × (length (now order) ≤ mostNodes) × (w ≤ mostW) × (tick ≤ mostTick) × (n .emitter < mostNodes) ⌝ }
-    ensures { λ r. ⌜ r ≡ turned (leaving (now (order .entry)) w tick me n) ⌝ }
-{
-    let list = ring::with_listed(n.list, n.emitter);
-    let p = ring::place_of(order, n.emitter);
-    let emitter = ring::find_back(order, list, p);
-    if emitter == me {
-        return quiet(lone(me, list));
-    }
-    let mut m = n;
-    m.emitter = emitter;
-    m.watch = tick + 2 * w + 1;
-    m.list = list;
-    let observe = Message {
-        kind: b'O',
-        to: emitter,
-        subject: 0,
-    };
-    relay(order, me, n.emitter, sends_one(m, observe))
 }
 
 // Watch due: the emitter is left.
@@ -247,7 +250,7 @@ pub fn on_message(
     match kind {
         b'H' => on_heartbeat(w, tick, from, n),
         b'O' => on_observer(tick, from, n),
-        _ => on_report(order, me, subject, n),
+        _ => on_report(order, w, tick, me, subject, n),
     }
 }
 
@@ -265,6 +268,9 @@ pub fn node_in_range(n: u8, h: u32, w: u32, t: u32, a: Node) -> bool
         return false;
     }
     if ring::all_nodes(n) < a.list {
+        return false;
+    }
+    if ring::is_listed(a.list, a.emitter) {
         return false;
     }
     if t + 2 * w + 1 < a.watch {
