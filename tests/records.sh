@@ -159,7 +159,7 @@ mistakes
 each_generated '' $((count / 5)) "$work" generated
 each_generated small "$count" "$work" generated
 moves=$("$out/simulate" moves $(grep -La '^Q' "$work/$seed"-*.run))
-[ "$moves" -ge $((count / 200)) ] || fail "$moves moves by report in the small files without a Q line"
+[ "$moves" -ge $((count / 400)) ] || fail "$moves moves by report in the small files without a Q line"
 lines=$(counted)
 echo "records: $files files, $wide of them with 48 nodes or more, agree; $ordered with a Q line, $refused refused; 6 mistakes found"
 echo "records: $moves moves by report in the small files; lines:$lines"
