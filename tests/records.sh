@@ -97,6 +97,8 @@ small_rings() {
     named "01's worked example" ring P,2,2,3,1,6 1 3 0 1 0
     named 'one node' ring P,1,1,2,1,5
     named 'up to the greatest tick' ring P,3,1000,1255,255,1000000 1 500000 0 1 0
+    named 'a reported emitter among ten' cat tests/reported-ten.run
+    named 'a reported emitter among nine' cat tests/reported-nine.run
 }
 
 rings_of_48() {
@@ -158,8 +160,8 @@ full_rings
 mistakes
 each_generated '' $((count / 5)) "$work" generated
 each_generated small "$count" "$work" generated
-moves=$("$out/simulate" moves $(grep -La '^Q' "$work/$seed"-*.run))
-[ "$moves" -ge $((count / 400)) ] || fail "$moves moves by report in the small files without a Q line"
+moves=$("$out/simulate" moves tests/reported-*.run $(grep -La '^Q' "$work/$seed"-*.run))
+[ "$moves" -ge $((count / 150)) ] || fail "$moves moves by report in the two files made for it and the small ones without a Q line"
 lines=$(counted)
 echo "records: $files files, $wide of them with 48 nodes or more, agree; $ordered with a Q line, $refused refused; 6 mistakes found"
-echo "records: $moves moves by report in the small files; lines:$lines"
+echo "records: $moves moves by report in the two files made for it and the small ones; lines:$lines"

@@ -110,5 +110,5 @@ python3 tests/streams.py "$rehearse" "$work/large.run" "$work/large.log" "$work/
 each_generated '' $((count / 50)) "$work" same
 each_generated small "$count" "$work" same
 moves=$("$out/simulate" moves "$work/$seed"-*.run)
-[ "$moves" -ge $((count / 200)) ] || fail "$moves moves by report in the small files"
+[ "$moves" -ge $((count / 100)) ] || fail "$moves moves by report in the small files"
 echo "rehearse: $files files, $lines lines agree; $moves moves by report in the small files"
