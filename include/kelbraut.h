@@ -37,7 +37,7 @@ extern "C" {
 #define KELBRAUT_MANY_DELAYS 6    /* L line: the 2,049th */
 #define KELBRAUT_BAD_STORE 7      /* not 65,536 bytes, a field out of range, or an unused byte not zero */
 #define KELBRAUT_OVERFULL 8       /* event: more than 2,048 messages would be in flight after it */
-#define KELBRAUT_SHORT_PART 9     /* message part under 56 bytes, log part under 40, file part under 65,536; also where
+#define KELBRAUT_SHORT_PART 9     /* message part under 56 bytes, log part under 80, file part under 65,536; also where
                                      less would do */
 #define KELBRAUT_BAD_RECORD 10    /* not 64 bytes, or a field out of range */
 #define KELBRAUT_BAD_MESSAGE 11   /* unknown kind, or the sender or a report's subject is no other node of the ring */
@@ -184,6 +184,17 @@ static inline uint64_t kelbraut_dead_list(const uint8_t record[KELBRAUT_RECORD])
     return kelbraut_field(record, 8, 8);
 }
 
+/*
+ * How many listed nodes an accepted call passed to find a new emitter, the one that it left included, up to the new one, or
+ * to the node itself where it is alone; 0 where the emitter stays. `before` is a copy of the record from before the call,
+ * `after` the record after it. All nodes on that way are listed, so that its length in the ring is the number. A program that
+ * writes a log as a rehearsal does puts it into the line K of the call.
+ */
+static inline uint8_t kelbraut_passed(const uint8_t before[KELBRAUT_RECORD], const uint8_t after[KELBRAUT_RECORD]) {
+    int left = kelbraut_emitter(before), taken = kelbraut_emitter(after), nodes = after[1];
+    return (uint8_t)(left < taken ? left + nodes - taken : left - taken);
+}
+
 /* The tick of the last accepted call, 0 at opening. A call with an earlier one is refused by 12. */
 static inline uint64_t kelbraut_last_tick(const uint8_t record[KELBRAUT_RECORD]) {
     return kelbraut_field(record, 16, 4);
@@ -275,23 +286,27 @@ static inline uint8_t kelbraut_subject(const uint8_t message[KELBRAUT_MESSAGE]) 
  * after a node, going back and ahead; events, lists and lines go by node number.
  *
  * Log line: letter, tick, node, other, list, parted by commas, and a line feed. The list is the node's dead list after
- * the event, 16 lower-case hexadecimal digits; bit i stands for node i.
+ * the event, 16 lower-case hexadecimal digits; bit i stands for node i. An event has one line, or two where the node leaves
+ * its emitter: the event's own, and then KELBRAUT_MOVED with the same tick, node and list.
  */
 
-/* Sizes in bytes: a store, the longest run file, and the least part for a log line and for writing a run file. */
+/* Sizes in bytes: a store, the longest run file, and the least part for an event's lines and for writing a run file. */
 #define KELBRAUT_STORE 65536
 #define KELBRAUT_LONGEST_FILE 65536
-#define KELBRAUT_LOG_PART 40
+#define KELBRAUT_LOG_PART 80
 #define KELBRAUT_FILE_PART 65536
 
 /*
  * Letters of events. A message that is delivered has its kind for letter: KELBRAUT_HEARTBEAT and KELBRAUT_OBSERVER with
  * the sender as other, KELBRAUT_REPORT with the subject, which the node lists from then on; where that is the node's
- * emitter, the node leaves it in the same event, as at KELBRAUT_EXPIRED.
+ * emitter, the node leaves it in the same event, as at KELBRAUT_EXPIRED. KELBRAUT_MOVED is the letter of the second line of
+ * such an event and of each expired watch; it stands in the log alone, and is the letter of no event.
  */
 #define KELBRAUT_CRASH 'C'   /* the node crashes; other: the node itself */
 #define KELBRAUT_DROPPED 'X' /* a message to the node, which has crashed, is dropped; other: the sender */
 #define KELBRAUT_EXPIRED 'W' /* the node's watch expires; other: the emitter that it lists */
+#define KELBRAUT_MOVED 'K'   /* the node moves to another emitter, or is alone; other: how many listed nodes it passed on
+                                its way back from the one that it left, that one included */
 #define KELBRAUT_SENT 'S'    /* the node sends a heartbeat; other: its observer */
 #define KELBRAUT_END 'E'     /* none is left up to the end tick; tick: that tick, node: how many survive, other: how many
                                 messages are in flight, list: the crashed nodes */
@@ -310,10 +325,10 @@ uint64_t kelbraut_open(const uint8_t *file, size_t file_size, uint8_t *store, si
 #define KELBRAUT_LINE(answer) ((answer) / 256)
 
 /*
- * Does the next event and writes its line at the start of the log part; the rest of that part stays. `letter`, `tick`,
- * `node` and `other` become the line's, `size` its length. Where no event is left, the line is that of KELBRAUT_END and the
- * store stays. A refused step leaves the five numbers, the log part and the store, so that after 8 the next step is refused
- * again.
+ * Does the next event and writes its line, or its two lines, at the start of the log part; the rest of that part stays.
+ * `letter`, `tick`, `node` and `other` become those of the event's own line, the first one; `size` becomes the length of all
+ * that is written. Where no event is left, the line is that of KELBRAUT_END and the store stays. A refused step writes no
+ * line and leaves the five numbers, the log part and the store, so that after 8 the next step is refused again.
  * Answers 0, 7, 9 or 8.
  */
 uint64_t kelbraut_step(uint8_t *store, size_t store_size, uint8_t *log, size_t log_size, uint64_t *letter, uint64_t *tick,
@@ -321,9 +336,9 @@ uint64_t kelbraut_step(uint8_t *store, size_t store_size, uint8_t *log, size_t l
 
 /*
  * Does the next events, as many as `budget` says or as are left up to the end tick, and writes no lines. `events` becomes how
- * many it did. `spent` becomes 1 where that is the budget and another event remains, and 0 where none is left. On 7 both
- * stay. On 8 `events` becomes how many it did before the refused event, `spent` stays, and the store is as just before that
- * event. A call tests the whole store first, so that one run is far quicker than as many steps.
+ * many it did, one with two lines counted once. `spent` becomes 1 where that is the budget and another event remains, and 0
+ * where none is left. On 7 both stay. On 8 `events` becomes how many it did before the refused event, `spent` stays, and the
+ * store is as just before that event. A call tests the whole store first, so that one run is far quicker than as many steps.
  * While it runs it keeps the messages in flight in a queue on the stack: a thread that calls it needs 256 KiB of stack.
  * Answers 0, 7 or 8.
  */

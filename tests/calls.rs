@@ -2,7 +2,7 @@
 
 use simulator::limits::*;
 use simulator::log;
-use simulator::platform::{Ending, Run, Step};
+use simulator::platform::{Ending, Run};
 use simulator::store::Held;
 
 /// A call on an opened store.
@@ -84,12 +84,12 @@ pub mod proved {
 }
 
 fn step(held: &mut Held, part: &mut [u8]) -> Answer {
-    if part.len() < LINE_BYTES {
+    if part.len() < LOG_BYTES {
         return refused(REFUSED_PART);
     }
     let step = held.platform.step();
-    let (Step::Event(line) | Step::Done(line)) = step else { return refused(REFUSED_EVENT) };
-    let size = log::write(step.lines(), part).expect("the lines are in range and the part long enough");
+    let Some(line) = step.lines().next() else { return refused(REFUSED_EVENT) };
+    let size = log::write(step.lines(), part).expect("the part is long enough for the lines of any event");
     answer(0, &[u64::from(line.letter), line.tick, line.node, line.other, size as u64])
 }
 

@@ -1,6 +1,7 @@
 //! Demand 3 over all runs of small rings, by the simulator's search: every delay of every message, every crash at every tick.
-//! Nothing may be found with W = H + D or more; with W = H + D − 1, and by wrong rules, something has to be. Most rings are in the order of
-//! their numbers, some in another. There too a tick goes by number, so that what it does is not what it does to the nodes renamed.
+//! Nothing may be found with W = H + D or more; with W = H + D − 1, and by wrong rules, something has to be. At each move the number passed
+//! has to be the count of the listed nodes from the one left back to the new emitter. Most rings are in the order of their numbers, some in
+//! another. There too a tick goes by number, so that what it does is not what it does to the nodes renamed.
 //!
 //! In none of these rings a report of the emitter moves a node. That takes more nodes, and the search then has fewer choices: all messages
 //! take D ticks, and only the nodes that are named crash, at any tick.
@@ -78,12 +79,15 @@ const REPORTED: [(u8, &[u8], u32, u32, &[u8]); 6] = [
 ];
 
 /// Searches by a wrong rule, and what has to be found.
-const WRONG: [(Rules, (u8, u32, u32, u32), Finding); 5] = [
+const WRONG: [(Rules, (u8, u32, u32, u32), Finding); 8] = [
     (Rules::ShortWatch, (3, 1, 3, 2), Finding::LiveNodeListed),
     (Rules::TimersFirst, (2, 1, 2, 1), Finding::LiveNodeListed),
     (Rules::TimersFirst, (4, 2, 4, 2), Finding::LiveNodeListed),
     (Rules::ShortSettling, (2, 1, 3, 2), Finding::Unsettled),
     (Rules::ShortSettling, (5, 1, 2, 1), Finding::Unsettled),
+    (Rules::LeftNotCounted, (2, 1, 2, 1), Finding::Miscounted),
+    (Rules::AllCounted, (3, 1, 3, 2), Finding::Miscounted),
+    (Rules::AllCounted, (5, 1, 2, 1), Finding::Miscounted),
 ];
 
 fn search((nodes, period, timeout, delay): (u8, u32, u32, u32)) -> Search {
@@ -119,21 +123,31 @@ fn searched(search: &Search) -> Outcome {
     let mortal = if mortal.len() == usize::from(*nodes) { "all".to_string() } else { listed_numbers(&mortal) };
     let (Outcome { states, events, moves_by_report, .. }, rules) = (&outcome, format!("{rules:?}"));
     let numbers = format!("{nodes:>2} {period:>2} {timeout:>2} {delay:>2}");
-    let counts = format!("{states:>8} {events:>9} {moves_by_report:>6} {runs:>8} {closed:>6}");
-    println!("{rules:<13} {numbers} {order:<17} {mortal:<11} {counts}  {found}");
+    let most = most_passed(&outcome);
+    let counts = format!("{states:>8} {events:>9} {moves_by_report:>6} {most:>6} {runs:>8} {closed:>6}");
+    println!("{rules:<14} {numbers} {order:<17} {mortal:<11} {counts}  {found}");
     outcome
 }
 
-fn heading(what: &str) {
-    println!("\n{what}\nrules          N  H  W  D order             crash         states    events  moves     runs closed  found");
+/// The greatest number passed at a move.
+fn most_passed(outcome: &Outcome) -> usize {
+    outcome.passed.iter().rposition(|moves| *moves > 0).unwrap_or(0)
 }
 
-/// Nothing is found, whatever the end tick.
+fn heading(what: &str) {
+    println!("\n{what}\nrules           N  H  W  D order             crash         states    events  moves passed     runs closed  found");
+}
+
+/// Nothing is found, whatever the end tick. Where all nodes may crash, there are moves that pass one node, two and so on to all others.
 fn kept(search: &Search) -> Result<Outcome, String> {
-    match searched(search) {
-        outcome @ Outcome { found: None, closed: Some(_), .. } => Ok(outcome),
-        _ => Err(format!("something is found, or may be later, in {search:?}")),
+    let outcome = searched(search);
+    if outcome.found.is_some() || outcome.closed.is_none() {
+        return Err(format!("something is found, or may be later, in {search:?}"));
     }
+    if search.mortal == u64::MAX && outcome.passed[1..usize::from(search.nodes)].contains(&0) {
+        return Err(format!("no move passes so many nodes in {search:?}: {:?}", outcome.passed));
+    }
+    Ok(outcome)
 }
 
 /// The run that was found, done by the platform's events, lists a live node at the same tick.
@@ -186,14 +200,16 @@ fn table() -> Result<(), String> {
     }
     heading("Larger rings, all messages D ticks in flight; reports of the emitter move nodes:");
     for numbers in REPORTED {
-        if kept(&reported(numbers))?.moves_by_report == 0 {
-            return Err(format!("no report moves a node in {:?}", reported(numbers)));
+        let outcome = kept(&reported(numbers))?;
+        if outcome.moves_by_report == 0 || most_passed(&outcome) < 2 {
+            return Err(format!("no report moves a node, or no move passes more than one, in {:?}", reported(numbers)));
         }
     }
-    heading("Wrong rules: W for 2 x W after moving, timers before deliveries, S shorter by 2 x D; W for 2 x W after a move by report:");
+    heading("Wrong rules: W for 2 x W after moving, timers before deliveries, S shorter by 2 x D; passed without the one left, or all listed:");
     for (rules, numbers, finding) in WRONG {
         finds(&Search { rules, ..search(numbers) }, finding)?;
     }
+    heading("W for 2 x W after a move by report:");
     for numbers in &REPORTED[..3] {
         finds(&Search { rules: Rules::ShortReported, ..reported(*numbers) }, Finding::LiveNodeListed)?;
     }
@@ -228,7 +244,7 @@ fn main() -> ExitCode {
     let words: Result<Vec<u32>, _> = std::env::args().skip(1).map(|word| word.parse()).collect();
     let began = Instant::now();
     println!("exhaust: states at the start of a tick; all runs up to the end tick, {END} in the table, {LATE_END} in larger rings;");
-    println!("exhaust: moves are the reports that move a node;");
+    println!("exhaust: moves are the reports that move a node, passed is the greatest number of nodes passed at a move;");
     println!("exhaust: closed is the tick after which no new state comes up, so that the answer holds for every end tick");
     let done = match words {
         Ok(words) if words.is_empty() => table(),

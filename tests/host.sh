@@ -71,7 +71,10 @@ mistake 'timers a tick late' 's/\(uint64_t [a-z]* = kelbraut_field(record, 2[04]
 mistake 'the heartbeat a tick early' 's/(record, 24, 4) - 1/(record, 24, 4) - 2/'
 mistake 'the later of the timers' 's/return watch < heartbeat/return watch > heartbeat/'
 mistake 'the highest byte first' 's/record\[place + i\]/record[place + size - 1 - i]/'
-echo 'host: 11 mistakes in the readers found'
+mistake 'nodes passed ahead, not back' 's/left < taken ? left + nodes - taken : left - taken/left > taken ? taken + nodes - left : taken - left/'
+mistake 'the new emitter passed, too' 's/left + nodes - taken : left - taken/left + nodes - taken + 1 : left - taken + 1/'
+mistake 'its own number for N' 's/nodes = after\[1\]/nodes = after[0]/'
+echo 'host: 14 mistakes in the readers found'
 
 # Calls on different records may run in several threads: the library has no bytes of its own that a call could write.
 written=$(size "$library" | awk 'NR > 1 { bytes += $2 + $3 } END { print (NR > 1 ? bytes : "unknown") }')

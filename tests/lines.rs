@@ -43,7 +43,7 @@ mod proved {
 
 /// How many lines are tried where no count is given.
 const COUNT: u64 = 200_000;
-const LETTERS: &[u8] = b"CHORXWSE";
+const LETTERS: &[u8] = b"CHORXWSKE";
 
 /// A number near a bound of some column, or any.
 fn number(random: &mut Random) -> u64 {
@@ -59,7 +59,7 @@ fn number(random: &mut Random) -> u64 {
 fn numbers(random: &mut Random) -> [u64; 5] {
     let letter = match random.below(8) {
         0 => random.below(256),
-        1 => random.pick(&[256 + 67, 256 + 69, u64::MAX, 1 << 32]),
+        1 => random.pick(&[256 + 67, 256 + 69, 256 + 75, u64::MAX, 1 << 32]),
         _ => u64::from(random.pick(LETTERS)),
     };
     let list = random.draw() << random.below(64);
@@ -86,7 +86,7 @@ fn text(numbers: [u64; 5]) -> Vec<u8> {
 fn damage(random: &mut Random, line: &mut Vec<u8>) {
     let at = random.below(line.len() as u64) as usize;
     let next = (at + 1) % line.len();
-    let byte = random.pick(b"0019afAFgGCEX,,\n\r +-.:/ \0\xff");
+    let byte = random.pick(b"0019afAFgGCEXKk,,\n\r +-.:/ \0\xff");
     match random.below(12) {
         0 => line[at] = byte,
         1 => line[at] = random.draw() as u8,
@@ -105,7 +105,7 @@ fn damage(random: &mut Random, line: &mut Vec<u8>) {
 
 fn line(random: &mut Random) -> Vec<u8> {
     if random.below(10) == 0 {
-        return (0..random.below(45)).map(|_| random.pick(b"CE0123456789abcdef,,,,\n")).collect();
+        return (0..random.below(45)).map(|_| random.pick(b"CEK0123456789abcdef,,,,\n")).collect();
     }
     let mut line = text(numbers(random));
     for _ in 0..random.pick(&[0, 0, 1, 1, 2, 3]) {
@@ -116,9 +116,12 @@ fn line(random: &mut Random) -> Vec<u8> {
     line
 }
 
-/// A lent part of about the shortest length.
+/// Bytes for the five numbers of a line that is read, which are no log part.
+const NUMBER_BYTES: usize = 40;
+
+/// A lent part of about the shortest length, for the numbers of a line or for a line.
 fn part(random: &mut Random) -> Vec<u8> {
-    let length = random.pick(&[0, 1, 15, 16, 17, 34, 35, 38, 39, 40, 40, 41, 64]);
+    let length = random.pick(&[0, 1, 15, 16, 17, 34, 35, 38, 39, 40, 40, 41, 64, 66, 78, 79, 80, 80, 80, 80, 81, 120]);
     random.bytes(length)
 }
 
@@ -132,9 +135,9 @@ fn read(line: &[u8], lent: &[u8]) -> Result<(), String> {
     let mut simulated = lent.to_vec();
     let expected = match Line::read(line) {
         Err(number) => u64::from(number),
-        Ok(_) if lent.len() < 40 => 9,
+        Ok(_) if lent.len() < NUMBER_BYTES => 9,
         Ok(line) => {
-            simulated[..40].copy_from_slice(&little(&line));
+            simulated[..NUMBER_BYTES].copy_from_slice(&little(&line));
             0
         }
     };
@@ -152,7 +155,8 @@ fn column(line: &[u8], column: u64, lent: &[u8]) -> Result<(), String> {
     same(&format!("column {column}"), (answer, proved), (part.len() as u64, simulated))
 }
 
-fn write(numbers: [u64; 5], lent: &[u8]) -> Result<(), String> {
+/// Answers what the writer does.
+fn write(numbers: [u64; 5], lent: &[u8]) -> Result<u64, String> {
     let mut proved = lent.to_vec();
     let answer = proved::write(numbers, &mut proved);
     let mut simulated = lent.to_vec();
@@ -164,7 +168,7 @@ fn write(numbers: [u64; 5], lent: &[u8]) -> Result<(), String> {
             Err(number) => u64::from(number),
         },
     };
-    same("write", (answer, proved), (expected, simulated))
+    same("write", (answer, proved), (expected, simulated)).map(|()| answer)
 }
 
 /// What the calls answered, for the summary: each kind of answer has to come up.
@@ -173,6 +177,9 @@ struct Seen {
     accepted: u64,
     form: u64,
     range: u64,
+    /// Lines K that are read; and lines that the writer refuses by 9 in a part of 40 bytes or more.
+    passed: u64,
+    short: u64,
 }
 
 fn case(random: &mut Random, seen: &mut Seen) -> Result<(), String> {
@@ -180,7 +187,10 @@ fn case(random: &mut Random, seen: &mut Seen) -> Result<(), String> {
     let lent = part(random);
     let numbers = numbers(random);
     match Line::read(&line) {
-        Ok(_) => seen.accepted += 1,
+        Ok(line) => {
+            seen.accepted += 1;
+            seen.passed += u64::from(line.letter == b'K');
+        }
         Err(2) => seen.form += 1,
         Err(_) => seen.range += 1,
     }
@@ -191,7 +201,9 @@ fn case(random: &mut Random, seen: &mut Seen) -> Result<(), String> {
     for index in (0..6).chain([u64::from(u32::MAX), u64::MAX]) {
         column(&line, index, &lent).map_err(told)?;
     }
-    write(numbers, &lent).map_err(told)
+    let written = write(numbers, &lent).map_err(told)?;
+    seen.short += u64::from(written == 9 && lent.len() >= NUMBER_BYTES);
+    Ok(())
 }
 
 /// Every letter with each column at, just below and just above its bound.
@@ -203,7 +215,7 @@ fn bounds() -> Result<(), String> {
                     let numbers = [u64::from(letter), tick, node, other, tick << 40 | node];
                     let line = text(numbers);
                     let told = |error: String| format!("numbers {numbers:?}\n{error}");
-                    for length in [39, 40, 41] {
+                    for length in [39, 40, 41, 66, 79, 80, 81] {
                         read(&line, &vec![b'.'; length]).map_err(told)?;
                         write(numbers, &vec![b'.'; length]).map_err(told)?;
                     }
@@ -224,9 +236,10 @@ fn compared(seed: u64, count: u64) -> Result<String, String> {
     for index in 1..=count {
         case(&mut random, &mut seen).map_err(|error| format!("seed {seed}, case {index} differs\n{error}"))?;
     }
-    let Seen { accepted, form, range } = seen;
-    let words = format!("seed {seed}, {count} cases agree: {accepted} accepted, {form} refused by 2, {range} by 3");
-    if count >= 1_000 && (accepted == 0 || form == 0 || range == 0) {
+    let Seen { accepted, form, range, passed, short } = seen;
+    let read = format!("{accepted} accepted, {passed} of them K, {form} refused by 2, {range} by 3");
+    let words = format!("seed {seed}, {count} cases agree: {read}; {short} lines not written into 40 to 79 bytes");
+    if count >= 1_000 && [accepted, form, range, passed, short].contains(&0) {
         return Err(format!("{words}; an answer never came up"));
     }
     Ok(words)

@@ -3,8 +3,12 @@
 use super::calls::{opening, refused, simulated, Answer, Call};
 use simulator::layout::*;
 use simulator::limits::*;
+use simulator::log::{self, Line};
+use simulator::node::Timer;
 use simulator::plan::{self, Plan, Refusal};
 use simulator::platform::Platform;
+use simulator::queue::{Cause, Pending};
+use simulator::ring::Ring;
 use simulator::store::{self, Held};
 use std::slice::{from_raw_parts, from_raw_parts_mut};
 use std::sync::atomic::{AtomicUsize, Ordering};
@@ -18,7 +22,7 @@ macro_rules! mistakes {
             $($name,)*
         }
 
-        pub const MISTAKES: [Mistake; 41] = [$($name,)*];
+        pub const MISTAKES: [Mistake; 56] = [$($name,)*];
     };
 }
 
@@ -64,6 +68,21 @@ mistakes! {
     ShortAfterReport,
     ListedEmitterNotLookedAt,
     ListedEmitterOfCrashedNotLookedAt,
+    LeftNotCounted,
+    AllListedCounted,
+    PassedByNumber,
+    AloneCountedToTheEnd,
+    PassedBeforeOwnLine,
+    PassedWhereEmitterStays,
+    PassedMissing,
+    PassedMissingByReport,
+    PassedMissingAlone,
+    ListBeforeTheEvent,
+    SizeOfOwnLine,
+    NumbersOfPassed,
+    PassedCountedAsEvent,
+    DoneTakesShortLog,
+    OwnLineOfRefusedMove,
 }
 
 use Mistake::*;
@@ -173,16 +192,77 @@ fn hold(store: &[u8], forgets: bool) -> Option<Held> {
     store::decode(&seen)
 }
 
+/// The number passed by a wrong count, where the line's node left the other.
+fn miscounted(own: &Line, passed: u64, nodes: u8, alone: bool) -> u64 {
+    match () {
+        () if is_made(LeftNotCounted) => passed - 1,
+        () if is_made(AllListedCounted) => u64::from(own.list.count_ones()),
+        () if is_made(PassedByNumber) => u64::from(Ring::of(nodes).first_unlisted_back(own.list, own.other as u8).passed),
+        () if is_made(AloneCountedToTheEnd) && alone => u64::from(nodes) - 1,
+        () => passed,
+    }
+}
+
+/// Spoils the lines that a step writes, `before` and `after` being the store's bytes.
+fn mislead(lines: &mut Vec<Line>, before: &[u8], after: &[u8]) {
+    let own = lines[0];
+    let [left, emitter, old_list] = [(before, EMITTER), (after, EMITTER), (before, DEAD_LIST)].map(|(bytes, field)| get(bytes, field, own.node as usize % 64));
+    let alone = emitter == own.node;
+    if let Some(moved) = lines.get_mut(1) {
+        moved.other = miscounted(&own, moved.other, get(before, NODES, 0) as u8, alone);
+        moved.list = if is_made(ListBeforeTheEvent) { old_list } else { moved.list };
+        let missing = is_made(PassedMissing) || is_made(PassedMissingByReport) && own.letter == b'R' || is_made(PassedMissingAlone) && alone;
+        if missing {
+            lines.pop();
+        }
+    } else if is_made(PassedWhereEmitterStays) && own.letter == b'R' && left == emitter {
+        lines.push(Line { letter: b'K', other: 0, ..own });
+    }
+    if is_made(PassedBeforeOwnLine) {
+        lines.reverse();
+    }
+}
+
+/// Writes the lines of an accepted step anew, with a mistake, into the part as it was lent.
+fn write_misled(answer: &mut Answer, before: &[u8], after: &[u8], lent: &[u8], part: &mut [u8]) {
+    let text = part[..answer[5] as usize].to_vec();
+    let mut lines: Vec<Line> = text.split_inclusive(|byte| *byte == b'\n').map(|line| Line::read(line).expect("a line")).collect();
+    mislead(&mut lines, before, after);
+    part.copy_from_slice(lent);
+    let mut rest = &mut part[..];
+    log::put(lines.iter().copied(), &mut rest).expect("the part is long enough");
+    let size = lent.len() - rest.len();
+    answer[5] = size as u64;
+    if is_made(SizeOfOwnLine) && lines.len() == 2 {
+        answer[5] = text.iter().position(|byte| *byte == b'\n').map_or(0, |place| place as u64 + 1);
+    }
+    if is_made(NumbersOfPassed) && lines.len() == 2 {
+        (answer[1], answer[4]) = (u64::from(b'K'), lines[1].other);
+    }
+}
+
+/// How many of the next events, so many, move an emitter.
+fn moves_in(held: &Held, events: u64) -> u64 {
+    let mut platform = held.platform.clone();
+    (0..events).map(|_| platform.step().lines().count() as u64 - 1).sum()
+}
+
+/// Whether the next event is an expired watch.
+fn is_watch_next(held: &mut Held) -> bool {
+    matches!(held.platform.next_event(), Some(Pending { cause: Cause::Timer { timer: Timer::Watch, .. }, .. }))
+}
+
 fn call(call: Call, store: &mut [u8], part: &mut [u8]) -> Answer {
     let forgets = if call == Call::Write { is_made(OrderNotWritten) } else { is_made(GoesByNumber) };
     let mut held = hold(store, forgets);
-    let before = store.to_vec();
+    let (before, lent, opened) = (store.to_vec(), part.to_vec(), held.clone());
+    let is_done = held.as_mut().is_some_and(|held| held.platform.next_event().is_none());
     let (call, rest) = match call {
         Call::Run { budget } if is_made(RunDoesOneEvent) && budget > 1 => (Call::Run { budget: 1 }, budget - 1),
         Call::Run { budget: 12 } if is_made(ElevenForTwelve) => (Call::Run { budget: 11 }, 1),
         _ => (call, 0),
     };
-    let mut answer = if part.len() == LINE_BYTES - 1 && call == Call::Step && is_made(StepTakesShortLog)
+    let mut answer = if part.len() == LOG_BYTES - 1 && call == Call::Step && (is_made(StepTakesShortLog) || is_made(DoneTakesShortLog) && is_done)
         || part.len() == FILE_BYTES - 1 && call == Call::Write && is_made(WriterTakesShortPart)
     {
         let mut longer = [&part[..], &[0]].concat();
@@ -197,6 +277,15 @@ fn call(call: Call, store: &mut [u8], part: &mut [u8]) -> Answer {
         copy_order(&before, store);
     }
     answer[1] += if answer[0] == 0 && answer[2] == 1 { rest } else { 0 };
+    if let Some(opened) = opened.as_ref().filter(|_| is_made(PassedCountedAsEvent) && matches!(call, Call::Run { .. }) && answer[0] == 0) {
+        answer[1] += moves_in(opened, answer[1]);
+    }
+    if call == Call::Step && answer[0] == 0 {
+        write_misled(&mut answer, &before, store, &lent, part);
+    }
+    if call == Call::Step && answer[0] == 8 && is_made(OwnLineOfRefusedMove) && held.as_mut().is_some_and(is_watch_next) {
+        part[..2].copy_from_slice(b"W,");
+    }
     spoil(call, &mut answer, &before, store, part);
     answer
 }

@@ -62,6 +62,6 @@ print("\n".join([*imports(table, proof, *own), "", *written_of(table), ""]))
 files = [run_file() for _ in range(count)] + [read(path) for path in named]
 for case, file in enumerate(files):
     log = subprocess.run([simulate], input=file.encode(), capture_output=True, check=True).stdout.decode()
-    tries = log.count("\n")
+    tries = log.count("\n") - log.count("\nK")
     print(f"case-{case} : writtenOf {tries} (judged {literal(file)}) ≡ bytes {literal(log)}")
     print(f"unfolding {unfolded} writtenOf\ncase-{case} = refl\n")

@@ -1,7 +1,7 @@
 /*
  * The four calls of a rehearsal from C, as the header declares them: the ring is in the file's order, a run in pieces leaves
- * the store that steps leave, the run file is written back, and a refused call writes nothing that is lent to it, neither a
- * byte nor a number.
+ * the store that steps leave, a step that moves an emitter writes two lines, the run file is written back, and a refused call
+ * writes nothing that is lent to it, neither a byte nor a number.
  */
 #include <inttypes.h>
 #include <stdio.h>
@@ -27,12 +27,19 @@
 static const char FILE_TEXT[] = "P,6,5,27,2,90\nC,30,1\nC,35,2\nL,3,1\nL,40,1\n";
 static const char IN_NUMBER_ORDER[] = "P,6,5,27,2,90\nQ,0,1,2,3,4,5\nC,30,1\nC,35,2\nL,3,1\nL,40,1\n";
 static const char SHUFFLED[] = "P,6,5,27,2,90\nQ,4,2,0,5,3,1\nC,30,1\nC,35,2\nL,3,1\nL,40,1\n";
+static const char ALONE[] = "P,2,2,3,1,6\nC,3,1\n";
+static const char LISTED_BEFORE[] = "P,6,5,7,2,90\nC,10,1\nC,40,2\n";
+static const char LISTED_BEFORE_SHUFFLED[] = "P,6,5,7,2,90\nQ,4,2,0,5,3,1\nC,10,0\nC,40,5\n";
+static const char REPORTED[] = "P,10,1,5,4,60\nC,1,2\nC,1,3\nC,2,8\nC,7,0\nC,12,9\nC,16,1\n";
 static const char OVERFULL[] = "P,64,1,34,33,200\n";
 static const char SHORT_TIME_OUT[] = "P,2,2,2,1,6\n";
 static const char TWICE[] = "P,3,2,3,1,6\nQ,0,2,0\n";
 static const char TWICE_AND_OUT_OF_RANGE[] = "P,3,2,3,1,6\nQ,0,3,0\n";
 static const char TWO_OF_THREE[] = "P,3,2,3,1,6\nQ,0,0\n";
 static const char RING_AFTER_CRASH[] = "P,3,2,3,1,6\nC,3,1\nQ,0,2,1\n";
+
+/* What is read of a store: the first byte of a column, by docs/LAYOUTS.md. */
+enum { EMITTERS = 128, LISTS = 768 };
 
 static uint8_t store[KELBRAUT_STORE], kept[KELBRAUT_STORE], part[KELBRAUT_FILE_PART + 8];
 static uint64_t a, b, c, d, e;
@@ -95,6 +102,50 @@ static void steps_and_runs(const char *text, size_t size) {
     CHECK(run(sizeof store, UINT64_MAX) == KELBRAUT_ACCEPTED && a == 0 && b == 0);
 }
 
+static int put_line(char *text, uint64_t letter, uint64_t other) {
+    uint64_t list = 0;
+    for (unsigned byte = 8; byte-- > 0;) {
+        list = list << 8 | store[LISTS + 8 * c + byte];
+    }
+    return sprintf(text, "%c,%" PRIu64 ",%" PRIu64 ",%" PRIu64 ",%016" PRIx64 "\n", (int)letter, b, c, other, list);
+}
+
+/*
+ * The text of each step: the event's own line, and, where the node's emitter in the store is then another one, K with how far
+ * back that is in the ring; the rest of the part is unchanged. So many moves are by an expired watch and by a report, and the
+ * last one passes so many nodes. A part of 79 bytes is refused before every event, whatever its lines need, and at the end.
+ */
+static void moves(const char *text, size_t size, unsigned by_watch, unsigned by_report, unsigned last_passed) {
+    uint8_t back[64], emitters[64];
+    unsigned watches = 0, reports = 0, passed = 0;
+    char lines[128];
+    CHECK(open_text(text, size, sizeof store) == KELBRAUT_ACCEPTED);
+    memcpy(back, store + EMITTERS, sizeof back);
+    for (;;) {
+        memset(part, 0xa5, sizeof part);
+        memcpy(kept, store, sizeof store);
+        CHECK(step(sizeof store, 79) == KELBRAUT_SHORT_PART && STEP_LEFT);
+        CHECK(memcmp(store, kept, sizeof store) == 0 && unwritten(0));
+        memcpy(emitters, store + EMITTERS, sizeof emitters);
+        CHECK(step(sizeof store, 80) == KELBRAUT_ACCEPTED);
+        if (a == KELBRAUT_END) {
+            break;
+        }
+        int length = put_line(lines, a, d);
+        if (emitters[c] != store[EMITTERS + c]) {
+            CHECK(emitters[c] == d && (a == KELBRAUT_EXPIRED || a == KELBRAUT_REPORT));
+            *(a == KELBRAUT_EXPIRED ? &watches : &reports) += 1;
+            passed = 0;
+            for (uint8_t at = emitters[c]; at != store[EMITTERS + c]; at = back[at]) {
+                passed++;
+            }
+            length += put_line(lines + length, KELBRAUT_MOVED, passed);
+        }
+        CHECK(e == (uint64_t)length && memcmp(part, lines, e) == 0 && unwritten(e));
+    }
+    CHECK(watches == by_watch && reports == by_report && passed == last_passed);
+}
+
 static void written_back(const char *text, size_t size) {
     memset(part, 0xa5, sizeof part);
     CHECK(write_file(sizeof store, sizeof part) == KELBRAUT_ACCEPTED && a == size);
@@ -138,10 +189,38 @@ static void overfull(void) {
     CHECK(memcmp(store, kept, sizeof store) == 0 && unwritten(0));
 }
 
+/*
+ * Node 63 leaves 62 by seven messages. Of the 2,078 others that are sent and not yet 33 ticks old some are delivered early:
+ * with 36 there are 2,049 in flight after the move, which is refused and writes neither line; with 37 it writes both.
+ */
+static void overfull_move(unsigned early, uint64_t wanted) {
+    static const char MOVE[] = "W,34,63,62,4000000000000000\nK,34,63,1,4000000000000000\n";
+    char text[1024];
+    int size = sprintf(text, "P,64,1,34,33,60\nC,0,62\n");
+    uint64_t answer, written = wanted == KELBRAUT_ACCEPTED ? sizeof MOVE - 1 : 0;
+    for (unsigned number = 63; number < 63 + early; number++) {
+        size += sprintf(text + size, "L,%u,1\n", number);
+    }
+    CHECK(open_text(text, (size_t)size, sizeof store) == KELBRAUT_ACCEPTED);
+    do {
+        memset(part, 0xa5, sizeof part);
+        answer = step(sizeof store, sizeof part);
+    } while (answer == KELBRAUT_ACCEPTED && a != KELBRAUT_EXPIRED);
+    CHECK(answer == wanted && (answer == KELBRAUT_ACCEPTED ? e == written && d == 62 : STEP_LEFT));
+    CHECK(memcmp(part, MOVE, written) == 0 && unwritten(written));
+    CHECK(store[EMITTERS + 61] == 60 && store[EMITTERS + 63] == (answer == KELBRAUT_ACCEPTED ? 61 : 62));
+}
+
 int main(void) {
     followed_by(FILE_TEXT, sizeof FILE_TEXT - 1, (const uint8_t[]){1, 2, 3, 4, 5, 0});
     followed_by(IN_NUMBER_ORDER, sizeof IN_NUMBER_ORDER - 1, (const uint8_t[]){1, 2, 3, 4, 5, 0});
     followed_by(SHUFFLED, sizeof SHUFFLED - 1, (const uint8_t[]){5, 4, 0, 1, 2, 3});
+    moves(ALONE, sizeof ALONE - 1, 1, 0, 1);
+    moves(FILE_TEXT, sizeof FILE_TEXT - 1, 1, 0, 1);
+    moves(SHUFFLED, sizeof SHUFFLED - 1, 2, 0, 1);
+    moves(LISTED_BEFORE, sizeof LISTED_BEFORE - 1, 2, 0, 2);
+    moves(LISTED_BEFORE_SHUFFLED, sizeof LISTED_BEFORE_SHUFFLED - 1, 2, 0, 2);
+    moves(REPORTED, sizeof REPORTED - 1, 7, 1, 1);
     steps_and_runs(SHUFFLED, sizeof SHUFFLED - 1);
     written_back(SHUFFLED, sizeof SHUFFLED - 1);
     steps_and_runs(IN_NUMBER_ORDER, sizeof IN_NUMBER_ORDER - 1);
@@ -150,5 +229,7 @@ int main(void) {
     written_back(FILE_TEXT, sizeof FILE_TEXT - 1);
     refusals();
     overfull();
+    overfull_move(36, KELBRAUT_OVERFULL);
+    overfull_move(37, KELBRAUT_ACCEPTED);
     return 0;
 }

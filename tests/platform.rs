@@ -1,8 +1,8 @@
 //! The platform's four calls through the static library, beside the simulator: opening, step, run and the run-file writer.
 //! Every call must give the same answer and leave the same lent bytes and the same numbers behind its pointers: on files good and
 //! damaged, on steps and runs mixed at random, on runs of any budget from any place of a file, on stores of which every single byte is
-//! changed in turn, those of the ring's order in more ways, on lent stores that no file leads to, and on 01's edges and 02's of a Q line
-//! and of reported emitters.
+//! changed in turn, those of the ring's order in more ways, on lent stores that no file leads to, and on 01's edges and 02's of a Q line,
+//! of reported emitters and of the number of nodes passed. The lines K of every step are also counted once more, from its lines alone.
 //!
 //! Usage: platform [SEED [COUNT]]. A difference prints its seed and index, the call and the file, and the program fails.
 //!
@@ -21,9 +21,13 @@ use common::{count, ended, same, seed, shown};
 use simulator::generator::{self, USUAL};
 use simulator::layout;
 use simulator::limits::*;
+use simulator::log::Line;
+use simulator::node::Content;
 use simulator::plan;
 use simulator::platform::Platform;
+use simulator::queue::Message;
 use simulator::random::Random;
+use simulator::recount::{Moves, Recount};
 use simulator::settle;
 use simulator::store::{self, Held};
 use std::process::ExitCode;
@@ -34,6 +38,8 @@ const COUNT: u64 = 300;
 const CALLS: u64 = 40;
 /// Calls on one lent store.
 const LENT_CALLS: u64 = 8;
+/// Lent stores for each file that are tried for a move.
+const MOVE_TRIES: u64 = 40;
 /// The numbers that the four calls answer, 0 where accepted.
 const NUMBERS: [usize; 11] = [0, 1, 2, 3, 4, 5, 6, 7, 8, 9, 13];
 /// Bytes on both sides of a lent part that no call may touch.
@@ -81,7 +87,6 @@ impl Lent {
 // ---- the comparison
 
 /// What came up, for the summary.
-#[derive(Default)]
 struct Seen {
     opened: u64,
     calls: u64,
@@ -92,10 +97,28 @@ struct Seen {
     /// Reports that moved a node; and steps by which one did so and left the node alone.
     reported: u64,
     alone: u64,
+    /// Moves by steps, whose lines K are counted once more.
+    moves: Moves,
     met: runs::Met,
 }
 
 impl Seen {
+    fn new() -> Seen {
+        let met = runs::Met::default();
+        Seen { opened: 0, calls: 0, numbers: [0; 14], spent: 0, done: 0, reported: 0, alone: 0, moves: Moves::NONE, met }
+    }
+
+    /// Counts the lines K of an accepted step once more, from its lines and whom the nodes observed before it.
+    fn recount(&mut self, mut before: Recount, lines: &[u8]) -> Result<(), String> {
+        for line in lines.split_inclusive(|byte| *byte == b'\n') {
+            let line = Line::read(line).map_err(|number| format!("{:?} is refused by {number}", String::from_utf8_lossy(line)))?;
+            before.take(line)?;
+        }
+        before.end()?;
+        self.moves.add(&before.moves);
+        Ok(())
+    }
+
     fn count(&mut self, number: u64) {
         self.calls += 1;
         if let Some(count) = self.numbers.get_mut(number as usize) {
@@ -124,6 +147,7 @@ impl Seen {
     fn call(&mut self, call: Call, store: &mut Lent, part: &mut Lent, held: &mut Option<Held>) -> Result<Answer, String> {
         let (before, mut part_left) = (store.part().to_vec(), part.part().to_vec());
         let reported = held.as_ref().map_or(0, |held| held.platform.moves_by_report());
+        let recount = held.as_ref().filter(|_| call == Call::Step).map(|held| Recount::standing(&held.platform));
         let wanted = simulated(call, held.as_mut(), &mut part_left);
         if let Some(platform) = held.as_ref().map(|held| &held.platform).filter(|platform| platform.moves_by_report() > reported) {
             self.reported += platform.moves_by_report() - reported;
@@ -140,6 +164,9 @@ impl Seen {
         same("the call", answer, wanted).map_err(told)?;
         store.holds("store", &store_left).map_err(told)?;
         part.holds("part", &part_left).map_err(told)?;
+        if let Some(recount) = recount.filter(|_| answer[0] == 0) {
+            self.recount(recount, &part.part()[..answer[5] as usize]).map_err(told)?;
+        }
         if !store::check(&store_left) {
             *held = None;
         }
@@ -153,7 +180,7 @@ fn some_call(random: &mut Random) -> (Call, usize) {
     let (few, any, more) = (random.range(0, 12), random.range(0, 100), random.range(0, 400));
     let (huge, edge) = (random.pick(&[more, more, 1 << 32, u64::MAX]), random.pick(&runs::BUDGETS));
     match random.range(0, 9) {
-        0..=4 => (Call::Step, random.pick(&[39, 40, 40, 40, 41, 34 + few, any]) as usize),
+        0..=4 => (Call::Step, random.pick(&[79, 80, 80, 80, 80, 81, 74 + few, 40 + 2 * few, any]) as usize),
         5..=8 => (Call::Run { budget: random.pick(&[edge, edge, few, few, more, huge]) }, 0),
         _ => (Call::Write, random.pick(&[FILE_BYTES, FILE_BYTES, FILE_BYTES + 1, 70_000, FILE_BYTES - 1, 0])),
     }
@@ -228,6 +255,21 @@ fn lent_sequence(seen: &mut Seen, bytes: &[u8], random: &mut Random) -> Result<(
     Ok(())
 }
 
+/// Steps on stores with any state in range whose next event moves an emitter; how many nodes it passes goes by lists of all kinds.
+fn lent_moves(seen: &mut Seen, file: &[u8], random: &mut Random) -> Result<(), String> {
+    let plan = plan::read(file).expect("the file is accepted");
+    for _ in 0..MOVE_TRIES {
+        let bytes = stores::any(&plan, random);
+        let held = store::decode(&bytes);
+        if held.as_ref().is_some_and(|held| held.platform.clone().step().lines().count() == 2) {
+            let room = random.pick(&[LOG_BYTES, LOG_BYTES + 1, LOG_BYTES - 1]);
+            seen.call(Call::Step, &mut Lent::new(&bytes), &mut Lent::filled(room), &mut held.clone())
+                .map_err(|error| format!("a move on a lent store: {error}"))?;
+        }
+    }
+    Ok(())
+}
+
 /// A store of a plan's that is changed, and one with any state in range.
 fn lent(seen: &mut Seen, file: &[u8], random: &mut Random) -> Result<(), String> {
     lent_sequence(seen, &changed_store(file, random), random)?;
@@ -245,6 +287,7 @@ fn generated(seen: &mut Seen, seed: u64, count: u64) -> Result<(), String> {
         let told = |file: &[u8], error| format!("seed {seed} index {index}: {error}\n{}", shown(file));
         sequence(seen, &file, &mut random).map_err(|error| told(&file, error))?;
         lent(seen, &good, &mut random).map_err(|error| told(&good, error))?;
+        lent_moves(seen, &good, &mut random).map_err(|error| told(&good, error))?;
     }
     Ok(())
 }
@@ -263,7 +306,7 @@ fn other_values(byte: u8, place: usize) -> Vec<u8> {
 /// The store with one byte changed, called. A byte that holds something gets every value and every call, one that holds
 /// nothing one value and one call, by turns.
 fn changed_byte(seen: &mut Seen, bytes: &[u8], place: usize) -> Result<(), String> {
-    let calls = [(Call::Step, LINE_BYTES), (Call::Run { budget: 0 }, 0), (Call::Write, FILE_BYTES)];
+    let calls = [(Call::Step, LOG_BYTES), (Call::Run { budget: 0 }, 0), (Call::Write, FILE_BYTES)];
     let used = store::is_used(bytes, place);
     let values = other_values(bytes[place], place);
     let values = if used { &values[..] } else { &values[place % values.len()..][..1] };
@@ -307,7 +350,7 @@ fn spread(nodes: u64, stride: u64) -> String {
 /// Each call on a store with some bytes changed answers this number.
 fn gets(seen: &mut Seen, bytes: &[u8], number: u8) -> Result<(), String> {
     let held = store::decode(bytes);
-    for (call, room) in [(Call::Step, LINE_BYTES), (Call::Run { budget: 1 }, 0), (Call::Write, FILE_BYTES)] {
+    for (call, room) in [(Call::Step, LOG_BYTES), (Call::Run { budget: 1 }, 0), (Call::Write, FILE_BYTES)] {
         let answer = seen.call(call, &mut Lent::new(bytes), &mut Lent::filled(room), &mut held.clone())?;
         same(&format!("{call:?}"), answer[0], u64::from(number))?;
     }
@@ -365,7 +408,7 @@ fn listed_emitters(seen: &mut Seen) -> Result<(), String> {
     Ok(())
 }
 
-// ---- 01's edges, and 02's of a Q line and of reported emitters
+// ---- 01's edges, and 02's of a Q line, of reported emitters and of nodes passed
 
 /// A store opened from the file, and what it holds.
 fn opened(seen: &mut Seen, file: &[u8]) -> Result<(Lent, Option<Held>), String> {
@@ -379,7 +422,7 @@ fn answers(seen: &mut Seen, file: &str, calls: &[(Call, Answer)]) -> Result<Stri
     let (mut store, mut held) = opened(seen, file.as_bytes())?;
     let mut lines = Vec::new();
     for (call, wanted) in calls {
-        let room = if *call == Call::Write { FILE_BYTES } else { LINE_BYTES };
+        let room = if *call == Call::Write { FILE_BYTES } else { LOG_BYTES };
         let mut part = Lent::filled(room);
         let answer = seen.call(*call, &mut store, &mut part, &mut held)?;
         same(&format!("{call:?}"), answer, *wanted)?;
@@ -456,14 +499,21 @@ fn full_flight(seen: &mut Seen) -> Result<(), String> {
     answers(seen, over, &[(all, stopped(2_048)), (Call::Step, eight)]).map(|_| ())
 }
 
-/// The steps on the file's store answer and write the lines of the log, one after another.
+/// The steps on the file's store answer and write the lines of the log, one after another: a line K together with the line before it,
+/// of which the numbers are.
 fn logged(seen: &mut Seen, file: &str, log: &str) -> Result<(), String> {
     let fields = |line: &str| {
         let column: Vec<&str> = line.split(',').collect();
         let number = |place: usize| column[place].parse().expect("a number");
         answer(0, &[u64::from(line.as_bytes()[0]), number(1), number(2), number(3), line.len() as u64])
     };
-    let calls: Vec<(Call, Answer)> = log.split_inclusive('\n').map(|line| (Call::Step, fields(line))).collect();
+    let mut calls: Vec<(Call, Answer)> = Vec::new();
+    for line in log.split_inclusive('\n') {
+        match calls.last_mut() {
+            Some((_, own)) if line.starts_with('K') => own[5] += line.len() as u64,
+            _ => calls.push((Call::Step, fields(line))),
+        }
+    }
     let lines = answers(seen, file, &calls)?;
     if lines != log {
         return Err(format!("the log of {file:?} is\n{lines}"));
@@ -511,11 +561,121 @@ fn alone_by_report(seen: &mut Seen) -> Result<(), String> {
     [(MESSAGES, 1), (NEXT_NUMBER, 1)].into_iter().chain(message).for_each(|(field, number)| put(&mut bytes, field, 0, number));
     put(&mut bytes, DEAD_LIST, 1, 0b100);
     let (mut store, mut held) = (Lent::new(&bytes), store::decode(&bytes));
-    let line = "R,3,1,0,0000000000000005\n";
-    let wanted = answer(0, &[u64::from(b'R'), 3, 1, 0, line.len() as u64]);
-    same("the report", seen.call(Call::Step, &mut store, &mut Lent::filled(LINE_BYTES), &mut held)?, wanted)?;
+    let lines = "R,3,1,0,0000000000000005\nK,3,1,2,0000000000000005\n";
+    let wanted = answer(0, &[u64::from(b'R'), 3, 1, 0, lines.len() as u64]);
+    let mut part = Lent::filled(LOG_BYTES);
+    same("the report", seen.call(Call::Step, &mut store, &mut part, &mut held)?, wanted)?;
+    same("the report", &part.part()[..lines.len()], lines.as_bytes())?;
     let left = [EMITTER, OBSERVER, WATCH, HEARTBEAT, DEAD_LIST].map(|field| get(store.part(), field, 1));
     same("node 1, alone,", (left, get(store.part(), MESSAGES, 0)), ([1, 1, 0, 0, 0b101], 0))
+}
+
+/// The step that writes these lines, after the events before it on the file's store; the numbers are those of the first line.
+fn moves(seen: &mut Seen, file: &str, lines: &str) -> Result<(), String> {
+    let own = Line::read(lines.split_inclusive('\n').next().unwrap_or("").as_bytes()).expect("a line");
+    let mut platform = platform_of(file.as_bytes());
+    while platform.step().lines().next() != Some(own) {
+        if platform.next_event().is_none() {
+            return Err(format!("{own:?} is no event\n{}", shown(file.as_bytes())));
+        }
+    }
+    let before = platform.events_done() - 1;
+    let wanted = answer(0, &[u64::from(own.letter), own.tick, own.node, own.other, lines.len() as u64]);
+    let calls = [(Call::Run { budget: before }, ran(before, 1)), (Call::Step, wanted)];
+    same("the lines", answers(seen, file, &calls)?.as_str(), lines)
+}
+
+/// 02's number of nodes passed: a node left before is not passed again; nodes listed by report are, in number order and in another, at an
+/// expired watch and at a report; where the node is alone, all from the one left back to itself, at most 63.
+fn nodes_passed(seen: &mut Seen) -> Result<(), String> {
+    let crashes: String = (1..64).map(|node| format!("C,{},{node}\n", 20 * node)).collect();
+    let all = format!("P,64,1,3,2,1300\n{crashes}");
+    let (four, ordered) = ("P,4,2,3,1,60\nC,5,3\nC,19,0\nC,31,2\n", "P,4,2,3,1,60\nQ,2,0,3,1\nC,5,1\nC,19,2\nC,31,3\n");
+    let reported = "P,10,1,13,12,220\nC,0,1\nC,103,5\nC,121,2\nC,132,4\nC,150,3\n";
+    for (file, lines) in [
+        ("P,3,2,3,1,12\nC,1,1\nC,1,2\n", "W,9,0,1,0000000000000006\nK,9,0,1,0000000000000006\n"),
+        (four, "W,22,1,0,0000000000000009\nK,22,1,2,0000000000000009\n"),
+        (four, "W,33,1,2,000000000000000d\nK,33,1,1,000000000000000d\n"),
+        (four, "R,9,1,3,0000000000000008\n"),
+        (ordered, "W,22,0,2,0000000000000006\nK,22,0,2,0000000000000006\n"),
+        (ordered, "W,33,0,3,000000000000000e\nK,33,0,1,000000000000000e\n"),
+        (reported, "R,181,6,2,000000000000003e\nK,181,6,2,000000000000003e\n"),
+        (&all, "W,1264,0,63,fffffffffffffffe\nK,1264,0,63,fffffffffffffffe\n"),
+    ] {
+        moves(seen, file, lines)?;
+    }
+    Ok(())
+}
+
+/// 02's 80 bytes: a step with fewer gets 9, whether its event moves a node, does not, is refused by 8 or is none; with 80 and more the part
+/// after the lines stays.
+fn log_parts(seen: &mut Seen) -> Result<(), String> {
+    let file = include_str!("worked.run").as_bytes();
+    let at_last_tick = longest_lines();
+    let over = reached(b"P,64,1,34,33,200\n", 2_048);
+    let stores = [(reached(file, 0), Some(25)), (reached(file, 7), Some(50)), (reached(file, 8), Some(25)), (at_last_tick, Some(66)), (over, None)];
+    for (bytes, size) in stores {
+        for room in (0..100).chain([1_000]) {
+            let mut held = store::decode(&bytes);
+            let found = seen.call(Call::Step, &mut Lent::new(&bytes), &mut Lent::filled(room), &mut held)?;
+            let wanted = match size {
+                _ if room < 80 => (REFUSED_PART, None),
+                None => (REFUSED_EVENT, None),
+                size => (0, size),
+            };
+            let size = (found[0] == 0).then_some(found[5]);
+            same(&format!("a step with a part of {room} bytes"), (found[0], size), (u64::from(wanted.0), wanted.1))?;
+        }
+    }
+    Ok(())
+}
+
+/// A store at the greatest tick whose node 63 lists all but 62, which it observes: it passes 63 nodes, and is alone.
+fn longest_lines() -> Vec<u8> {
+    use layout::*;
+    let mut bytes = reached(b"P,64,1,2,1,1000000\n", 0);
+    put(&mut bytes, LAST_TICK, 0, MAX_TICK);
+    for place in 0..64 {
+        put(&mut bytes, WATCH, place, MAX_TICK + 2);
+        put(&mut bytes, HEARTBEAT, place, MAX_TICK + 2);
+    }
+    put(&mut bytes, WATCH, 63, MAX_TICK + 1);
+    put(&mut bytes, DEAD_LIST, 63, u64::MAX >> 2);
+    bytes
+}
+
+/// Eight nodes at tick 3, with so many messages in flight. Node 1, which lists 7, leaves 0 next, by its watch or by a report, and sends four
+/// messages.
+fn about_to_move(in_flight: usize, by_report: bool) -> Vec<u8> {
+    let opened = platform_of(b"P,8,1,20,19,100\n");
+    let mut nodes = opened.nodes().to_vec();
+    nodes.iter_mut().for_each(|node| node.heartbeat = Some(4));
+    nodes[1].watch = Some(if by_report { 9 } else { 3 });
+    nodes[1].dead_list = 1 << 7;
+    let heartbeat = |number| (5, Message { number, sender: 2, receiver: 3, content: Content::Heartbeat });
+    let mut messages: Vec<(u32, Message)> = (0..in_flight as u64).map(heartbeat).collect();
+    if by_report {
+        messages[0] = (3, Message { number: 0, sender: 2, receiver: 1, content: Content::Report { subject: 0 } });
+    }
+    store::encode(&Platform::resume(opened.plan().clone(), nodes, messages, in_flight as u64, 0, 3))
+}
+
+/// A move that would leave 2,049 in flight is refused by 8 and writes neither line; one that leaves 2,048 writes both, and is one event of a
+/// run.
+fn refused_moves(seen: &mut Seen) -> Result<(), String> {
+    let size = 2 * "W,3,1,0,0000000000000081\n".len() as u64;
+    for (by_report, letter, most) in [(false, b'W', 2_044), (true, b'R', 2_045)] {
+        let (over, full) = (about_to_move(most + 1, by_report), about_to_move(most, by_report));
+        let moved = answer(0, &[u64::from(letter), 3, 1, 0, size]);
+        let run = Call::Run { budget: 1 };
+        for (bytes, call, wanted) in
+            [(&over, Call::Step, refused(REFUSED_EVENT)), (&over, run, stopped(0)), (&full, Call::Step, moved), (&full, run, ran(1, 1))]
+        {
+            let found = seen.call(call, &mut Lent::new(bytes), &mut Lent::filled(LOG_BYTES), &mut store::decode(bytes))?;
+            same(&format!("{call:?} of a move that leaves {}", if bytes == &full { 2_048 } else { 2_049 }), found, wanted)?;
+        }
+    }
+    Ok(())
 }
 
 /// 63 survivors, W 100, D 5: S is 140. A run of 64 nodes has settled by then, in any order of the ring.
@@ -553,7 +713,7 @@ fn settles(seen: &mut Seen, file: &str) -> Result<(), String> {
 fn last_number(seen: &mut Seen) -> Result<(), String> {
     let mut bytes = reached(b"P,2,2,3,1,6\nC,3,1\n", 0);
     layout::put(&mut bytes, layout::NEXT_NUMBER, 0, MAX_NEXT_NUMBER);
-    for (call, room) in [(Call::Step, LINE_BYTES), (Call::Run { budget: 3 }, 0)] {
+    for (call, room) in [(Call::Step, LOG_BYTES), (Call::Run { budget: 3 }, 0)] {
         let (mut store, mut held) = (Lent::new(&bytes), store::decode(&bytes));
         seen.call(call, &mut store, &mut Lent::filled(room), &mut held)?;
         let answer = seen.call(Call::Run { budget: 0 }, &mut store, &mut Lent::filled(0), &mut held)?;
@@ -568,6 +728,9 @@ fn edges(seen: &mut Seen) -> Result<(), String> {
     orders(seen)?;
     reported_emitters(seen)?;
     alone_by_report(seen)?;
+    nodes_passed(seen)?;
+    log_parts(seen)?;
+    refused_moves(seen)?;
     full_flight(seen)?;
     settling(seen)?;
     last_number(seen)
@@ -586,10 +749,15 @@ fn all(seen: &mut Seen, seed: u64, count: u64) -> Result<(), String> {
 
 /// Every kind of answer has to come up.
 fn summary(seen: &Seen, count: u64) -> Result<(), String> {
-    let Seen { opened, calls, numbers, spent, done, reported, alone, met } = seen;
+    let Seen { opened, calls, numbers, spent, done, reported, alone, moves, met } = seen;
     let answered = NUMBERS.map(|number| (number, numbers[number]));
     println!("platform: {calls} calls agree, {opened} stores opened; answers by number: {answered:?}; {spent} runs spent, {done} done");
     println!("platform: {reported} moves by report, {alone} steps of them to be alone");
+    let (lines, more, most) = (moves.all(), moves.passing_more(), moves.greatest());
+    println!("platform: {lines} lines K counted once more, {more} with more than one node passed, at most {most}; {} after R", moves.by_report);
+    if count > 0 && (lines < count || more < count / 3 || most < 63 || moves.by_report < count / 10) {
+        return Err("too few lines K came up".to_string());
+    }
     if count > 0 && (*reported < count || *alone == 0) {
         return Err("too few reports moved a node".to_string());
     }
@@ -604,7 +772,7 @@ fn summary(seen: &Seen, count: u64) -> Result<(), String> {
 fn mistakes(seed: u64) -> Result<(), String> {
     for mistake in mock::MISTAKES {
         mock::make(mistake);
-        match all(&mut Seen::default(), seed, 40) {
+        match all(&mut Seen::new(), seed, 40) {
             Ok(()) => return Err(format!("not found: {mistake:?}")),
             Err(error) => println!("platform: {mistake:?} is found: {}", error.lines().next().unwrap_or("")),
         }
@@ -621,7 +789,7 @@ fn mistakes(_: u64) -> Result<(), String> {
 fn main() -> ExitCode {
     let (seed, count) = (seed(), count(COUNT));
     println!("platform: seed {seed}, {count} generated files");
-    let mut seen = Seen::default();
+    let mut seen = Seen::new();
     let compared = mistakes(seed).and_then(|()| all(&mut seen, seed, count)).and_then(|()| summary(&seen, count));
     ended("platform", compared.map(|()| "passed".to_string()))
 }

@@ -1,9 +1,9 @@
 /*
  * The readers of include/kelbraut.h, beside the bytes and the calls that they are about, in three parts:
  *
- *     bytes    every byte of a record and of a message, with every value, by docs/LAYOUTS.md
+ *     bytes    every byte of a record and of a message, with every value, by docs/LAYOUTS.md; every move in every ring
  *     calls    records that random calls lead to: before the next due tick the timers do nothing, at it they do something;
- *              whom they send to, whose heartbeat counts, which ticks are refused
+ *              whom they send to, whose heartbeat counts, how many nodes a move passes, which ticks are refused
  *     rings    whole rings twice, with the timers called at every tick and only where one is due: the messages are the same,
  *              and the records but for the last tick. Nodes stop in the midst of a tick, with some of a call's messages
  *              sent. With W at least H + D no live node is listed; with less, some are
@@ -87,6 +87,19 @@ static void test_timers(uint32_t watch, uint32_t heartbeat) {
     CHECK(kelbraut_next_due(record) == earlier(tick_of(watch), tick_of(heartbeat)));
 }
 
+/* A move from one emitter to another: as many nodes are passed as there are steps back. */
+static void test_way(uint8_t count, uint8_t left, uint8_t taken) {
+    uint8_t before[KELBRAUT_RECORD] = {0}, after[KELBRAUT_RECORD] = {0};
+    int steps = 0;
+    for (uint8_t at = left; at != taken; at = at == 0 ? count - 1 : at - 1) {
+        steps++;
+    }
+    before[1] = after[1] = count;
+    before[6] = left;
+    after[6] = taken;
+    CHECK(kelbraut_passed(before, after) == steps);
+}
+
 static void test_bytes(void) {
     static const uint32_t timers[] = {0, 1, 2, 255, 256, 65536, 1000000, 1000001, 1131071, UINT32_MAX};
     const int count = sizeof timers / sizeof timers[0];
@@ -96,6 +109,11 @@ static void test_bytes(void) {
     for (int i = 0; i < count * count; i++) {
         test_timers(timers[i / count], timers[i % count]);
     }
+    for (int ring = 1; ring <= MOST_NODES; ring++) {
+        for (int i = 0; i < ring * ring; i++) {
+            test_way((uint8_t)ring, (uint8_t)(i / ring), (uint8_t)(i % ring));
+        }
+    }
     CHECK(KELBRAUT_NEVER > KELBRAUT_MOST_TICK);
 }
 
@@ -104,10 +122,25 @@ static void test_bytes(void) {
 /* The figures of a record by which a test chooses its calls. */
 static uint64_t own_number, nodes, period, time_out;
 
-static uint64_t heartbeats, moves, left_alone;
+static uint64_t heartbeats, moves, left_alone, passed_one, passed_more;
 
 static int same_but_last_tick(const uint8_t *a, const uint8_t *b) {
     return memcmp(a, b, 16) == 0 && memcmp(a + 20, b + 20, KELBRAUT_RECORD - 20) == 0;
+}
+
+/*
+ * The number passed by an accepted call is how many listed nodes there are, one after another, going back from the emitter
+ * before it, up to the one found; none where that is the emitter still, as it is not listed then.
+ */
+static void test_passed(const uint8_t *before, const uint8_t *after) {
+    uint64_t at = kelbraut_emitter(before), passed = 0;
+    while (kelbraut_dead_list(after) >> at & 1) {
+        at = (at + nodes - 1) % nodes;
+        passed++;
+    }
+    CHECK(at == kelbraut_emitter(after) && kelbraut_passed(before, after) == passed);
+    passed_one += passed == 1;
+    passed_more += passed > 1;
 }
 
 /* The timers send nothing at this tick, and change nothing but the last tick. */
@@ -129,6 +162,7 @@ static void test_one_timer(uint8_t *record, uint64_t tick) {
     CHECK(kelbraut_node_timers(record, KELBRAUT_RECORD, tick, sent, sizeof sent) == KELBRAUT_ACCEPTED);
     CHECK(!same_but_last_tick(record, before));
     CHECK(kelbraut_last_tick(record) == tick);
+    test_passed(before, record);
     if (kelbraut_kind(sent) == KELBRAUT_HEARTBEAT) {
         CHECK(kelbraut_receiver(sent) == kelbraut_observer(before));
         CHECK(kelbraut_dead_list(record) == kelbraut_dead_list(before));
@@ -241,8 +275,9 @@ static uint64_t other_node(void) {
 }
 
 static void random_call(uint8_t *record) {
-    uint8_t sent[KELBRAUT_MESSAGES];
+    uint8_t before[KELBRAUT_RECORD], sent[KELBRAUT_MESSAGES];
     uint64_t tick = next_tick(record);
+    memcpy(before, record, sizeof before);
     if (nodes == 1 || below(2) == 0) {
         CHECK(kelbraut_node_timers(record, KELBRAUT_RECORD, tick, sent, sizeof sent) == KELBRAUT_ACCEPTED);
     } else {
@@ -251,6 +286,7 @@ static void random_call(uint8_t *record) {
               KELBRAUT_ACCEPTED);
     }
     CHECK(kelbraut_last_tick(record) == tick);
+    test_passed(before, record);
 }
 
 static void test_sequence(void) {
@@ -276,9 +312,9 @@ static void test_calls(void) {
     for (int i = 0; i < 400; i++) {
         test_sequence();
     }
-    CHECK(heartbeats > 1000 && moves > 1000 && left_alone > 100);
-    printf("readers: calls: %" PRIu64 " heartbeats, %" PRIu64 " new emitters, %" PRIu64 " nodes alone\n", heartbeats, moves,
-           left_alone);
+    CHECK(heartbeats > 1000 && moves > 1000 && left_alone > 100 && passed_one > 1000 && passed_more > 100);
+    printf("readers: calls: %" PRIu64 " heartbeats, %" PRIu64 " new emitters, %" PRIu64 " nodes alone; one passed %" PRIu64
+           " times, more %" PRIu64 "\n", heartbeats, moves, left_alone, passed_one, passed_more);
 }
 
 /* ---- whole rings */

@@ -40,6 +40,7 @@ same() {
         differ "$1" "$2" "the nodes do otherwise than is rehearsed, status $status"
     fi
     cut -c 1 "$work/records" >> "$work/letters"
+    sed -n 's/^K,[0-9]*,[0-9]*,\([0-9]*\),.*/\1/p' "$work/records" >> "$work/passed"
     IFS=, read -r letter nodes rest < "$2"
     files=$((files + 1))
     [ "$nodes" -lt 48 ] || wide=$((wide + 1))
@@ -99,6 +100,7 @@ small_rings() {
     named 'up to the greatest tick' ring P,3,1000,1255,255,1000000 1 500000 0 1 0
     named 'a reported emitter among ten' cat tests/reported-ten.run
     named 'a reported emitter among nine' cat tests/reported-nine.run
+    named 'two nodes passed after a report' ring P,10,1,13,12,220 1 0 0 1 0 1 103 0 5 0 1 121 0 2 0 1 132 0 4 0 1 150 0 3 0
 }
 
 rings_of_48() {
@@ -129,7 +131,7 @@ mistaken() {
 mistakes() {
     many_delays > "$work/mistaken.run"
     rehearsed 'mistakes' "$work/mistaken.run"
-    for mistake in 1 2 3 4 5; do
+    for mistake in 1 2 3 4 5 7; do
         mistaken "$mistake" 0
     done
     mistaken 6 1
@@ -138,7 +140,7 @@ mistakes() {
 
 # counted: how many lines there were of each letter, and of 8,0. All of them have to come up.
 counted() {
-    for letter in C H O R X W S E 8; do
+    for letter in C H O R X W S K E 8; do
         lines=$(grep -c "^$letter" "$work/letters") || fail "no line of letter $letter came up"
         printf ' %s %d' "$letter" "$lines"
     done
@@ -162,6 +164,9 @@ each_generated '' $((count / 5)) "$work" generated
 each_generated small "$count" "$work" generated
 moves=$("$out/simulate" moves tests/reported-*.run $(grep -La '^Q' "$work/$seed"-*.run))
 [ "$moves" -ge $((count / 150)) ] || fail "$moves moves by report in the two files made for it and the small ones without a Q line"
+more=$(grep -vcx 1 "$work/passed") || fail 'no node passed more than one'
+[ "$more" -ge $((count / 50)) ] || fail "$more lines K with more than one node passed"
 lines=$(counted)
-echo "records: $files files, $wide of them with 48 nodes or more, agree; $ordered with a Q line, $refused refused; 6 mistakes found"
+echo "records: $files files, $wide of them with 48 nodes or more, agree; $ordered with a Q line, $refused refused; 7 mistakes found"
 echo "records: $moves moves by report in the two files made for it and the small ones; lines:$lines"
+echo "records: $more lines K with more than one node passed, at most $(sort -n "$work/passed" | tail -n 1)"

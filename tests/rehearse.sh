@@ -1,7 +1,8 @@
 #!/bin/sh
 # The rehearsal program beside the simulator: the same bytes for generated run files, good and damaged, for a few large ones, for rings in
-# another order, for reported emitters, for files at and beyond the greatest length, and for input that comes in pieces. Then its streams:
-# slow, full, closed or no file. Stops at the first difference, prints its seed and keeps its file.
+# another order, for reported emitters, for nodes passed, for files at and beyond the greatest length, and for input that comes in pieces.
+# The lines K of its logs are also counted once more from the logs alone. Then its streams: slow, full, closed or no file. Stops at the
+# first difference, prints its seed and keeps its file.
 #
 # Usage: tests/rehearse.sh [SEED [COUNT]]; REHEARSE names another program to compare.
 
@@ -36,6 +37,22 @@ named() {
     same "$1" "$work/named.run"
 }
 
+# kept NAME FILE: both write the same bytes, and the proved program's log is kept beside the file.
+kept() {
+    same "$@"
+    mv "$work/proved" "${2%.run}.log"
+}
+
+# recounted KIND LINES MORE: every line K of the kept logs is right and none is missing. At least so many came up, and so many of them with
+# more than one node passed.
+recounted() {
+    passed=$("$out/simulate" recount "$work/$seed"-*.run) || fail "the lines K of the $1 files differ from those counted once more"
+    least_lines=$2 least_more=$3
+    set -- "$1" $passed
+    [ "$2" -ge "$least_lines" ] && [ "$3" -ge "$least_more" ] || fail "too few lines K in the $1 files: $passed"
+    echo "rehearse: $2 lines K in the $1 files, $3 with more than one node passed, at most $4"
+}
+
 # padded LENGTH: a good file, then line feeds up to this length, so that its first bytes are no other file of good form.
 padded() {
     { cat tests/worked.run; head -c $(($1 - 18)) /dev/zero | tr '\0' '\n'; } > "$work/padded.run"
@@ -59,6 +76,23 @@ orders() {
         { printf 'P,64,20,100,5,900\n'; order "$stride"; for node in $(seq 8 15); do printf 'C,333,%d\n' "$node"; done; } > "$work/order.run"
         same "eight crash at one tick, stride $stride" "$work/order.run"
     done
+}
+
+# passes LINE: the log just compared has this line.
+passes() {
+    grep -qx "$1" "$work/proved" || fail "the log has no line $1"
+}
+
+nodes_passed() {
+    named 'a node passed that was listed by report' 'P,4,2,3,1,60\nC,5,3\nC,19,0\nC,31,2\n'
+    passes K,22,1,2,0000000000000009
+    named 'the same in another order' 'P,4,2,3,1,60\nQ,2,0,3,1\nC,5,1\nC,19,2\nC,31,3\n'
+    passes K,22,0,2,0000000000000006
+    named 'two nodes passed after a report' 'P,10,1,13,12,220\nC,0,1\nC,103,5\nC,121,2\nC,132,4\nC,150,3\n'
+    passes K,181,6,2,000000000000003e
+    { printf 'P,64,1,3,2,1300\n'; for node in $(seq 63); do printf 'C,%d,%d\n' $((20 * node)) "$node"; done; } > "$work/passed.run"
+    same '63 nodes passed' "$work/passed.run"
+    passes K,1264,0,63,fffffffffffffffe
 }
 
 large() {
@@ -104,11 +138,15 @@ named 'a byte that is no text' 'P,2,2,3,1,6\n\000\377\n'
 for length in 65536 65537 131072 200000; do padded "$length"; done
 pieces
 orders
+nodes_passed
 large
 c "$work/streams.so" -shared -fPIC tests/streams.c -ldl
 python3 tests/streams.py "$rehearse" "$work/large.run" "$work/large.log" "$work/streams.so"
-each_generated '' $((count / 50)) "$work" same
-each_generated small "$count" "$work" same
+each_generated '' $((count / 50)) "$work" kept
+recounted usual 0 0
+rm -f "$work/$seed"-*
+each_generated small "$count" "$work" kept
+recounted small $((count / 2)) $((count / 50))
 moves=$("$out/simulate" moves "$work/$seed"-*.run)
 [ "$moves" -ge $((count / 100)) ] || fail "$moves moves by report in the small files"
 echo "rehearse: $files files, $lines lines agree; $moves moves by report in the small files"

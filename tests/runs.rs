@@ -7,12 +7,14 @@ use super::calls::Call;
 use super::common::shown;
 use super::{opened, platform_of, Lent, Seen};
 use simulator::generator::{self, Draft, CROWD, ORDERS, USUAL};
+use simulator::limits::LOG_BYTES;
 use simulator::log::Line;
 use simulator::node::{Content, Node};
 use simulator::platform::{Platform, Step};
 use simulator::queue::Message;
 use simulator::random::Random;
 use simulator::store::Held;
+use std::cmp::Reverse;
 
 /// Budgets about those at which a run may change how it finds its events, the least and the greatest.
 pub const BUDGETS: [u64; 13] = [0, 1, 2, 10, 11, 12, 13, 14, 31, 32, 33, 1_000, u64::MAX];
@@ -23,6 +25,9 @@ const TINY: u64 = 60;
 const SMALL: u64 = 12;
 /// How many files are generated in which a report of the emitter may well move a node.
 const REPORTED: u64 = 40;
+/// How many files are generated of which steps at moves are tried, and how many moves of each.
+const MOVING: u64 = 60;
+const MOVES: usize = 6;
 /// Messages for which the queue has places.
 const PLACES: u64 = 4_096;
 /// At tick 8 a crash comes before two watches, no message and no heartbeat among them.
@@ -39,14 +44,20 @@ pub struct Met {
     refused: u64,
     /// Generated files in which a report moves a node.
     reported: u64,
+    /// Steps at moves of generated files, and those of them that pass more than one node.
+    moves: [u64; 2],
 }
 
 impl Met {
     /// Every cut that a tick allows has to come up, and each kind of run.
     pub fn summary(&self) -> Result<(), String> {
-        let Met { cuts, long, refused, reported } = self;
+        let Met { cuts, long, refused, reported, moves } = self;
         println!("platform: cuts within a tick by class {cuts:?}; {long:?} runs of more than {PLACES} messages; {refused} refused late");
         println!("platform: a report moves a node in {reported} of {REPORTED} generated files");
+        println!("platform: {} steps at moves of {MOVING} generated files, {} with more than one node passed", moves[0], moves[1]);
+        if moves[0] < 2 * MOVING || moves[1] < MOVING / 4 {
+            return Err("too few moves came up".to_string());
+        }
         let missing = (0..4).any(|one| (one.min(2)..4).any(|other| cuts[one][other] == 0));
         if missing || long.contains(&0) || *refused == 0 || *reported < REPORTED / 8 {
             return Err("a kind of run never came up".to_string());
@@ -89,7 +100,7 @@ impl Point {
 fn events_of(file: &[u8]) -> Vec<Line> {
     let mut platform = platform_of(file);
     let next = || match platform.step() {
-        Step::Event(line) => Some(line),
+        Step::Event(event) => Some(event.line),
         Step::Done(_) | Step::Refused => None,
     };
     std::iter::from_fn(next).collect()
@@ -192,6 +203,44 @@ fn reported(seen: &mut Seen, seed: u64) -> Result<(), String> {
     Ok(())
 }
 
+// ---- steps at moves
+
+/// The places of a file's run before a move, each with how many nodes it passes: those that pass most, in the order of the run.
+fn places_of_moves(file: &[u8]) -> Vec<(u64, u8)> {
+    let mut platform = platform_of(file);
+    let mut moves = Vec::new();
+    while let Step::Event(event) = platform.step() {
+        moves.extend(event.passed.map(|passed| (platform.events_done() - 1, passed)));
+    }
+    moves.sort_by_key(|(place, passed)| (Reverse(*passed), *place));
+    moves.truncate(MOVES);
+    moves.sort_unstable();
+    moves
+}
+
+/// At each of these places a step, which writes two lines, and a run of one event, which counts one.
+fn moving(seen: &mut Seen, seed: u64) -> Result<(), String> {
+    for index in 0..MOVING {
+        let file = if index % 3 == 0 { generator::reported_plan(seed, index, USUAL) } else { generator::plan(seed ^ 0x6d6f_7665, index) };
+        let told = |error| format!("seed {seed} file {index} of moves: {error}\n{}", shown(&file));
+        let mut point = Point::open(seen, &file).map_err(told)?;
+        let mut reached = 0;
+        for (place, passed) in places_of_moves(&file) {
+            point.run(seen, place - reached).map_err(told)?;
+            reached = place;
+            let mut other = point.clone();
+            let lines = seen.call(Call::Step, &mut other.store, &mut Lent::filled(LOG_BYTES), &mut other.held).map_err(told)?;
+            if lines[5] < 50 {
+                return Err(told(format!("after {place} events: a step that moves writes {} bytes", lines[5])));
+            }
+            point.clone().run(seen, 1).map_err(told)?;
+            seen.met.moves[0] += 1;
+            seen.met.moves[1] += u64::from(passed > 1);
+        }
+    }
+    Ok(())
+}
+
 // ---- lent stores without timers
 
 /// No timer is on but those that a message sets: a heartbeat a watch, a new observer a heartbeat, or a report of the emitter a watch.
@@ -262,6 +311,7 @@ fn long_runs(seen: &mut Seen) -> Result<(), String> {
 pub fn all(seen: &mut Seen, seed: u64) -> Result<(), String> {
     small_files(seen, seed)?;
     reported(seen, seed)?;
+    moving(seen, seed)?;
     woken(seen)?;
     crowds(seen)?;
     long_runs(seen)

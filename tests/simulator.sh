@@ -30,10 +30,10 @@ worked_logs() {
     answers twice 'P,2,2,3,1,6\nQ,1,1\n' '13,2\n' ''
 }
 
-# ends NAME FILE: the answer is a refusal, or a log that ends in E or in 8,0.
+# ends NAME FILE: the answer is a refusal, or a log that ends in E or in 8,0. It is kept beside the file.
 ends() {
-    "$out/simulate" < "$2" > "$out/generated.log" || fail "$1: failed"
-    case $(tail -n 1 "$out/generated.log") in
+    "$out/simulate" < "$2" > "${2%.run}.log" || fail "$1: failed"
+    case $(tail -n 1 "${2%.run}.log") in
         E,* | [1-6],* | 13,2 | 8,0) ;;
         *) fail "$1: no last line" ;;
     esac
@@ -47,6 +47,19 @@ commands() {
     answers lines 'S,2,0,1,0000000000000000\nE,0,64,2049,0000000000000000\nS,02,0,1,0000000000000000\n' \
         '0,S,2,0,1,0000000000000000\n3\n2\n' lines
     answers moves '' '2\n' 'moves tests/worked.run tests/reported-ten.run tests/worked.log tests/reported-nine.run'
+    answers recount '' '15 0 1\n' 'recount tests/worked.run tests/shuffled.run tests/reported-ten.run tests/reported-nine.run'
+    answers recount-none '' '0 0 0\n' 'recount tests/worked.log'
+    sed 's/^K,27,4,1,/K,27,4,2,/' tests/reported-ten.log > "$out/miscounted.log"
+    cp tests/reported-ten.run "$out/miscounted.run"
+    ! "$out/simulate" recount "$out/miscounted.run" > "$out/miscounted.out" 2>&1 || fail 'a wrong number in a line K is not found'
+}
+
+# recounted FILE..: every line K of the files' logs is right and none is missing. Enough of them come up, also with more than one node passed.
+recounted() {
+    passed=$("$out/simulate" recount "$@") || fail 'the lines K differ from those counted once more'
+    set -- $passed
+    echo "simulator: $1 lines K in the generated files, $2 with more than one node passed, at most $3"
+    [ "$1" -ge "$count" ] && [ "$2" -ge $((count / 10)) ] || fail 'too few lines K'
 }
 
 echo "simulator: seed $seed, $count generated files"
@@ -58,6 +71,7 @@ commands
 mkdir -p "$files"
 each_generated '' "$count" "$files" ends
 echo "simulator: $("$out/simulate" moves "$files"/*.run) moves by report in the generated files"
+recounted "$files"/*.run
 rm -r "$files"
 printf 'P,64,10,265,255,1000000\n' > "$out/speed.run"
 "$out/simulate" time "$out/speed.run"

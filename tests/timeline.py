@@ -117,12 +117,15 @@ def incomplete(log):
         refused(log[:size], "the log ends before its last line")
     for count in range(1, len(lines), 20):
         refused(b"".join(lines[:count]), "the log ends before its last line")
+    for count, line in enumerate(lines):
+        if line[:1] == b"K":
+            refused(b"".join(lines[:count]), "the log ends before its last line")
     refused(b"".join(line for line in lines if line[:1] != b"C"), "beginning may be missing")
 
 
 def strange(log):
     lines = log.splitlines(keepends=True)
-    refused(lines[0] + b"K,6,0,1,0000000000000002\n" + b"".join(lines[1:]), "line 2 has the letter K", "C H O R X W S E")
+    refused(lines[0] + b"Z,6,0,1,0000000000000002\n" + b"".join(lines[1:]), "line 2 has the letter Z", "C H O R X W S K E")
     for line in [b"S,2,0,1,7,0000000000000000\n", b"S,2,0,0000000000000000\n", b"S,2,0,1,0000000000000000\r\n", b"S,02,0,1,0000000000000000\n"]:
         refused(line + log, "line 1 is no log line")
     refused(b"S,2,64,1,0000000000000000\n" + log, "line 1 has a number outside its range")
@@ -138,6 +141,36 @@ def strange(log):
     refused(log, "absent: No such file", arguments=("-", place, os.path.join(directory, "absent")))
     refused(log, "absent/picture.svg: No such file", arguments=("-", os.path.join(directory, "absent", "picture.svg")))
     refused(log, "is no file", arguments=("-", directory))
+
+
+def without_its_line(log):
+    """K lines that are not the second line of a move, moves without one, and an O from a node that has not moved."""
+    lines = log.decode().splitlines(keepends=True)
+    at = next(place for place, line in enumerate(lines) if line[0] == "K")
+    before, after = lines[:at], lines[at + 1 :]
+    _, tick, node, passed, dead = lines[at].strip().split(",")
+    check(before[-1][0] == "W" and passed == "1" and members(int(dead, 16)) == [2], "the cases of K lines are not made of the shown picture's first")
+
+    def turned_down(number, words, *changed):
+        refused("".join(changed).encode(), f"line {number}", words)
+
+    belongs = "is a K line, but the line before it is no W or R line of the same tick, node and list"
+    for line in [f"K,{int(tick) + 1},{node},1,{dead}", f"K,{tick},{int(node) + 1},1,{dead}", f"K,{tick},{node},1,{0:016x}", f"K,{tick},{node},1,{6:016x}"]:
+        turned_down(at + 1, belongs, *before, line + "\n", *after)
+    for number in [0, 2, 63]:
+        turned_down(at + 1, f"has a number outside its range: {number} nodes passed, 1 listed", *before, f"K,{tick},{node},{number},{dead}\n", *after)
+    turned_down(at + 1, "has a number outside its range", *before, f"K,{tick},{node},64,{dead}\n", *after)
+    turned_down(at + 2, belongs, *before, lines[at], lines[at], *after)
+    turned_down(1, belongs, lines[at], *lines)
+    for letter in "CHOXS":
+        place = next(place for place, line in enumerate(lines) if line[0] == letter)
+        turned_down(place + 2, belongs, *lines[: place + 1], "K" + lines[place][1:], *lines[place + 1 :])
+    turned_down(at, "has no K line after it: the log is from before K lines", *before, *after)
+    turned_down(at, "has no K line after it: the log is from before K lines", *(line for line in lines if line[0] != "K"))
+    turned_down(at, "has no K line after it", *before, "8,0\n")
+    first = next(place for place, line in enumerate(lines) if line[0] == "O")
+    sender = lines[first].split(",")[3]
+    turned_down(1, f"node {sender} sends an O, but no K line says that it has moved", "O,0" + lines[first][lines[first].index(",", 2) :], *lines)
 
 
 def forms(log):
@@ -181,18 +214,24 @@ def other_run_files():
     ]:
         refused(log, "the run file is not that of the log", *words, arguments=("-", place, kept(text)))
     # No heartbeat is sent before the first watch expires: that watch is on the node before.
-    by_hand = b"C,3,2,2,0000000000000000\nW,6,1,2,0000000000000004\nE,6,2,0,0000000000000004\n"
+    by_hand = b"C,3,2,2,0000000000000000\nW,6,1,2,0000000000000004\nK,6,1,1,0000000000000004\nE,6,2,0,0000000000000004\n"
     drawn(by_hand, run_file=b"P,3,9,12,3,60\nQ,2,1,0\n")
     refused(by_hand, "by line 2 of the log node 1 follows node 2", "by the run file node 0", arguments=("-", place, kept(b"P,3,9,12,3,60\n")))
     # So are all that expire in that tick.
-    by_hand = b"C,3,0,0,0000000000000000\nC,3,2,2,0000000000000000\nW,6,1,0,0000000000000001\nW,6,3,2,0000000000000004\nE,6,2,0,0000000000000005\n"
+    crashes, watches = b"C,3,0,0,0000000000000000\nC,3,2,2,0000000000000000\n", [b"W,6,1,0,0000000000000001\n", b"W,6,3,2,0000000000000004\n"]
+    numbered = [b"K,6,1,1,0000000000000001\n", b"K,6,3,1,0000000000000004\n"]
+    by_hand = crashes + watches[0] + numbered[0] + watches[1] + numbered[1] + b"E,6,2,0,0000000000000005\n"
     drawn(by_hand, run_file=b"P,4,9,12,3,60\n")
     arguments = "-", place, kept(b"P,4,9,12,3,60\nQ,0,1,3,2\n")
-    refused(by_hand, "by line 4 of the log node 3 follows node 2", "by the run file node 0", arguments=arguments)
+    refused(by_hand, "by line 5 of the log node 3 follows node 2", "by the run file node 0", arguments=arguments)
     os.remove(rehearsed)
 
 
 # ---- what the log says
+
+
+def members(dead):
+    return [node for node in range(64) if dead >> node & 1]
 
 
 def fields(log):
@@ -226,28 +265,26 @@ def ring_of(run_file):
     return [int(node) for node in ring_line.split(",")[1:]]
 
 
-def taken(ring, node, left, dead):
-    """Whom a node takes after the one that it has left: the first one going back that its list does not hold."""
+def found(ring, left, dead):
+    """The first node that the list does not hold, going back from one that is left, and how many listed ones are passed."""
     at = ring.index(left)
-    return next((ring[at - back] for back in range(1, len(ring)) if not dead >> ring[at - back] & 1), node)
+    passed = next(back for back in range(len(ring)) if not dead >> ring[at - back] & 1)
+    return ring[at - passed], passed
 
 
 def moves(ring, log, name):
-    """Each event by which a node leaves its emitter: letter, tick, node, whom it leaves and whom it takes. A watch expires on the emitter."""
+    """Each event by which a node leaves its emitter: letter, tick, node, whom it leaves, whom it takes and how many it passes. A watch expires on the
+    emitter. Each of these lines, and no other, has its K line after it."""
     emitters = {node: ring[place - 1] for place, node in enumerate(ring)}
-    for letter, tick, node, other, dead in fields(log):
+    lines = list(fields(log))
+    for (letter, tick, node, other, dead), after in zip(lines, [*lines[1:], None]):
         check(letter != "W" or emitters[node] == other, f"{name}: at tick {tick} node {node} does not expire on its emitter")
+        number = None
         if letter in "WR" and emitters[node] == other != node:
-            emitters[node] = taken(ring, node, other, dead)
-            yield letter, tick, node, other, emitters[node]
-
-
-def tells_its_ring(run_file, log):
-    """Whether the log shows each node, or each but one, beside the next: it lives to send a heartbeat, or the next one lives to expire on it."""
-    period, timeout = map(int, run_file.split(b",")[2:4])
-    ring, crashes = ring_of(run_file), {node: tick for letter, tick, node, *_ in fields(log) if letter == "C"}
-    hidden = [crashes.get(ring[place - 1], period + 1) <= period and crashes.get(node, timeout + 1) <= timeout for place, node in enumerate(ring)]
-    return sum(hidden) <= 1
+            emitters[node], passed = found(ring, other, dead)
+            number = "K", tick, node, passed, dead
+            yield letter, tick, node, other, emitters[node], passed
+        check(number == (after if after and after[0] == "K" else None), f"{name}: after {letter} of node {node} at tick {tick} {after}, not {number}")
 
 
 # ---- what the picture says
@@ -327,29 +364,30 @@ def every_mark(picture, log, name):
     check(close(picture.marks("report") + picture.marks("known"), at["R"]), f"{name}: the marks of R are not those of the log's lines")
 
 
-def every_move(picture, moved, name, told):
-    """A mark with a title for each emitter that is left by a report, and a legend where there is one. Those that the order does not tell may be missing."""
-    titles, places = set(), []
-    for letter, tick, node, left, after in moved:
-        if letter == "R":
-            what = "is alone" if after == node else f"leaves it for node {after}"
-            titles.add(f"tick {tick}: node {node} gets the report of node {left}, its emitter, and {what}")
-            places.append((node, picture.across(tick)))
-    found, marked = picture.titles(", its emitter, "), picture.marks("report", [3])
-    if told:
-        check(sorted(found) == sorted(titles), f"{name}: told {found}, not {titles}")
-        check(close(marked, places), f"{name}: the marks of emitters left by a report are not those of the log's lines")
-    else:
-        titles |= {title.split(" for node")[0] for title in titles}
-        check(titles.issuperset(found) and len(marked) == len(found), f"{name}: told {found}, but there is no more than {titles}")
+def every_move(picture, moved, log, name):
+    """A mark with a title for each move, and a legend where an emitter is left by a report. Whom the node takes is told where the log shows it: that one
+    gets the node's O, or is left by it later."""
+    shown = {(other, node) for letter, _, node, other, _ in fields(log) if letter == "O"} | {(node, left) for _, _, node, left, _, _ in moved}
+    titles, places = defaultdict(list), defaultdict(list)
+    for letter, tick, node, left, after, passed in moved:
+        why = {"W": f"lists node {left}, whose heartbeat did not come", "R": f"gets the report of node {left}, its emitter"}[letter]
+        what = "is alone" if after == node else f"moves to node {after}" if (node, after) in shown else "moves on"
+        titles[letter].append(f"tick {tick}: node {node} {why}, and {what}, passing {passed} listed node{'' if passed == 1 else 's'}")
+        places[letter].append((node, picture.across(tick)))
+        seen[what.split(" node")[0]] += 1
+        seen["passed 1" if passed == 1 else "passed more"] += 1
+    for letter, part, kind in [("W", "whose heartbeat", "watch"), ("R", ", its emitter, ", "report")]:
+        told, marked = picture.titles(part), picture.marks(kind, [3])
+        check(sorted(told) == sorted(titles[letter]), f"{name}: told {told}, not {titles[letter]}")
+        check(close(marked, places[letter]), f"{name}: the marks of emitters left by {letter} are not those of the log's lines")
     legend = "R of the emitter, which is left at once" in picture.words("small")
-    check(legend == bool(marked), f"{name}: the legend is wrong about emitters left by a report")
-    seen["left by a report"] += len(marked)
+    check(legend == bool(places["R"]), f"{name}: the legend is wrong about emitters left by a report")
+    seen["left by a report"] += len(places["R"])
 
 
-def every_arrow(picture, moved, log, name, told):
-    """An arrow for each O, to its receiver, from the event by which its sender took the receiver. One that the order does not tell may be upright."""
-    sent, wanted, found = {(node, after): picture.across(tick) for _, tick, node, _, after in moved}, [], []
+def every_arrow(picture, moved, log, name):
+    """An arrow for each O, to its receiver, from the event by which its sender took the receiver."""
+    sent, wanted, found = {(node, after): picture.across(tick) for _, tick, node, _, after, _ in moved}, [], []
     for letter, tick, node, other, dead in fields(log):
         if letter == "O":
             check((other, node) in sent, f"{name}: node {other} is not the one that takes node {node}")
@@ -359,37 +397,61 @@ def every_arrow(picture, moved, log, name, told):
         if sender is not None and receiver is not None:
             found.append((sender, receiver, tip_x))
             right = abs(x - sent.get((sender, receiver), -1)) < 0.3
-            upright = not right and not told and x == tip_x
-            check(right or upright, f"{name}: an arrow from node {sender} to {receiver} that is not from the event that sent it")
-            seen["upright"] += upright
+            check(right, f"{name}: an arrow from node {sender} to {receiver} that is not from the event that sent it")
     check(close(found, wanted), f"{name}: the arrows are not those of the lines O")
 
 
+def every_label(picture, moved, log, name):
+    """A label stands where a list grows: what is new, while these are few, and at a move the number passed. A move has none only where the label of another
+    move is in its way. The legend has a number where the rows have one."""
+    lists, passed, labels, changes = defaultdict(int), {}, [], []
+    for letter, tick, node, left, _, number in moved:
+        passed[letter, tick, node, left] = f"K{number}"
+    for letter, tick, node, other, dead in fields(log):
+        if dead != lists[node]:
+            new = "+" + ",".join(map(str, members(dead & ~lists[node])))
+            changes.append((node, picture.across(tick), new, passed.get((letter, tick, node, other), "")))
+        lists[node] = dead
+    few = len(changes) <= 160
+    wanted = [(node, place, f"{new} {number}".strip() if few else number, number) for node, place, new, number in changes]
+    for text in picture.of("new"):
+        row, x, room = picture.row(float(text.get("y")) + 7), float(text.get("x")), 8 + 8 * len(text.text)
+        if row is not None:
+            labels.append((row, x, x + room, text.text))
+            near = [place for node, place, words, _ in wanted if (node, words) == (row, text.text) and 7.7 < abs(x - place) <= 8 + room]
+            check(near, f"{name}: the label {text.text!r} of node {row} stands where its list does not grow so")
+    for node, place, words, number in wanted:
+        room = 8 + 8 * len(words)
+        near = [label for row, left, right, label in labels if row == node and left <= place + 8 + room and right >= place - room]
+        check(not number or words in near or any("K" in label for label in near), f"{name}: a move of node {node} has no number {words!r}")
+        seen["numbers"] += number != "" and words in near
+    legend = [text.text for text in picture.of("new") if picture.row(float(text.get("y")) + 7) is None]
+    numbered, room = any("K" in label for *_, label in labels), ", where there is room" * (len(labels) < sum(words != "" for _, _, words, _ in wanted))
+    said = [text.text for text in picture.of("small") if text.text.startswith("K, ")]
+    check(legend == ["K2"] * numbered, f"{name}: the legend is wrong about the numbers of moves")
+    check(said == [f"K, move: 2 listed nodes passed, the emitter left included{room}"] * numbered, f"{name}: the legend says {said} of moves")
+    said = [text.text for text in picture.of("small") if "is new in the list" in text.text]
+    check(said == [f"share of the nodes listed; +3: node 3 is new in the list{room}"] * (few and labels != []), f"{name}: the legend says {said} of lists")
+
+
 def every_list(picture, log, name):
-    """Labels and bands stand where a list grows, and each row ends in its node's list or crash."""
+    """Bands stand where a list grows, and each row ends in its node's list or crash."""
     *_, last = log.decode().splitlines()
-    lists, crashes, grown, bands = [0] * len(picture.rows), {}, defaultdict(set), set()
+    lists, crashes, bands = [0] * len(picture.rows), {}, set()
     ticks = [int(line.split(",")[1]) for line in log.decode().splitlines()]
     end = ticks[-1] if last[0] == "E" else ticks[-2]
     for letter, tick, node, other, dead in fields(log):
         if letter == "C":
             crashes[node] = tick
             bands.discard((node, picture.across(tick)))
-        elif dead != lists[node]:
-            new = dead & ~lists[node]
-            grown[node, "+" + ",".join(str(bit) for bit in range(64) if new >> bit & 1)].add(picture.across(tick))
-            if tick < end:
-                bands.add((node, picture.across(tick)))
+        elif dead != lists[node] and tick < end:
+            bands.add((node, picture.across(tick)))
         lists[node] = dead
-    for text in picture.of("new"):
-        row, x = picture.row(float(text.get("y")) + 7), float(text.get("x"))
-        near = [place for place in grown[row, text.text] if 7.7 < abs(x - place) <= 16 + 8 * len(text.text)]
-        check(near, f"{name}: the label {text.text!r} of node {row} stands where its list does not grow so")
     rects = [(picture.row(float(rect.get("y"))), float(rect.get("x"))) for rect in picture.root.iter(SVG + "rect") if rect.get("class") == "listed"]
     check(close([rect for rect in rects if rect[0] is not None], list(bands)), f"{name}: the bands are not those of the lists")
     words = {picture.row(float(text.get("y")) - 4): text.text for text in picture.texts if float(text.get("x")) > picture.across(end)}
     for node, held in enumerate(lists):
-        held = [bit for bit in range(64) if held >> bit & 1]
+        held = members(held)
         listed = "{" + ", ".join(map(str, held)) + "}" if len(held) <= 6 else f"{len(held)} nodes"
         wanted = f"crashed at {crashes[node]}" if node in crashes else listed
         check(words[node] == wanted, f"{name}: the row of node {node} ends in {words[node]!r}, not {wanted!r}")
@@ -457,8 +519,8 @@ def in_order(picture, ring, name):
     check(said == (ring != sorted(ring)), f"{name}: what is said about the rows' order is wrong")
 
 
-def held(picture, run_file, ring, log, name, told):
-    """Holds all of a picture against the log; told says whether the script knows the ring's order. Answers the tick of the mark."""
+def held(picture, run_file, ring, log, name):
+    """Holds all of a picture against the log. Answers the tick of the mark."""
     letters = Counter(line[:1] for line in log.decode().splitlines())
     thin = letters["S"] + letters["H"] + letters["X"] > 8000 or letters["R"] > 8000
     check(thin == ("not all are drawn" in picture.words("faint")), f"{name}: what is said about thinning is wrong")
@@ -466,8 +528,9 @@ def held(picture, run_file, ring, log, name, told):
         every_mark(picture, log, name)
     if picture.scale:
         moved = list(moves(ring, log, name))
-        every_move(picture, moved, name, told)
-        every_arrow(picture, moved, log, name, told)
+        every_move(picture, moved, log, name)
+        every_arrow(picture, moved, log, name)
+        every_label(picture, moved, log, name)
         every_list(picture, log, name)
     apart(picture, name)
     return all_know(picture, run_file, log, name)
@@ -477,16 +540,16 @@ def whole(run_file, name, status=0, log=None):
     """Draws the log of a run file, or the one given, without and with the run file. Answers the latter picture and the tick of the mark."""
     log, ring = log or log_of(run_file), ring_of(run_file)
     by_number, by_ring = drawn(log, status), drawn(log, status, run_file)
-    pictures = [(by_ring, ring, name, True)]
+    pictures = [(by_ring, ring, name)]
     if ring != sorted(ring):
-        pictures.insert(0, (by_number, sorted(ring), f"{name}, drawn without the run file", tells_its_ring(run_file, log)))
+        pictures.insert(0, (by_number, sorted(ring), f"{name}, drawn without the run file"))
         seen["shuffled"] += 1
     else:
         check(by_ring == by_number, f"{name}: another picture with the run file")
-    for picture, rows, what, told in pictures:
+    for picture, rows, what in pictures:
         picture = Seen(picture)
         in_order(picture, rows, what)
-        since = held(picture, run_file, ring, log, what, told)
+        since = held(picture, run_file, ring, log, what)
     os.remove(rehearsed)
     return picture, since
 
@@ -532,29 +595,35 @@ def left_by_a_report():
             ring_line = b"Q,%s\n" % ",".join(map(str, order)).encode() if order != sorted(order) else b""
             rows = b"".join(b"C,%d,%d\n" % row for row in sorted((tick, order[place]) for tick, place in crashes))
             picture, _ = whole(start + ring_line + rows, f"a move by report in the order {order}")
-            wanted = f"tick {tick}: node {order[node]} gets the report of node {order[left]}, its emitter, and leaves it for node {order[after]}"
+            why = f"node {order[node]} gets the report of node {order[left]}, its emitter"
+            wanted = f"tick {tick}: {why}, and moves to node {order[after]}, passing 1 listed node"
             check(picture.titles(", its emitter, ") == [wanted], f"a move by report in the order {order}: not told {wanted!r}")
     # By hand: a move over a listed node, and one by which the node is alone, as no run is known that has it. A report of the node itself is no move.
-    by_hand = [("C,3,2,2", 0), ("C,3,3,3", 0), ("R,4,0,0", 0), ("R,5,0,2", 4), ("R,6,0,3", 12), ("O,7,1,0", 0), ("C,8,1,1", 0), ("R,9,0,1", 14)]
-    log = "".join(f"{line},{dead:016x}\n" for line, dead in [*by_hand, ("R,10,0,0", 14), ("E,12,1,0", 14)]).encode()
+    by_hand = [("C,3,2,2", 0), ("C,3,3,3", 0), ("R,4,0,0", 0), ("R,5,0,2", 4), ("R,6,0,3", 12), ("K,6,0,2", 12), ("O,7,1,0", 0), ("C,8,1,1", 0)]
+    by_hand += [("R,9,0,1", 14), ("K,9,0,1", 14), ("R,10,0,0", 14), ("E,12,1,0", 14)]
+    log = "".join(f"{line},{dead:016x}\n" for line, dead in by_hand).encode()
     picture, _ = whole(b"P,4,9,12,3,12\n", "alone by a report", log=log)
     wanted = [
-        "tick 6: node 0 gets the report of node 3, its emitter, and leaves it for node 1",
-        "tick 9: node 0 gets the report of node 1, its emitter, and is alone",
+        "tick 6: node 0 gets the report of node 3, its emitter, and moves to node 1, passing 2 listed nodes",
+        "tick 9: node 0 gets the report of node 1, its emitter, and is alone, passing 1 listed node",
     ]
     check(picture.titles(", its emitter, ") == wanted, f"alone by a report: not told {wanted}")
 
 
 def early_crashes():
-    """Nodes that crash before their first heartbeat in a shuffled ring: what the log shows of its order without the run file."""
-    # Of nodes 0, 2 and 4 the next one tells, all in one tick. Then node 6 expires on 3 and goes back over 2 to 7.
+    """Nodes that crash before their first heartbeat in a shuffled ring: the log does not show all of its order, and yet which move sent each O."""
+    # Node 6 expires on 3 and goes back over 2 to 7.
     whole(b"P,9,2,3,1,60\nQ,8,0,1,7,2,3,6,4,5\nC,1,0\nC,1,2\nC,1,4\nC,40,3\n", "three watches in one tick")
-    # That 0 is before 4 stands in no line, but that is all that is missing. Node 2 expires on 1 and goes back over these two to 3.
+    # That 0 is before 4 stands in no line. Node 2 expires on 1 and goes back over these two to 3.
     whole(b"P,5,2,3,1,60\nQ,3,0,4,1,2\nC,1,0\nC,1,4\nC,40,1\n", "an order with one gap")
     # Nor that 5 is before 6: two gaps.
-    before = seen["upright"]
-    whole(b"P,7,2,3,1,60\nQ,3,0,4,1,2,5,6\nC,1,0\nC,1,4\nC,1,5\nC,1,6\nC,40,1\n", "an order with two gaps")
-    check(seen["upright"] == before + 1, "an order with two gaps: without the run file one arrow is upright")
+    picture, _ = whole(b"P,7,2,3,1,60\nQ,3,0,4,1,2,5,6\nC,1,0\nC,1,4\nC,1,5\nC,1,6\nC,40,1\n", "an order with two gaps")
+    wanted = "tick 42: node 2 lists node 1, whose heartbeat did not come, and moves to node 3, passing 3 listed nodes"
+    check(wanted in picture.titles("tick 42: node 2"), f"an order with two gaps: not told {wanted!r}")
+    # An O that is still in flight at the end: whom the node takes is not told.
+    picture, _ = whole(b"P,4,2,3,1,6\nC,3,1\n", "an O in flight")
+    wanted = "tick 6: node 2 lists node 1, whose heartbeat did not come, and moves on, passing 1 listed node"
+    check(picture.titles("moves") == [wanted], f"an O in flight: not told {wanted!r}")
 
 
 def known_ticks():
@@ -570,7 +639,8 @@ def known_ticks():
     check("No node survives." in whole(b"P,2,2,3,1,6\nC,3,0\nC,3,1\n", "two crash")[0].words("small"), "two crash: not said")
     whole(b"P,1,1,2,1,0\n", "tick 0 alone")
     check(whole(b"P,4,2,3,1,8\nQ,2,0,3,1\nC,3,0\n", "a shuffled ring")[1] == 7, "a shuffled ring: not tick 7")
-    by_hand = [("C,3,2,2", 0), ("W,6,0,2", 4), ("R,7,1,2", 4), ("W,9,0,1", 6), ("E,12,2,0", 4)]
+    # By hand: node 0 lists node 1, which lives and gets its O only then.
+    by_hand = [("C,3,2,2", 0), ("W,6,0,2", 4), ("K,6,0,1", 4), ("R,7,1,2", 4), ("W,9,0,1", 6), ("K,9,0,1", 6), ("O,10,1,0", 4), ("E,12,2,0", 4)]
     log = "".join(f"{line},{dead:016x}\n" for line, dead in by_hand).encode()
     check(whole(b"P,3,2,3,1,12\n", "a live node listed", log=log)[1] == 7, "a live node listed: not tick 7")
 
@@ -596,7 +666,7 @@ def committed(run_file, log):
     picture, since = whole(run_file, "the committed picture")
     check(picture.width <= 900, f"the committed picture is {picture.width} wide")
     check(since is not None and log.count(b"C,") == 2, "the committed picture lacks its crashes or its mark")
-    for letter in "CHORXWSE":
+    for letter in "CHORXWSKE":
         check(any(line.startswith(letter) for line in log.decode().splitlines()), f"the committed picture has no {letter}")
 
 
@@ -607,6 +677,7 @@ def main():
     refusals(log)
     incomplete(log)
     strange(log)
+    without_its_line(log)
     forms(log)
     other_run_files()
     committed(run_file, log)
@@ -616,7 +687,8 @@ def main():
     left_by_a_report()
     early_crashes()
     generated()
-    for outcome in ["mark", "lack", "none crashes", "none survives", "refused", "shuffled", "left by a report"]:
+    outcomes = ["mark", "lack", "none crashes", "none survives", "refused", "shuffled", "left by a report"]
+    for outcome in outcomes + ["moves to", "moves on", "is alone", "passed 1", "passed more", "numbers"]:
         check(seen[outcome], f"no file had the outcome: {outcome}")
     print("timeline: " + ", ".join(f"{outcome} {count}" for outcome, count in sorted(seen.items())))
 

@@ -1,9 +1,9 @@
 #!/bin/sh
 # The pictures of tools/timeline.py. The committed one, docs/rehearsal.svg, is that of docs/rehearsal.run, byte for byte. Refused,
-# incomplete and strange logs, and run files that are not a log's own, are told in words and leave no file. What is drawn is held against the
-# log's lines: every mark, the tick from which all survivors list all crashed nodes, who lacks whom, and labels that stand apart. With a run
-# file that has a Q line the rows stand in its order. With and without it an arrow begins at the event that sent it, an expired watch or a report of the
-# emitter; it is upright only where the log does not tell the ring's order.
+# incomplete and strange logs, moves and K lines without each other, and run files that are not a log's own, are told in words and leave no file. What is
+# drawn is held against the log's lines: every mark, the tick from which all survivors list all crashed nodes, who lacks whom, and labels that stand apart.
+# Each move of an emitter has its number, which is that of its K line and of the ring. With a run file that has a Q line the rows stand in its order. With
+# and without it an arrow begins at the move that sent it, an expired watch or a report of the emitter.
 #
 # Usage: tests/timeline.sh [SEED [COUNT]]
 

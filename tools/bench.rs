@@ -117,7 +117,7 @@ impl Row {
 
 /// The line that a step writes on the store.
 fn line_of(mut store: Vec<u8>) -> String {
-    let mut log = [0; LINE_BYTES];
+    let mut log = [0; LOG_BYTES];
     let answer = proved::call(Call::Step, &mut store, &mut log);
     if answer[0] != 0 {
         return format!("{},0", answer[0]);
@@ -182,13 +182,13 @@ fn flight(end: u64) -> Result<(), String> {
 
 // ---- single calls
 
-/// The check of the store that every call makes, and no more: a part of 40 bytes is too short for a run file, and the writer refuses it by 9.
+/// The check of the store that every call makes, and no more: a log part is too short for a run file, and the writer refuses it by 9.
 const CHECK: Call = Call::Write;
 
 /// Microseconds of each of the calls on the store, which is put back before each, and of the check alone.
 /// The calls go by turns, so that what else the machine does falls on all of them.
 fn call_times(store: &[u8], calls: &[Call]) -> (Vec<f64>, f64) {
-    let (mut lent, mut part) = (store.to_vec(), [0; LINE_BYTES]);
+    let (mut lent, mut part) = (store.to_vec(), [0; LOG_BYTES]);
     let mut once = |call| {
         lent.copy_from_slice(store);
         let began = Instant::now();
@@ -351,8 +351,8 @@ fn same_logs() -> Result<(u64, String), String> {
             break;
         }
         bytes += chunk.len() as u64;
-        tail.extend_from_slice(&chunk[chunk.len().saturating_sub(LINE_BYTES)..]);
-        tail.drain(..tail.len().saturating_sub(LINE_BYTES));
+        tail.extend_from_slice(&chunk[chunk.len().saturating_sub(LOG_BYTES)..]);
+        tail.drain(..tail.len().saturating_sub(LOG_BYTES));
     }
     finish(one)?;
     finish(other)?;

@@ -5,13 +5,13 @@ Usage: timeline.py [LOG [PICTURE [RUN-FILE]]]
 LOG and PICTURE are files; without them, or with -, standard input and output. A file PICTURE is written only once it is complete.
 RUN-FILE is the one that was rehearsed: where it has a Q line, the rows stand in the ring's order, which a log does not hold; else by number.
 Status 0: the log is drawn. Status 2: the log ends in a refused event and is drawn up to there. Status 1: nothing is drawn. Where the
-status is not 0, standard error says why.
+status is not 0, standard error says why. A log of before K lines, in which a W line has none, is not drawn: rehearse its run file again.
 
 A row for each node, ticks across. A column's meaning is that of README.md's table of letters: on H, O and X `other` is the sender, on R the subject, on W the
 node listed, on S the observer. The log does not name the sender of a report, so a report is drawn at its receiver, without an arrow.
-An O is drawn from the event that sent it, by which its sender left its emitter: an expired watch, or the report of the emitter, which has a mark
-of its own. To tell which, each node's emitter is followed by the ring's order: the run file's, else that of the numbers. Where the log shows that it is
-another one, only the neighbours that it shows are gone by, and an O whose sending they do not tell is drawn upright.
+A K line is the second line of an event by which a node moves to another emitter: of an expired watch, or of the report of the emitter, which has a mark of
+its own. Its number, that of the listed nodes passed, stands at the mark where there is room, and in the words that a pointer on the mark shows. These name
+the emitter taken where the log shows it: the node leaves that one by its next move, or that one gets its O. An O is drawn from the move that sent it.
 """
 import contextlib
 import os
@@ -20,12 +20,13 @@ import sys
 import textwrap
 from collections import namedtuple
 
-Event = namedtuple("Event", "letter tick node other list")
+# The line's number in the log and its columns; where the event moves the node to another emitter, the number of its K line, else nothing.
+Event = namedtuple("Event", "line letter tick node other list passed", defaults=[None])
 
 NUMBER = "(0|[1-9][0-9]{0,6})"
 LOG_LINE = re.compile(f"([A-Z]),{NUMBER},{NUMBER},{NUMBER},([0-9a-f]{{16}})")
 REFUSAL = re.compile(f"{NUMBER},{NUMBER}")
-LETTERS = "CHORXWSE"
+LETTERS = "CHORXWSKE"
 START_LINE = re.compile(f"P,{NUMBER}(?:,{NUMBER}){{4}}")
 RING_LINE = re.compile(f"Q(?:,{NUMBER})+")
 
@@ -105,7 +106,16 @@ def read_event(number, line):
     most_node, most_other = (64, 2048) if letter == "E" else (63, 63)
     if tick > 1_000_000 or node > most_node or other > most_other:
         fail(f"line {number} has a number outside its range: {line!r}")
-    return Event(letter, tick, node, other, int(fields[5], 16))
+    return Event(number, letter, tick, node, other, int(fields[5], 16))
+
+
+def moved(event, line):
+    """An event with its K line. The node left, which is listed by then, counts among those passed."""
+    if event.letter not in "WR" or event.passed or (line.tick, line.node, line.list) != (event.tick, event.node, event.list):
+        fail(f"line {line.line} is a K line, but the line before it is no W or R line of the same tick, node and list")
+    if not 1 <= line.other <= len(members(line.list)):
+        fail(f"line {line.line} has a number outside its range: {line.other} nodes passed, {len(members(line.list))} listed")
+    return event._replace(passed=line.other)
 
 
 def read_lines(text):
@@ -123,18 +133,25 @@ def read_lines(text):
 
 def read_log(text):
     """The events, and the last line: E, or nothing where the log ends in a refused event."""
-    lines = read_lines(text)
+    lines, events = read_lines(text), []
     refused = lines[-1] == "8,0"
-    events = [read_event(number, line) for number, line in enumerate(lines[: len(lines) - refused], 1)]
-    for number, event in enumerate(events, 1):
-        if event.letter == "E" and number < len(lines):
-            fail(f"line {number} is the last of a log, but line {number + 1} follows it")
-        if event.tick < events[max(number - 2, 0)].tick:
-            fail(f"line {number} has an earlier tick than the line before it")
+    for line in [read_event(number, line) for number, line in enumerate(lines[: len(lines) - refused], 1)]:
+        before = events[-1] if events else line
+        if line.letter == "E" and line.line < len(lines):
+            fail(f"line {line.line} is the last of a log, but line {line.line + 1} follows it")
+        if line.tick < before.tick:
+            fail(f"line {line.line} has an earlier tick than the line before it")
+        if line.letter == "K":
+            events[-1:] = [moved(before, line)]
+        else:
+            events.append(line)
+    if not refused and events[-1].letter != "E":
+        fail(f"the log ends before its last line: after line {len(lines)} there is neither E nor 8,0")
+    for event in events:
+        if event.letter == "W" and not event.passed:
+            fail(f"line {event.line}, a W line, has no K line after it: the log is from before K lines, or one is missing")
     if refused:
         return events, None
-    if events[-1].letter != "E":
-        fail(f"the log ends before its last line: after line {len(lines)} there is neither E nor 8,0")
     if members(events[-1].list) != sorted(event.node for event in events if event.letter == "C"):
         fail("the last line's crashed nodes are not those of the C lines: the log's beginning may be missing")
     return events[:-1], events[-1]
@@ -165,13 +182,13 @@ def neighbours(events):
     """The neighbours that a log shows, as line, node and the next one of the ring. Up to the first tick in which watches expire each node sends to the next
     one, and those watches are on the one before."""
     until = next((event.tick for event in events if event.letter == "W"), None)
-    for number, event in enumerate(events, 1):
+    for event in events:
         if until is not None and event.tick > until:
             return
         if event.letter == "S":
-            yield number, event.node, event.other
+            yield event.line, event.node, event.other
         elif event.letter == "W":
-            yield number, event.other, event.node
+            yield event.line, event.other, event.node
 
 
 def check_ring(ring, events):
@@ -232,38 +249,20 @@ def knowledge(nodes, events):
     return since, lacking
 
 
-# ---- emitters
+# ---- moves
 
 
-def nodes_before(ring, events):
-    """The node before each one by this order. Where the log shows another one, before those whose neighbour it shows; if that is all but one, that one
-    closes the ring."""
-    before = dict(zip(ring, ring[-1:] + ring[:-1]))
-    shown = {observer: sender for _, sender, observer in neighbours(events)}
-    if shown.items() <= before.items():
-        return before
-    if len(shown) == len(ring) - 1:
-        shown.update(zip(before.keys() - shown.keys(), before.keys() - shown.values()))
-    return shown
-
-
-def first_back(before, node, dead):
-    """The first node going back that a list does not hold, or nothing where the order does not tell."""
-    for _ in before:
-        node = before.get(node)
-        if node is None or not dead >> node & 1:
-            return node
-
-
-def moves(before, events):
-    """The events by which a node leaves its emitter, by their identity, each with the node that it takes: itself where it is alone, nothing where
-    that is not known."""
-    emitters, taken = dict(before), {}
+def moves(events):
+    """By node and emitter, the move by which the node takes that emitter, as far as the log shows it: the node's last one before it leaves the emitter or
+    the emitter gets its O, whichever comes first. Nothing where there is none before, as the emitter was there from the start."""
+    last, taking = {}, {}
     for event in events:
-        reported = event.letter == "R" and event.other == emitters.get(event.node) and event.list >> event.other & 1
-        if event.letter == "W" or reported:
-            emitters[event.node] = taken[id(event)] = first_back(before, event.other, event.list)
-    return taken
+        if event.passed:
+            taking.setdefault((event.node, event.other), last.get(event.node))
+            last[event.node] = event
+        elif event.letter == "O" and not taking.setdefault((event.other, event.node), last.get(event.other)):
+            fail(f"line {event.line}: node {event.other} sends an O, but no K line says that it has moved")
+    return taking
 
 
 class Picture:
@@ -285,7 +284,7 @@ class Picture:
         self.scale = min(MOST_TICK_WIDTH, width / (self.end + 1))
         self.row = 44 if self.nodes <= 12 else 28 if self.nodes <= 32 else 22
         self.crashes = {event.node: event.tick for event in events if event.letter == "C"}
-        self.moves = moves(nodes_before(self.ring, events), events)
+        self.moves = moves(events)
         self.last_words = [self.at_end(node, members(dead)) for node, dead in enumerate(last_lists(self.nodes, events))]
         longest = max(len(words) for words in [LISTS, *self.last_words])
         self.right = round(max(self.x(self.end) + 10 + LETTER_WIDTH * longest, LEFT + NARROWEST))
@@ -424,14 +423,11 @@ def draw_heartbeats(picture):
 
 
 def draw_observers(picture):
-    """An arrow for each O, from the event that sent it. Where that is not known, it is drawn upright."""
-    sent = {}
+    """An arrow for each O, from the move that sent it."""
     for event in picture.events:
-        if id(event) in picture.moves:
-            sent[event.node, picture.moves[id(event)]] = event.tick
-        elif event.letter == "O":
-            tick = sent.get((event.other, event.node), event.tick)
-            picture.arrow(picture.x(tick), picture.y(event.other), picture.x(event.tick), picture.y(event.node))
+        if event.letter == "O":
+            sent = picture.moves[event.other, event.node]
+            picture.arrow(picture.x(sent.tick), picture.y(event.other), picture.x(event.tick), picture.y(event.node))
 
 
 def report_in_words(event):
@@ -440,43 +436,50 @@ def report_in_words(event):
 
 def draw_reports(picture):
     """Those by which no emitter is left."""
-    news = {id(event) for event, _ in grown(picture.events)}
-    reports = [event for event in picture.events if event.letter == "R" and id(event) not in picture.moves]
-    kept, thin = thinned(picture, [event for event in reports if id(event) not in news])
-    for event in kept + [event for event in reports if id(event) in news]:
-        picture.diamond("report" if id(event) in news else "known", picture.x(event.tick), picture.y(event.node), report_in_words(event))
+    news = {event for event, _ in grown(picture.events)}
+    reports = [event for event in picture.events if event.letter == "R" and not event.passed]
+    kept, thin = thinned(picture, [event for event in reports if event not in news])
+    for event in kept + [event for event in reports if event in news]:
+        picture.diamond("report" if event in news else "known", picture.x(event.tick), picture.y(event.node), report_in_words(event))
     return thin
 
 
 def draw_moves_and_crashes(picture):
     """Answers whether an emitter is left by a report."""
-    by_report = False
+    taken, by_report = {move: f"moves to node {emitter}" for (_, emitter), move in picture.moves.items()}, False
     for event in picture.events:
         x, y = picture.x(event.tick), picture.y(event.node)
-        if event.letter == "W":
-            picture.expired(x, y, f"tick {event.tick}: node {event.node} lists node {event.other}, whose heartbeat did not come")
-        elif event.letter == "C":
+        if event.letter == "C":
             picture.cross("crash", x, y, 6)
-        elif id(event) in picture.moves:
-            by_report, taken = True, picture.moves[id(event)]
-            what = "is alone" if taken == event.node else "leaves it" if taken is None else f"leaves it for node {taken}"
-            picture.reported(x, y, f"{report_in_words(event)}, its emitter, and {what}")
+        elif event.passed:
+            alone = len(members(event.list)) == picture.nodes - 1
+            where = "is alone" if alone else taken.get(event, "moves on")
+            told = f"{where}, passing {event.passed} listed node{'s' * (event.passed > 1)}"
+            if event.letter == "W":
+                picture.expired(x, y, f"tick {event.tick}: node {event.node} lists node {event.other}, whose heartbeat did not come, and {told}")
+            else:
+                by_report = True
+                picture.reported(x, y, f"{report_in_words(event)}, its emitter, and {told}")
     return by_report
 
 
 def draw_labels(picture):
-    """What is new in a list, where there is room: right of the mark, at the end left of it. Answers the legend's words about it."""
-    changes, free, drawn = list(grown(picture.events)), {}, 0
-    for event, new in changes if len(changes) <= MOST_LABELS else []:
-        x, words = picture.x(event.tick), "+" + ",".join(str(node) for node in new)
-        room = 8 + 8 * len(words)
+    """Right of a mark, at the end left of it: what is new in a list, and at a move the number of its K line. Moves come first where there is not room for
+    all. Answers the legend's words about lists and numbers."""
+    changes, held, drawn = list(grown(picture.events)), {}, []
+    few = len(changes) <= MOST_LABELS
+    labels = [(event, few * ["+" + ",".join(map(str, new))] + [f"K{event.passed}"] * bool(event.passed)) for event, new in changes if few or event.passed]
+    for event, words in sorted(labels, key=lambda label: not label[0].passed):
+        x, room = picture.x(event.tick), 8 + 8 * len(" ".join(words))
         left = x + 8 if x + room <= picture.x(picture.end) else x - room
-        if left >= free.get(event.node, LEFT):
-            picture.text(left, picture.y(event.node) - 7, words, "new")
-            free[event.node] = left + room
-            drawn += 1
-    words = "; +3: node 3 is new in the list" + ", where there is room" * (drawn < len(changes))
-    return words if drawn else ""
+        beside = held.setdefault(event.node, [])
+        if left >= LEFT and all(left >= until or left + room <= since for since, until in beside):
+            picture.text(left, picture.y(event.node) - 7, " ".join(words), "new")
+            beside.append((left, left + room))
+            drawn.append(event)
+    room = ", where there is room" * (len(drawn) < len(labels))
+    numbered = "K, move: 2 listed nodes passed, the emitter left included" + room
+    return f"; +3: node 3 is new in the list{room}" if few and drawn else "", numbered if any(event.passed for event in drawn) else ""
 
 
 def draw_end(picture):
@@ -513,7 +516,7 @@ def draw_knowledge(picture, since, lacking):
     return ""
 
 
-def draw_legend(picture, lacks, by_report, labelled, thin):
+def draw_legend(picture, lacks, by_report, labelled, numbered, thin):
     """Who lacks whom, the marks with their meaning, and a note. Answers where the picture ends."""
     y = picture.paragraph(picture.bottom() + 46, lacks, "bad" if lacks.startswith("At") else "small") + (4 if lacks else 0)
     entries = [
@@ -529,6 +532,8 @@ def draw_legend(picture, lacks, by_report, labelled, thin):
     ]
     if by_report:
         entries.insert(-1, (lambda x, y: picture.reported(x, y + 1), "R of the emitter, which is left at once"))
+    if numbered:
+        entries.insert(-1, (lambda x, y: picture.text(x, y + 4, "K2", "new", "middle"), numbered))
     if picture.crashes and not lacks:
         entries.append((lambda x, y: picture.line("all", x - 9, y, x + 9, y), "from here all survivors list all crashed nodes"))
     x = LEFT
@@ -558,9 +563,9 @@ def draw(events, last, run_file):
     draw_observers(picture)
     thin = draw_reports(picture) or thin
     by_report = draw_moves_and_crashes(picture)
-    labelled = draw_labels(picture)
+    labelled, numbered = draw_labels(picture)
     draw_end(picture)
-    width, height = picture.right + 8, draw_legend(picture, lacks, by_report, labelled, thin)
+    width, height = picture.right + 8, draw_legend(picture, lacks, by_report, labelled, numbered, thin)
     head = f'<svg xmlns="http://www.w3.org/2000/svg" width="{width:g}" height="{height:g}" viewBox="0 0 {width:g} {height:g}">'
     ground = f'<rect fill="#ffffff" x="0" y="0" width="{width:g}" height="{height:g}"/>'
     return "\n".join([head, f"<style>{STYLE}</style>", ground, *picture.elements, "</svg>"]) + "\n"

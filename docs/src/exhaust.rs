@@ -1,12 +1,12 @@
 //! All runs of a small ring, in number order or another: every delay from 1 to D of every message, every crash at
-//! every tick, up to an end tick. It asks demand 3's words of the state after each event. For a larger ring the choices
-//! may be fewer: longer delays alone, and crashes of some nodes alone.
+//! every tick, up to an end tick. It asks demand 3's words of the state after each event, and at each move that the number passed
+//! is right. For a larger ring the choices may be fewer: longer delays alone, and crashes of some nodes alone.
 //!
 //! The search goes from tick to tick. Ticks are counted from the state's own, and what can no longer matter
 //! is left out, so that states which go on alike are one and are met once; where no new state comes up, the
 //! answer holds for every end tick. A run in which something is found comes back as a plan.
 
-use super::node::{self, Content, Node, Sends, Settings, Timer};
+use super::node::{self, Content, Effect, Node, Sends, Settings, Timer};
 use super::plan::{Crash, Delay, Plan};
 use super::ring;
 use super::settle;
@@ -24,6 +24,10 @@ pub enum Rules {
     TimersFirst,
     /// Not a rule but a claim: S without its 2 × D.
     ShortSettling,
+    /// The number passed without the node just left.
+    LeftNotCounted,
+    /// The number passed as all nodes that are listed.
+    AllCounted,
 }
 
 /// What is searched: N, the ring's order, H, W, D, the end tick and the rules. W may be below H + D.
@@ -49,6 +53,8 @@ pub enum Finding {
     LiveNodeListed,
     /// Crashes are spaced and S ticks have passed, but the ring is not settled.
     Unsettled,
+    /// The number passed at a move is not the count of the listed nodes from the one left back to the new emitter.
+    Miscounted,
 }
 
 /// What is found, at which tick, and a run that leads to it.
@@ -66,6 +72,8 @@ pub struct Outcome {
     pub events: u64,
     /// Of the events, the reports that made their receiver leave its emitter.
     pub moves_by_report: u64,
+    /// For each number, how many moves passed so many listed nodes.
+    pub passed: [u64; 17],
     /// Different runs up to the end tick: plans of crashes and delays of all messages sent.
     pub runs: f64,
     /// The ticks after which no new state came up; nothing where the end tick came first.
@@ -248,6 +256,7 @@ struct Tree<'search> {
     ways: Vec<Vec<(usize, u32)>>,
     events: u64,
     moves_by_report: u64,
+    passed: [u64; 17],
     /// Of the state that is being gone on from: what is chosen so far, and the states led to.
     chosen: Choice,
     leads: Vec<usize>,
@@ -266,6 +275,7 @@ impl<'search> Tree<'search> {
             ways: Vec::new(),
             events: 0,
             moves_by_report: 0,
+            passed: [0; 17],
             chosen: Choice::default(),
             leads: Vec::new(),
             from: 0,
@@ -334,9 +344,10 @@ impl<'search> Tree<'search> {
     fn go_on(&mut self, mut state: State) -> Option<Finding> {
         let timer = state.due_timer();
         let delivery = state.flights.first().is_some_and(|flight| flight.due == 0);
-        let (number, sends) = match timer {
-            Some(timer) if !delivery || self.search.rules == Rules::TimersFirst => {
-                self.expire(&mut state, timer)
+        let (node, sends) = match timer {
+            Some((number, timer)) if !delivery || self.search.rules == Rules::TimersFirst => {
+                let node = &mut state.nodes[number];
+                (node.number, self.expire(node, timer))
             }
             _ if delivery => {
                 let Flight { sender, receiver, content, .. } = state.flights.remove(0);
@@ -344,34 +355,58 @@ impl<'search> Tree<'search> {
             }
             _ => return self.end_tick(state),
         };
-        self.after_event(&state).or_else(|| self.send(state, number, &sends, 0))
+        let Some(sends) = sends else { return Some(Finding::Miscounted) };
+        self.after_event(&state).or_else(|| self.send(state, node, &sends, 0))
     }
 
-    fn deliver(&mut self, node: &mut Node, sender: u8, content: Content) -> Sends {
+    /// What the node sends, or nothing where the number passed is wrong.
+    fn deliver(&mut self, node: &mut Node, sender: u8, content: Content) -> Option<Sends> {
         if !node.alive {
-            return Sends::none();
+            return Some(Sends::none());
         }
-        let emitter = node.emitter;
-        let sends = node.deliver(&self.settings, 0, sender, content);
-        if node.emitter != emitter {
+        let before = *node;
+        let Effect { sends, passed } = node.deliver(&self.settings, 0, sender, content);
+        if node.emitter != before.emitter {
             self.moves_by_report += 1;
             if self.search.rules == Rules::ShortReported {
                 node.watch = node.watch.map(|_| self.settings.timeout);
             }
         }
-        sends
+        self.counted(&before, node, passed).then_some(sends)
     }
 
-    fn expire(&self, state: &mut State, (number, timer): (usize, Timer)) -> (u8, Sends) {
-        let node = &mut state.nodes[number];
-        let sends = match timer {
+    /// The same of a timer.
+    fn expire(&mut self, node: &mut Node, timer: Timer) -> Option<Sends> {
+        let before = *node;
+        let Effect { sends, passed } = match timer {
             Timer::Watch => node.expire_watch(&self.settings, 0),
             Timer::Heartbeat => node.send_heartbeat(&self.settings, 0),
         };
         if self.search.rules == Rules::ShortWatch && timer == Timer::Watch {
             node.watch = node.watch.map(|_| self.settings.timeout);
         }
-        (number as u8, sends)
+        self.counted(&before, node, passed).then_some(sends)
+    }
+
+    /// Whether a number passed is told exactly where the emitter changes, and is the count of the listed nodes from the one left back to
+    /// the new emitter. They are counted by the places of all nodes in the ring: those of fewer steps back from the one left than the
+    /// new emitter.
+    fn counted(&mut self, before: &Node, after: &Node, passed: Option<u8>) -> bool {
+        if before.emitter == after.emitter || passed.is_none() {
+            return before.emitter == after.emitter && passed.is_none();
+        }
+        let nodes = usize::from(self.search.nodes);
+        let place = |node: u8| self.search.order.iter().position(|other| *other == node).unwrap_or(usize::from(node));
+        let back = |node: u8| (place(before.emitter) + nodes - place(node)) % nodes;
+        let is_passed = |node: &u8| ring::listed(after.dead_list, *node) && back(*node) < back(after.emitter);
+        let count = (0..self.search.nodes).filter(is_passed).count();
+        self.passed[count] += 1;
+        let told = match self.search.rules {
+            Rules::LeftNotCounted => passed.map(|passed| passed - 1),
+            Rules::AllCounted => Some(after.dead_list.count_ones() as u8),
+            _ => passed,
+        };
+        told.map(usize::from) == Some(count)
     }
 
     /// Puts the messages from `place` on in flight, with every delay.
@@ -441,8 +476,8 @@ impl<'search> Tree<'search> {
 
     fn outcome(&self, found: Option<Found>, closed: Option<u32>) -> Outcome {
         let runs = if found.is_none() { self.runs() } else { 0.0 };
-        let (events, moves_by_report) = (self.events, self.moves_by_report);
-        Outcome { states: self.states.len(), events, moves_by_report, runs, closed, found }
+        let (events, moves_by_report, passed) = (self.events, self.moves_by_report, self.passed);
+        Outcome { states: self.states.len(), events, moves_by_report, passed, runs, closed, found }
     }
 
     /// How many runs there are up to the end tick.
@@ -588,6 +623,8 @@ mod tests {
         let outcome = SMALL.explore();
         assert_eq!(outcome.found, None);
         assert!(outcome.closed.is_some() && outcome.states > 4_000);
+        let [none, one, two, more @ ..] = outcome.passed;
+        assert!(none == 0 && one > 400 && two > 20 && more == [0; 14], "moves by the number passed: {:?}", outcome.passed);
     }
 
     /// Neither is where a report moves a node, in number order and in another, but where the watch is then W.
@@ -633,5 +670,8 @@ mod tests {
         assert_eq!(finding(Rules::ShortSettling, SMALL), Some(Finding::Unsettled));
         assert_eq!(finding(Rules::TimersFirst, shuffled()), Some(Finding::LiveNodeListed));
         assert_eq!(finding(Rules::ShortSettling, shuffled()), Some(Finding::Unsettled));
+        assert_eq!(finding(Rules::LeftNotCounted, SMALL), Some(Finding::Miscounted));
+        assert_eq!(finding(Rules::AllCounted, SMALL), Some(Finding::Miscounted));
+        assert_eq!(finding(Rules::LeftNotCounted, shuffled()), Some(Finding::Miscounted));
     }
 }

@@ -22,8 +22,8 @@ pub const MAX_TICK: u64 = 1_000_000;
 pub const MAX_DELAY_NUMBER: u64 = 999_999;
 /// The next message number is at most this in a store.
 pub const MAX_NEXT_NUMBER: u64 = 4_000_000_000_000;
-/// Shortest part that takes a log line, in bytes.
-pub const LINE_BYTES: usize = 40;
+/// Shortest log part, in bytes: it takes the two lines of an event that moves the emitter.
+pub const LOG_BYTES: usize = 80;
 /// Shortest part that takes a node call's messages, in bytes.
 pub const MESSAGE_BYTES: usize = 56;
 /// Columns of a log line.

@@ -1,7 +1,8 @@
-//! The rules of one node, in 01's order and words, R as request 102 amends it.
+//! The rules of one node, in 01's order and words, R as request 102 amends it. A rule that moves the emitter also answers how many
+//! listed nodes were passed, as request 103 asks.
 
 use super::limits::MAX_SENDS;
-use super::ring::{self, Ring};
+use super::ring::{self, Back, Ring};
 
 /// The settings that a node's rules use: the ring, H and W.
 #[derive(Clone, Copy, PartialEq, Eq, Debug)]
@@ -55,6 +56,21 @@ impl Sends {
 
     pub fn as_slice(&self) -> &[Sent] {
         &self.places[..self.count]
+    }
+}
+
+/// What a rule does beside the node's own fields.
+#[derive(Clone, Copy, Debug)]
+pub struct Effect {
+    pub sends: Sends,
+    /// How many listed nodes were passed, the one just left included, where the rule moves the emitter.
+    pub passed: Option<u8>,
+}
+
+impl Effect {
+    /// Messages, and the emitter stays.
+    fn of(sends: Sends) -> Effect {
+        Effect { sends, passed: None }
     }
 }
 
@@ -113,13 +129,13 @@ impl Node {
     }
 
     /// A message is delivered to this live node.
-    pub fn deliver(&mut self, settings: &Settings, tick: u32, sender: u8, content: Content) -> Sends {
+    pub fn deliver(&mut self, settings: &Settings, tick: u32, sender: u8, content: Content) -> Effect {
         match content {
             Content::Heartbeat => self.take_heartbeat(settings, tick, sender),
             Content::NewObserver => self.take_new_observer(tick, sender),
             Content::Report { subject } => return self.take_report(settings, tick, subject),
         }
-        Sends::none()
+        Effect::of(Sends::none())
     }
 
     /// "Message H: from the emitter, watch due becomes this tick + W; from any other node, nothing."
@@ -138,17 +154,17 @@ impl Node {
     /// "Message R of a subject: already listed or the node itself, nothing. Otherwise it is listed
     /// and R of the same subject goes to the forward targets." The emitter "is left straight away":
     /// "such a report makes the node move in the same event".
-    fn take_report(&mut self, settings: &Settings, tick: u32, subject: u8) -> Sends {
+    fn take_report(&mut self, settings: &Settings, tick: u32, subject: u8) -> Effect {
         let mut sends = Sends::none();
         if subject == self.number || ring::listed(self.dead_list, subject) {
-            return sends;
+            return Effect::of(sends);
         }
         if subject == self.emitter {
             return self.leave_emitter(settings, tick);
         }
         self.dead_list = ring::with(self.dead_list, subject);
         self.report(settings, subject, &mut sends);
-        sends
+        Effect::of(sends)
     }
 
     /// R of the subject to the forward targets. "The list is the one after the change."
@@ -160,15 +176,15 @@ impl Node {
     }
 
     /// "Heartbeat due: send H to the observer; due becomes this tick + H."
-    pub fn send_heartbeat(&mut self, settings: &Settings, tick: u32) -> Sends {
+    pub fn send_heartbeat(&mut self, settings: &Settings, tick: u32) -> Effect {
         let mut sends = Sends::none();
         sends.add(self.observer, Content::Heartbeat);
         self.heartbeat = Some(tick + settings.period);
-        sends
+        Effect::of(sends)
     }
 
     /// The watch is due.
-    pub fn expire_watch(&mut self, settings: &Settings, tick: u32) -> Sends {
+    pub fn expire_watch(&mut self, settings: &Settings, tick: u32) -> Effect {
         self.leave_emitter(settings, tick)
     }
 
@@ -176,19 +192,20 @@ impl Node {
     /// the first unlisted node going back from it. If that is the node itself, it is alone. Otherwise
     /// watch due becomes this tick + 2 × W; send O to the new emitter, then R of the old one to the
     /// forward targets".
-    fn leave_emitter(&mut self, settings: &Settings, tick: u32) -> Sends {
+    fn leave_emitter(&mut self, settings: &Settings, tick: u32) -> Effect {
         let mut sends = Sends::none();
         let left = self.emitter;
         self.dead_list = ring::with(self.dead_list, left);
-        self.emitter = settings.ring.first_unlisted_back(self.dead_list, left);
-        if self.emitter == self.number {
+        let Back { node, passed } = settings.ring.first_unlisted_back(self.dead_list, left);
+        if node == self.number {
             self.become_alone();
-            return sends;
+        } else {
+            self.emitter = node;
+            self.watch = Some(tick + 2 * settings.timeout);
+            sends.add(node, Content::NewObserver);
+            self.report(settings, left, &mut sends);
         }
-        self.watch = Some(tick + 2 * settings.timeout);
-        sends.add(self.emitter, Content::NewObserver);
-        self.report(settings, left, &mut sends);
-        sends
+        Effect { sends, passed: Some(passed) }
     }
 }
 
@@ -228,18 +245,19 @@ mod tests {
         let settings = Settings { ring: Ring::in_order(&[2, 0, 3, 1]), ..EIGHT };
         let mut node = Node::open(&settings, 3);
         assert_eq!((node.emitter, node.observer, node.watch, node.heartbeat), (0, 1, Some(10), Some(2)));
-        let sends = node.expire_watch(&settings, 10);
-        assert_eq!((node.emitter, node.dead_list, node.watch), (2, 0b0001, Some(30)));
+        let effect = node.expire_watch(&settings, 10);
+        assert_eq!((node.emitter, node.dead_list, node.watch, effect.passed), (2, 0b0001, Some(30), Some(1)));
         let observer = |receiver| vec![Sent { receiver, content: Content::NewObserver }];
-        assert_eq!(sends.as_slice(), [observer(2), reports(0, &[1, 2])].concat());
-        let sends = node.expire_watch(&settings, 30);
-        assert_eq!((node.emitter, node.dead_list, node.watch), (1, 0b0101, Some(50)));
-        assert_eq!(sends.as_slice(), [observer(1), reports(2, &[1])].concat());
-        assert!(node.expire_watch(&settings, 50).as_slice().is_empty());
+        assert_eq!(effect.sends.as_slice(), [observer(2), reports(0, &[1, 2])].concat());
+        let effect = node.expire_watch(&settings, 30);
+        assert_eq!((node.emitter, node.dead_list, node.watch, effect.passed), (1, 0b0101, Some(50), Some(1)));
+        assert_eq!(effect.sends.as_slice(), [observer(1), reports(2, &[1])].concat());
+        let effect = node.expire_watch(&settings, 50);
+        assert_eq!((effect.sends.as_slice(), effect.passed), (&[][..], Some(1)));
         assert_eq!((node.emitter, node.observer, node.watch, node.heartbeat), (3, 3, None, None));
         let mut other = Node::open(&settings, 2);
-        let sends = other.deliver(&settings, 4, 1, Content::Report { subject: 0 });
-        assert_eq!(sends.as_slice(), reports(0, &[3, 1]));
+        let effect = other.deliver(&settings, 4, 1, Content::Report { subject: 0 });
+        assert_eq!(effect.sends.as_slice(), reports(0, &[3, 1]));
         let alone = Node::open(&Settings { ring: Ring::in_order(&[0]), ..EIGHT }, 0);
         assert_eq!((alone.emitter, alone.observer, alone.watch, alone.heartbeat), (0, 0, None, None));
     }
@@ -249,13 +267,14 @@ mod tests {
     fn a_reported_emitter_is_left_in_the_order_of_the_ring() {
         let settings = Settings { ring: Ring::in_order(&[2, 0, 3, 1]), ..EIGHT };
         let mut node = Node::open(&settings, 3);
-        assert_eq!(node.deliver(&settings, 3, 1, Content::Report { subject: 2 }).as_slice(), reports(2, &[1, 0]));
+        assert_eq!(node.deliver(&settings, 3, 1, Content::Report { subject: 2 }).sends.as_slice(), reports(2, &[1, 0]));
         assert_eq!((node.emitter, node.watch), (0, Some(10)));
-        let sends = node.deliver(&settings, 4, 1, Content::Report { subject: 0 });
-        assert_eq!((node.emitter, node.dead_list, node.watch), (1, 0b0101, Some(24)));
+        let effect = node.deliver(&settings, 4, 1, Content::Report { subject: 0 });
+        assert_eq!((node.emitter, node.dead_list, node.watch, effect.passed), (1, 0b0101, Some(24), Some(2)));
         let observer = vec![Sent { receiver: 1, content: Content::NewObserver }];
-        assert_eq!(sends.as_slice(), [observer, reports(0, &[1])].concat());
-        assert!(node.deliver(&settings, 5, 2, Content::Report { subject: 1 }).as_slice().is_empty());
+        assert_eq!(effect.sends.as_slice(), [observer, reports(0, &[1])].concat());
+        let effect = node.deliver(&settings, 5, 2, Content::Report { subject: 1 });
+        assert_eq!((effect.sends.as_slice(), effect.passed), (&[][..], Some(1)));
         assert_eq!((node.emitter, node.observer, node.watch, node.heartbeat), (3, 3, None, None));
     }
 
@@ -264,10 +283,11 @@ mod tests {
         let before = Node::open(&EIGHT, 1);
         let mut node = before;
         for sender in [2, 3, 7] {
-            assert!(node.deliver(&EIGHT, 5, sender, Content::Heartbeat).as_slice().is_empty());
+            assert!(node.deliver(&EIGHT, 5, sender, Content::Heartbeat).sends.as_slice().is_empty());
             assert_eq!(node, before);
         }
-        assert!(node.deliver(&EIGHT, 5, 0, Content::Heartbeat).as_slice().is_empty());
+        let effect = node.deliver(&EIGHT, 5, 0, Content::Heartbeat);
+        assert!(effect.sends.as_slice().is_empty() && effect.passed.is_none());
         assert_eq!(node, Node { watch: Some(15), ..before });
     }
 
@@ -284,7 +304,8 @@ mod tests {
     fn a_new_observer_gets_a_heartbeat_at_this_tick() {
         let before = Node::open(&EIGHT, 1);
         let mut node = before;
-        assert!(node.deliver(&EIGHT, 1, 5, Content::NewObserver).as_slice().is_empty());
+        let effect = node.deliver(&EIGHT, 1, 5, Content::NewObserver);
+        assert!(effect.sends.as_slice().is_empty() && effect.passed.is_none());
         assert_eq!(node, Node { observer: 5, heartbeat: Some(1), ..before });
     }
 
@@ -301,9 +322,9 @@ mod tests {
     fn a_first_report_is_listed_and_passed_on() {
         let before = Node::open(&EIGHT, 1);
         let mut node = Node { dead_list: 1 << 2, ..before };
-        let sends = node.deliver(&EIGHT, 4, 6, Content::Report { subject: 3 });
+        let effect = node.deliver(&EIGHT, 4, 6, Content::Report { subject: 3 });
         assert_eq!(node, Node { dead_list: 1 << 2 | 1 << 3, ..before });
-        assert_eq!(sends.as_slice(), reports(3, &[4, 5, 7]));
+        assert_eq!(effect.sends.as_slice(), reports(3, &[4, 5, 7]));
     }
 
     #[test]
@@ -311,7 +332,8 @@ mod tests {
         let before = Node { dead_list: 1 << 3, ..Node::open(&EIGHT, 1) };
         for subject in [1, 3] {
             let mut node = before;
-            assert!(node.deliver(&EIGHT, 4, 6, Content::Report { subject }).as_slice().is_empty());
+            let effect = node.deliver(&EIGHT, 4, 6, Content::Report { subject });
+            assert!(effect.sends.as_slice().is_empty() && effect.passed.is_none());
             assert_eq!(node, before);
         }
     }
@@ -321,12 +343,13 @@ mod tests {
     fn a_report_of_the_emitter_moves_as_an_expired_watch_does() {
         let before = Node { dead_list: 1 << 7, ..Node::open(&EIGHT, 1) };
         let (mut reported, mut expired) = (before, before);
-        let sends = reported.deliver(&EIGHT, 4, 5, Content::Report { subject: 0 });
+        let effect = reported.deliver(&EIGHT, 4, 5, Content::Report { subject: 0 });
         assert_eq!(reported, Node { emitter: 6, watch: Some(4 + 20), dead_list: 1 << 7 | 1, ..before });
         let observer = Sent { receiver: 6, content: Content::NewObserver };
-        assert_eq!(sends.as_slice(), [vec![observer], reports(0, &[2, 3, 5])].concat());
-        assert_eq!(sends.as_slice(), expired.expire_watch(&EIGHT, 4).as_slice());
-        assert_eq!(reported, expired);
+        assert_eq!(effect.sends.as_slice(), [vec![observer], reports(0, &[2, 3, 5])].concat());
+        let expiry = expired.expire_watch(&EIGHT, 4);
+        assert_eq!((effect.sends.as_slice(), effect.passed), (expiry.sends.as_slice(), expiry.passed));
+        assert_eq!((reported, effect.passed), (expired, Some(2)));
     }
 
     /// Once it has moved, the same report is of a listed node, and one of the new emitter moves it again.
@@ -336,11 +359,11 @@ mod tests {
         let report = |node: &mut Node, tick, subject| node.deliver(&EIGHT, tick, 5, Content::Report { subject });
         report(&mut node, 4, 0);
         let moved = node;
-        assert!(report(&mut node, 5, 0).as_slice().is_empty());
+        assert!(report(&mut node, 5, 0).sends.as_slice().is_empty());
         assert_eq!(node, moved);
-        let sends = report(&mut node, 6, 7);
+        let effect = report(&mut node, 6, 7);
         assert_eq!(node, Node { emitter: 6, watch: Some(26), dead_list: 1 << 7 | 1, ..moved });
-        assert_eq!(sends.as_slice()[1..], reports(7, &[2, 3, 5]));
+        assert_eq!(effect.sends.as_slice()[1..], reports(7, &[2, 3, 5]));
     }
 
     /// Where all others are listed but the emitter, a report of it leaves the node alone: both timers off, nothing sent.
@@ -348,7 +371,8 @@ mod tests {
     fn a_node_is_alone_by_report() {
         let before = Node { dead_list: 0b1111_1100, ..Node::open(&EIGHT, 1) };
         let mut node = before;
-        assert!(node.deliver(&EIGHT, 4, 5, Content::Report { subject: 0 }).as_slice().is_empty());
+        let effect = node.deliver(&EIGHT, 4, 5, Content::Report { subject: 0 });
+        assert_eq!((effect.sends.as_slice(), effect.passed), (&[][..], Some(7)));
         let alone = Node { emitter: 1, observer: 1, watch: None, heartbeat: None, dead_list: 0b1111_1101, ..before };
         assert_eq!(node, alone);
     }
@@ -368,10 +392,10 @@ mod tests {
         let before = Node::open(&EIGHT, 1);
         for subject in 2..8 {
             let mut node = before;
-            let sends = node.deliver(&EIGHT, 4, 5, Content::Report { subject });
-            assert_eq!(node, Node { dead_list: 1 << subject, ..before });
+            let effect = node.deliver(&EIGHT, 4, 5, Content::Report { subject });
+            assert_eq!((node, effect.passed), (Node { dead_list: 1 << subject, ..before }, None));
             let targets = EIGHT.ring.forward_targets(1 << subject, 1);
-            assert_eq!(sends.as_slice(), reports(subject, targets.as_slice()));
+            assert_eq!(effect.sends.as_slice(), reports(subject, targets.as_slice()));
         }
     }
 
@@ -382,9 +406,10 @@ mod tests {
         alone.expire_watch(&EIGHT, 10);
         let before = Node { dead_list: 1, ..alone };
         let mut node = before;
-        assert!(node.deliver(&EIGHT, 11, 5, Content::Report { subject: 1 }).as_slice().is_empty());
+        let effect = node.deliver(&EIGHT, 11, 5, Content::Report { subject: 1 });
+        assert!(effect.sends.as_slice().is_empty() && effect.passed.is_none());
         assert_eq!(node, before);
-        assert_eq!(node.deliver(&EIGHT, 11, 5, Content::Report { subject: 4 }).as_slice(), reports(4, &[2, 3, 6]));
+        assert_eq!(node.deliver(&EIGHT, 11, 5, Content::Report { subject: 4 }).sends.as_slice(), reports(4, &[2, 3, 6]));
         assert_eq!(node, Node { dead_list: 1 << 4 | 1, ..before });
     }
 
@@ -392,8 +417,9 @@ mod tests {
     fn a_heartbeat_goes_to_the_observer() {
         let before = Node::open(&EIGHT, 1);
         let mut node = before;
-        let sends = node.send_heartbeat(&EIGHT, 7);
-        assert_eq!(sends.as_slice(), [Sent { receiver: 2, content: Content::Heartbeat }]);
+        let effect = node.send_heartbeat(&EIGHT, 7);
+        assert_eq!(effect.passed, None);
+        assert_eq!(effect.sends.as_slice(), [Sent { receiver: 2, content: Content::Heartbeat }]);
         assert_eq!(node, Node { heartbeat: Some(9), ..before });
     }
 
@@ -401,18 +427,18 @@ mod tests {
     fn an_expired_watch_moves_to_the_next_emitter_for_twice_the_timeout() {
         let before = Node { dead_list: 1 << 7, ..Node::open(&EIGHT, 1) };
         let mut node = before;
-        let sends = node.expire_watch(&EIGHT, 10);
+        let effect = node.expire_watch(&EIGHT, 10);
         assert_eq!(node, Node { emitter: 6, watch: Some(30), dead_list: 1 << 7 | 1, ..before });
         let mut expected = vec![Sent { receiver: 6, content: Content::NewObserver }];
         expected.extend(reports(0, &[2, 3, 5]));
-        assert_eq!(sends.as_slice(), expected);
+        assert_eq!(effect.sends.as_slice(), expected);
     }
 
     #[test]
     fn the_last_unlisted_node_is_alone() {
         let mut node = Node { dead_list: 0b1111_1100, ..Node::open(&EIGHT, 1) };
-        let sends = node.expire_watch(&EIGHT, 10);
-        assert!(sends.as_slice().is_empty());
+        let effect = node.expire_watch(&EIGHT, 10);
+        assert_eq!((effect.sends.as_slice(), effect.passed), (&[][..], Some(7)));
         assert_eq!((node.emitter, node.observer, node.watch, node.heartbeat), (1, 1, None, None));
         assert_eq!(node.dead_list, 0b1111_1101);
     }
@@ -420,8 +446,8 @@ mod tests {
     #[test]
     fn a_full_ring_sends_seven_messages() {
         let mut node = Node::open(&Settings { ring: Ring::of(64), ..EIGHT }, 0);
-        let sends = node.expire_watch(&Settings { ring: Ring::of(64), ..EIGHT }, 10);
-        assert_eq!(sends.as_slice().len(), 1 + 5 + 1);
+        let effect = node.expire_watch(&Settings { ring: Ring::of(64), ..EIGHT }, 10);
+        assert_eq!(effect.sends.as_slice().len(), 1 + 5 + 1);
     }
 
     #[test]

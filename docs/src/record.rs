@@ -41,7 +41,7 @@ impl Record {
         let content = self.check_message(kind, sender, subject).ok_or(REFUSED_MESSAGE)?;
         check_part(part)?;
         self.last_tick = tick;
-        Ok(self.node.deliver(&self.settings, tick, sender as u8, content))
+        Ok(self.node.deliver(&self.settings, tick, sender as u8, content).sends)
     }
 
     /// "One does the watch if due by this tick, else the heartbeat if due, else nothing."
@@ -51,9 +51,9 @@ impl Record {
         self.last_tick = tick;
         let due = |timer: Option<u32>| timer.is_some_and(|due| due <= tick);
         Ok(if due(self.node.watch) {
-            self.node.expire_watch(&self.settings, tick)
+            self.node.expire_watch(&self.settings, tick).sends
         } else if due(self.node.heartbeat) {
-            self.node.send_heartbeat(&self.settings, tick)
+            self.node.send_heartbeat(&self.settings, tick).sends
         } else {
             Sends::none()
         })

@@ -36,6 +36,15 @@ impl Targets {
     }
 }
 
+/// What the search for the node before answers.
+#[derive(Clone, Copy, PartialEq, Eq, Debug)]
+pub struct Back {
+    /// The first unlisted node.
+    pub node: u8,
+    /// "how many listed nodes it passed, the one just left included".
+    pub passed: u8,
+}
+
 /// Nodes in a ring, in any order. All that goes by the ring's order is asked of it.
 #[derive(Clone, Copy, PartialEq, Eq, Debug)]
 pub struct Ring {
@@ -98,13 +107,20 @@ impl Ring {
 
     /// The node before `node`.
     pub fn before(&self, node: u8) -> u8 {
-        self.first_unlisted_back(0, node)
+        self.first_unlisted_back(0, node).node
     }
 
-    /// "the first unlisted node going back from it". The walk ends at `from` itself where every node is listed, which no
-    /// live node's list leads to.
-    pub fn first_unlisted_back(&self, list: u64, from: u8) -> u8 {
-        self.back(from).find(|node| !listed(list, *node)).unwrap_or(from)
+    /// "the first unlisted node going back from it", and the listed nodes passed: `from`, where it is listed, and those after it on
+    /// the way back. The walk ends at `from` itself where every node is listed, which no live node's list leads to.
+    pub fn first_unlisted_back(&self, list: u64, from: u8) -> Back {
+        let mut passed = u8::from(listed(list, from));
+        for node in self.back(from) {
+            if !listed(list, node) {
+                return Back { node, passed };
+            }
+            passed += 1;
+        }
+        Back { node: from, passed }
     }
 
     /// "the first one ahead in the ring" that the list does not hold, `from` itself where it holds all others.
@@ -201,10 +217,13 @@ mod tests {
 
     #[test]
     fn going_back_passes_listed_nodes() {
-        assert_eq!(Ring::of(5).first_unlisted_back(1 << 3 | 1 << 4, 4), 2);
-        assert_eq!(Ring::of(5).first_unlisted_back(0b11110, 4), 0);
-        assert_eq!(Ring::of(5).first_unlisted_back(0b11110, 1), 0);
-        assert_eq!(Ring::of(64).first_unlisted_back(1 | 1 << 63, 0), 62);
+        let back = |nodes, list, from| Ring::of(nodes).first_unlisted_back(list, from);
+        assert_eq!(back(5, 1 << 3 | 1 << 4, 4), Back { node: 2, passed: 2 });
+        assert_eq!(back(5, 0b11110, 4), Back { node: 0, passed: 4 });
+        assert_eq!(back(5, 0b11110, 1), Back { node: 0, passed: 1 });
+        assert_eq!(back(64, 1 | 1 << 63, 0), Back { node: 62, passed: 2 });
+        assert_eq!(back(64, !1, 63), Back { node: 0, passed: 63 });
+        assert_eq!(back(64, 0, 0), Back { node: 63, passed: 0 });
         assert_eq!(Ring::of(64).first_unlisted_ahead(1 | 1 << 63, 63), 1);
     }
 
@@ -225,13 +244,13 @@ mod tests {
         assert_eq!(ring.forward_targets(0, 3).as_slice(), [1, 2]);
         assert_eq!(ring.forward_targets(0b0010, 3).as_slice(), [2, 0]);
         assert_eq!(ring.forward_targets(0b0110, 3).as_slice(), [0]);
-        assert_eq!(ring.first_unlisted_back(0b0001, 0), 2);
-        assert_eq!(ring.first_unlisted_back(0b0101, 0), 1);
-        assert_eq!(ring.first_unlisted_back(0b0111, 0), 3);
+        assert_eq!(ring.first_unlisted_back(0b0001, 0), Back { node: 2, passed: 1 });
+        assert_eq!(ring.first_unlisted_back(0b0101, 0), Back { node: 1, passed: 2 });
+        assert_eq!(ring.first_unlisted_back(0b0111, 0), Back { node: 3, passed: 3 });
         assert_eq!(ring.first_unlisted_ahead(0b0110, 3), 0);
         assert_eq!(ring.first_unlisted_ahead(0b0111, 3), 3);
         let alone = Ring::in_order(&[0]);
-        assert_eq!((alone.after(0), alone.before(0), alone.first_unlisted_back(1, 0)), (0, 0, 0));
+        assert_eq!((alone.after(0), alone.before(0), alone.first_unlisted_back(0, 0)), (0, 0, Back { node: 0, passed: 0 }));
     }
 
     #[test]
@@ -258,11 +277,31 @@ mod tests {
                 plain.forward_targets(places, place(node)).as_slice().iter().map(|place| named(*place)).collect();
             assert_eq!(ring.forward_targets(list, node).as_slice(), targets);
             for from in 0..order.len() as u8 {
-                let [back, ahead] = [plain.first_unlisted_back(places, from), plain.first_unlisted_ahead(places, from)];
-                assert_eq!(ring.first_unlisted_back(list, named(from)), named(back));
+                let (back, ahead) = (plain.first_unlisted_back(places, from), plain.first_unlisted_ahead(places, from));
+                assert_eq!(ring.first_unlisted_back(list, named(from)), Back { node: named(back.node), ..back });
                 assert_eq!(ring.first_unlisted_ahead(list, named(from)), named(ahead));
             }
         });
+    }
+
+    /// The search for the node before once more, in words: of the nodes in a row, going back from `from`, the first that is unlisted; and
+    /// the listed ones that stand before it in the row, which begins with `from` itself.
+    #[test]
+    fn going_back_agrees_with_the_words() {
+        let mut most = 0;
+        for_some_rings(|order, list, _| {
+            let ring = Ring::in_order(order);
+            for from in 0..order.len() {
+                let row: Vec<u8> = (0..order.len()).map(|step| order[(from + order.len() - step) % order.len()]).collect();
+                let found = (1..row.len()).find(|step| !listed(list, row[*step])).unwrap_or(0);
+                let until = if found == 0 { row.len() } else { found };
+                let passed = row[..until].iter().filter(|other| listed(list, **other)).count() as u8;
+                let back = ring.first_unlisted_back(list, order[from]);
+                assert_eq!(back, Back { node: row[found], passed }, "{order:?} {list:x} {from}");
+                most = most.max(passed);
+            }
+        });
+        assert!(most > 4, "at most {most} nodes are passed");
     }
 
     /// Rotated, an order is the same ring; reversed, ahead and back change places.
@@ -275,7 +314,7 @@ mod tests {
             let [ring, rotated, reversed] = [order, &rotated, &reversed].map(Ring::in_order);
             assert_eq!(rotated.forward_targets(list, node), ring.forward_targets(list, node));
             assert_eq!(rotated.first_unlisted_back(list, node), ring.first_unlisted_back(list, node));
-            assert_eq!(reversed.first_unlisted_ahead(list, node), ring.first_unlisted_back(list, node));
+            assert_eq!(reversed.first_unlisted_ahead(list, node), ring.first_unlisted_back(list, node).node);
             assert_eq!(reversed.before(node), ring.after(node));
         });
     }

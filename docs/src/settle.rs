@@ -51,7 +51,7 @@ pub fn settled(ring: &Ring, nodes: &[Node]) -> bool {
     nodes.iter().filter(|node| node.alive).all(|node| {
         node.dead_list == crashed
             && node.observer == ring.first_unlisted_ahead(crashed, node.number)
-            && node.emitter == ring.first_unlisted_back(crashed, node.number)
+            && node.emitter == ring.first_unlisted_back(crashed, node.number).node
     })
 }
 

@@ -5,14 +5,17 @@
 //! - `simulate lines`: log lines; writes the log reader's answer to each.
 //! - `simulate time FILE..`: does the events of each file without a log and prints the time.
 //! - `simulate moves FILE..`: prints how many moves by report the files lead to, all together.
+//! - `simulate recount FILE..`: counts the lines K of the log that stands beside each file once more.
 
 use simulator::fields;
 use simulator::limits::*;
 use simulator::log::{self, Line};
 use simulator::plan::{self, Refusal};
 use simulator::platform::{Platform, Step};
+use simulator::recount::{self, Moves};
 use simulator::ring;
 use std::io::{self, BufWriter, Read, Write};
+use std::path::Path;
 use std::process::ExitCode;
 use std::time::Instant;
 
@@ -25,7 +28,8 @@ fn main() -> ExitCode {
         (Some("lines"), 1) => answer_lines(&mut out, answer_log_line),
         (Some("time"), _) => arguments[1..].iter().try_for_each(|path| time(&mut out, path)),
         (Some("moves"), _) => moves(&mut out, &arguments[1..]),
-        _ => Err(io::Error::other("usage: simulate [table | lines | time FILE.. | moves FILE..]")),
+        (Some("recount"), _) => recount(&mut out, &arguments[1..]),
+        _ => Err(io::Error::other("usage: simulate [table | lines | time FILE.. | moves FILE.. | recount FILE..]")),
     };
     match answer.and_then(|()| out.flush()) {
         Ok(()) => ExitCode::SUCCESS,
@@ -115,6 +119,20 @@ fn time(out: &mut impl Write, path: &std::ffi::OsString) -> io::Result<()> {
     let seconds = start.elapsed().as_secs_f64();
     let rate = run.events as f64 / seconds.max(1e-9);
     writeln!(out, "{name}: {:?}, {} events, {seconds:.3} s, {rate:.0} events/s", run.ending, run.events)
+}
+
+/// For each run file NAME.run the log NAME.log. Prints how many lines K there are, how many of them with a number above 1, and the greatest
+/// number; or fails where one is missing, wrong or too many. The log of a refused file is not looked at.
+fn recount(out: &mut impl Write, paths: &[std::ffi::OsString]) -> io::Result<()> {
+    let mut moves = Moves::NONE;
+    for path in paths {
+        if let Ok(plan) = plan::read(&read_run_file(std::fs::File::open(path)?)?) {
+            let log = Path::new(path).with_extension("log");
+            let told = |error: String| io::Error::other(format!("{}: {error}", log.display()));
+            moves.add(&recount::of_log(&plan, &std::fs::read(&log)?).map_err(told)?);
+        }
+    }
+    writeln!(out, "{} {} {}", moves.all(), moves.passing_more(), moves.greatest())
 }
 
 /// Prints the number of reports that move a node, in all the files; a refused file has none.

@@ -1,4 +1,4 @@
-//! A simulator of document 01, with requests 101 and 102 of document 02: the ring failure detector, in any order of the ring, and
+//! A simulator of document 01, with requests 101 to 103 of document 02: the ring failure detector, in any order of the ring, and
 //! its rehearsal platform.
 //!
 //! It is a second opinion on the proved platform, written from the papers alone.
@@ -16,6 +16,7 @@
 //! - `store`: the bytes of a platform, written, read and checked.
 //! - `exhaust`: all runs of a small ring.
 //! - `log`: log lines, written, read and cut into columns.
+//! - `recount`: the lines K of a log, counted once more from the log alone.
 //! - `random`: seeded numbers.
 //! - `generator`: run files of a seed, good and damaged.
 
@@ -31,6 +32,7 @@ pub mod platform;
 pub mod queue;
 pub mod random;
 pub mod record;
+pub mod recount;
 pub mod ring;
 pub mod settle;
 pub mod store;

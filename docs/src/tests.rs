@@ -5,9 +5,10 @@ use super::generator;
 use super::log::{self, Line};
 use super::node::{Content, Node, Timer};
 use super::plan::{self, Crash, Plan};
-use super::platform::{Ending, Platform, Run, Step};
+use super::platform::{Ending, Event, Platform, Run, Step};
 use super::queue::{Cause, Message, Pending};
 use super::random::Random;
+use super::recount::{self, Moves};
 use super::ring::{self, Ring};
 use super::settle;
 use super::store;
@@ -60,7 +61,7 @@ fn for_each_event(platform: &mut Platform, mut check: impl FnMut(&mut Platform))
 fn the_worked_log() {
     let expected = "S,2,0,1,0000000000000000\nS,2,1,0,0000000000000000\nC,3,1,1,0000000000000000\n\
         X,3,1,0,0000000000000000\nH,3,0,1,0000000000000000\nS,4,0,1,0000000000000000\n\
-        X,5,1,0,0000000000000000\nW,6,0,1,0000000000000002\nE,6,1,0,0000000000000002\n";
+        X,5,1,0,0000000000000000\nW,6,0,1,0000000000000002\nK,6,0,1,0000000000000002\nE,6,1,0,0000000000000002\n";
     assert_eq!(log_of("P,2,2,3,1,6\nC,3,1\n"), expected);
 }
 
@@ -88,7 +89,7 @@ fn timers_go_by_node_and_watch_before_heartbeat() {
     let log = log_of("P,3,2,4,2,4\nC,0,1\n");
     let order: Vec<&str> =
         log.lines().filter(|line| line.split(',').nth(1) == Some("4")).map(|line| &line[..5]).collect();
-    assert_eq!(order, ["X,4,1", "H,4,0", "S,4,0", "W,4,2", "S,4,2", "E,4,2"]);
+    assert_eq!(order, ["X,4,1", "H,4,0", "S,4,0", "W,4,2", "K,4,2", "S,4,2", "E,4,2"]);
 }
 
 #[test]
@@ -103,7 +104,8 @@ fn a_node_that_becomes_alone_sends_no_heartbeat_at_that_tick() {
     let log = log_of("P,2,2,4,2,20\nC,0,1\n");
     assert!(log.contains("W,4,0,1,0000000000000002\n"));
     assert!(!log.contains("S,4,0"));
-    assert!(log.ends_with("X,4,1,0,0000000000000000\nW,4,0,1,0000000000000002\nE,20,1,0,0000000000000002\n"));
+    let end = "X,4,1,0,0000000000000000\nW,4,0,1,0000000000000002\nK,4,0,1,0000000000000002\nE,20,1,0,0000000000000002\n";
+    assert!(log.ends_with(end));
 }
 
 #[test]
@@ -158,14 +160,14 @@ fn a_shuffled_ring_settles_in_its_order() {
     assert_eq!((platform.nodes()[1].emitter, platform.nodes()[2].observer), (2, 1));
 }
 
-/// The events at which a report moves a node: the line, and the node after it.
-fn moves_by_report(file: &str) -> Vec<(Line, Node)> {
+/// The events at which a report moves a node: the event, and the node after it.
+fn moves_by_report(file: &str) -> Vec<(Event, Node)> {
     let mut platform = open(file);
     let mut moves = Vec::new();
     let mut before = platform.moves_by_report();
-    while let Step::Event(line) = platform.step() {
+    while let Step::Event(event) = platform.step() {
         if platform.moves_by_report() != before {
-            moves.push((line, platform.nodes()[line.node as usize]));
+            moves.push((event, platform.nodes()[event.line.node as usize]));
         }
         before = platform.moves_by_report();
     }
@@ -183,8 +185,9 @@ fn moves_by_report(file: &str) -> Vec<(Line, Node)> {
 fn a_reported_emitter_among_ten() {
     let (file, log) = (include_str!("../../tests/reported-ten.run"), include_str!("../../tests/reported-ten.log"));
     assert_eq!(log_of(file), log);
-    let [(line, node)] = moves_by_report(file)[..] else { panic!("there is one move by report") };
-    assert_eq!(line, Line { letter: b'R', tick: 27, node: 4, other: 0, list: 0b1111 });
+    let [(event, node)] = moves_by_report(file)[..] else { panic!("there is one move by report") };
+    let line = Line { letter: b'R', tick: 27, node: 4, other: 0, list: 0b1111 };
+    assert_eq!(event, Event { line, passed: Some(1) });
     assert_eq!((node.emitter, node.watch, node.dead_list), (9, Some(37), 0b1111));
     assert!(log.contains("W,25,4,1,000000000000000e\n") && log.contains("W,37,4,9,000000000000020f\n"));
 }
@@ -199,8 +202,9 @@ fn a_reported_emitter_among_ten() {
 fn a_reported_emitter_among_nine() {
     let (file, log) = (include_str!("../../tests/reported-nine.run"), include_str!("../../tests/reported-nine.log"));
     assert_eq!(log_of(file), log);
-    let [(line, node)] = moves_by_report(file)[..] else { panic!("there is one move by report") };
-    assert_eq!(line, Line { letter: b'R', tick: 81, node: 5, other: 1, list: 0b11110 });
+    let [(event, node)] = moves_by_report(file)[..] else { panic!("there is one move by report") };
+    let line = Line { letter: b'R', tick: 81, node: 5, other: 1, list: 0b11110 };
+    assert_eq!(event, Event { line, passed: Some(1) });
     assert_eq!((node.emitter, node.watch, node.dead_list), (0, Some(107), 0b11110));
     assert!(log.contains("O,93,0,5,000000000000001e\n") && log.contains("S,93,0,5,000000000000001e\n"));
 }
@@ -214,11 +218,132 @@ fn a_node_is_alone_by_report_in_a_lent_store() {
     let message = Message { number: 0, sender: 2, receiver: 1, content: Content::Report { subject: 0 } };
     let lent = store::encode(&Platform::resume(opened.plan().clone(), nodes, vec![(3, message)], 1, 0, 3));
     let mut platform = store::decode(&lent).expect("the store is in range").platform;
-    assert_eq!(platform.step(), Step::Event(Line { letter: b'R', tick: 3, node: 1, other: 0, list: 0b101 }));
+    let line = Line { letter: b'R', tick: 3, node: 1, other: 0, list: 0b101 };
+    let step = platform.step();
+    assert_eq!(step, Step::Event(Event { line, passed: Some(2) }));
+    assert_eq!(step.lines().collect::<Vec<Line>>(), [line, Line { letter: b'K', other: 2, ..line }]);
     let node = platform.nodes()[1];
     assert_eq!((node.emitter, node.observer, node.watch, node.heartbeat), (1, 1, None, None));
     assert_eq!((platform.moves_by_report(), platform.in_flight()), (1, 0));
     assert!(store::check(&store::encode(&platform)));
+}
+
+/// The lines of a file's log that a move leads to: W, or R of the emitter, and K after it.
+fn moves_of(file: &str) -> Vec<String> {
+    let log: Vec<String> = log_of(file).lines().map(str::to_string).collect();
+    log.windows(2).filter(|pair| pair[1].starts_with('K')).flat_map(<[String]>::to_vec).collect()
+}
+
+/// "N 3, node 0 left 2 before and now leaves 1: it passes 1", and is alone. 2 is listed, but it was not passed again.
+#[test]
+fn a_node_left_before_is_not_passed_again() {
+    let moves = moves_of("P,3,2,3,1,12\nC,1,1\nC,1,2\n");
+    let expected = ["W,3,0,2,0000000000000004", "K,3,0,1,0000000000000004", "W,9,0,1,0000000000000006", "K,9,0,1,0000000000000006"];
+    assert_eq!(moves, expected);
+}
+
+/// H 2, W 3, D 1. Node 3 crashes at tick 5, after its heartbeat of tick 4, which renews the watch of 0 to 8. 0 leaves 3 for 2 and reports to
+/// 1 and 2. At tick 19 node 0 crashes, after its heartbeat of tick 18: the watch of 1 is due at 22, and it goes back from 0 over 3 to 2, which
+/// gets the O at 23 and sends at once, then at 25, 27 and 29. It crashes at 31: at 33 node 1 goes back from 2, and is alone.
+#[test]
+fn a_node_listed_by_report_is_passed() {
+    let expected = [
+        "W,8,0,3,0000000000000008", "K,8,0,1,0000000000000008", "W,22,1,0,0000000000000009", "K,22,1,2,0000000000000009",
+        "W,33,1,2,000000000000000d", "K,33,1,1,000000000000000d",
+    ];
+    assert_eq!(moves_of("P,4,2,3,1,60\nC,5,3\nC,19,0\nC,31,2\n"), expected);
+}
+
+/// The same in the ring 2 → 0 → 3 → 1 → 2: its nodes 2, 0, 3 and 1 are as 0, 1, 2 and 3 above.
+#[test]
+fn a_node_listed_by_report_is_passed_in_a_shuffled_ring() {
+    let expected = [
+        "W,8,2,1,0000000000000002", "K,8,2,1,0000000000000002", "W,22,0,2,0000000000000006", "K,22,0,2,0000000000000006",
+        "W,33,0,3,000000000000000e", "K,33,0,1,000000000000000e",
+    ];
+    assert_eq!(moves_of("P,4,2,3,1,60\nQ,2,0,3,1\nC,5,1\nC,19,2\nC,31,3\n"), expected);
+}
+
+/// The ring of nine above beside a node 1 that crashes at once: when all list it, the others stand in the ring as those nine do, 0 as 0 and
+/// each from 2 on as the one before, and what happens 100 ticks later is the same. So at tick 181 a report makes node 6 leave 2, and it
+/// passes 2 and 1. With the nodes 1 and 2 crashed so it is node 7 at tick 281, which passes three.
+#[test]
+fn a_move_by_report_passes_more() {
+    let two = "P,10,1,13,12,220\nC,0,1\nC,103,5\nC,121,2\nC,132,4\nC,150,3\n";
+    let three = "P,11,1,13,12,320\nC,0,1\nC,0,2\nC,203,6\nC,221,3\nC,232,5\nC,250,4\n";
+    for (file, tick, node, left, list, passed) in [(two, 181, 6, 2, 0b111110, 2), (three, 281, 7, 3, 0b1111110, 3)] {
+        let [(event, after)] = moves_by_report(file)[..] else { panic!("there is one move by report") };
+        let line = Line { letter: b'R', tick, node, other: left, list };
+        assert_eq!((event, after.emitter), (Event { line, passed: Some(passed) }, 0));
+    }
+}
+
+/// All but node 0 crash, S and more apart, 63 being the last, which node 0 observes from the start: it passes all 63 and is alone. The others
+/// crash going ahead from 1. So each is left by its neighbour, which passes it and all those before it but 0.
+#[test]
+fn the_greatest_number_passed_is_63() {
+    let crashes: String = (1..64).map(|node| format!("C,{},{node}\n", 20 * node)).collect();
+    let file = format!("P,64,1,3,2,1300\n{crashes}");
+    let numbers: Vec<String> = moves_of(&file).iter().filter(|line| line.starts_with('K')).cloned().collect();
+    assert_eq!(numbers.len(), 63);
+    for (place, line) in (1u64..).zip(&numbers) {
+        let line = Line::read(format!("{line}\n").as_bytes()).unwrap();
+        assert_eq!((line.node, line.other, line.list), ((place + 1) % 64, place, u64::MAX >> (63 - place) & !1));
+    }
+    let moves = recount::of_log(open(&file).plan(), log_of(&file).as_bytes()).unwrap();
+    assert_eq!((moves.greatest(), moves.alone, moves.by_report), (63, 1, 0));
+}
+
+/// Eight nodes at tick 3, with so many messages in flight. Node 1 leaves 0 next, by its watch or by a report, and sends four messages.
+fn about_to_move(in_flight: usize, by_report: bool) -> Platform {
+    let opened = open("P,8,1,20,19,100\n");
+    let mut nodes = opened.nodes().to_vec();
+    nodes.iter_mut().for_each(|node| node.heartbeat = Some(4));
+    nodes[1].watch = Some(if by_report { 9 } else { 3 });
+    nodes[1].dead_list = 1 << 7;
+    let heartbeat = |number| (5, Message { number, sender: 2, receiver: 3, content: Content::Heartbeat });
+    let mut messages: Vec<(u32, Message)> = (0..in_flight as u64).map(heartbeat).collect();
+    if by_report {
+        messages[0] = (3, Message { number: 0, sender: 2, receiver: 1, content: Content::Report { subject: 0 } });
+    }
+    Platform::resume(opened.plan().clone(), nodes, messages, in_flight as u64, 0, 3)
+}
+
+/// "a refused event": neither of its lines is written. One message fewer, and both are; a run counts one event.
+#[test]
+fn a_refused_move_writes_neither_line() {
+    for (by_report, letter, most) in [(false, b'W', 2_044), (true, b'R', 2_045)] {
+        let mut refused = about_to_move(most + 1, by_report);
+        let before = state(&refused);
+        assert_eq!(refused.run(7), Run { ending: Ending::Refused, events: 0 });
+        assert_eq!(refused.step(), Step::Refused);
+        assert_eq!(refused.step().lines().count(), 0);
+        assert_eq!(state(&refused), before);
+        let mut platform = about_to_move(most, by_report);
+        let line = Line { letter, tick: 3, node: 1, other: 0, list: 1 << 7 | 1 };
+        let step = platform.clone().step();
+        assert_eq!(step.lines().collect::<Vec<Line>>(), [line, Line { letter: b'K', other: 2, ..line }]);
+        assert_eq!(platform.run(1), Run { ending: Ending::Spent, events: 1 });
+        assert_eq!((platform.in_flight(), platform.events_done()), (2_048, 1));
+    }
+}
+
+/// Each line K of generated plans' logs, recounted from the log alone, and nowhere another. Lines come up with one node passed, with more
+/// and with many; by report and alone.
+#[test]
+fn lines_k_of_generated_plans() {
+    let mut moves = Moves::NONE;
+    for index in 0..400 {
+        let file = match index % 3 {
+            0 => generator::reported_plan(SEED + 8, index, generator::SMALL),
+            _ => generator::plan(SEED + 8, index),
+        };
+        let (plan, file) = (plan::read(&file).unwrap(), String::from_utf8(file).unwrap());
+        let found = recount::of_log(&plan, log_of(&file).as_bytes()).unwrap_or_else(|error| panic!("index {index}: {error}"));
+        moves.add(&found);
+    }
+    assert!(moves.all() > 1_500 && moves.passing_more() > 200 && moves.greatest() > 9, "{moves:?}");
+    assert!(moves.by_report > 20 && moves.alone > 20 && moves.passed[0] == 0, "{moves:?}");
 }
 
 /// A Q line in number order, or a rotation of it, is the ring without one; so it is with one node.

@@ -11,7 +11,6 @@ use Rattle.node.specs.Node.{Turn, turned}
 use Rattle.model.specs.declared.Deed.{Deed}
 use Rattle.plans.specs.Plan.{Plan}
 use Rattle.model.specs.Platform.{InFlight, State, Event, Entry, Outcome, did, crashedList, nodeOf, taken, left}
-use Rattle.model.specs.Lines.{deed}
 use Rattle.store.specs.Store.{encode, planIn, stateIn}
 use Rattle.store.specs.Inside.{withFlight}
 use Rattle.event.specs.declared.Happened.{Happened}
@@ -113,8 +112,8 @@ same-flight : (s : State) → s ≡ withFlight s (s .flight)
 unfolding withFlight
 same-flight s = refl
 
-module _ {b q : List ℕ} {c : Progress} {whole : List ℕ} (k : Underway b q c whole) {e : Event} {turn : Plan → Node → Turn} {letter : ℕ}
-    {other : Node → ℕ} (d : Timer whole (c .bound) (c .x) e turn letter other) where
+module _ {b q : List ℕ} {c : Progress} {whole : List ℕ} (k : Underway b q c whole) {e : Event} {turn : Plan → Node → Turn}
+    {tells : Node → Node → ℕ → Deed} (d : Timer whole (c .bound) (c .x) e turn tells) where
   -- what is asked for where the run's store is read for the turn
   pub timer-asks : Acting b × ((c .bound ≤ mostTick) × (c .x < planIn b .n))
   timer-asks = (apart-acting (k .apart) (k .ready), (timer-tick d, rw (apart-plan (k .apart)) (d .place)))
@@ -127,9 +126,9 @@ module _ {b q : List ℕ} {c : Progress} {whole : List ℕ} (k : Underway b q c 
     pub timer-settling : c .end + mostSent ≤ places → Settling b q c (c .bound) (c .x) u
     timer-settling room = record { whole = whole; apart = k .apart; few = timer-count d turn-is; turns = timer-turns d turn-is; room = room }
 
-    module _ {l : Deed} (le : l ≡ deed letter (c .bound) (c .x) (other (nodeOf (stateIn b) (c .x))) (u .node .list)) where
-      deed-is : l ≡ deed letter (c .bound) (c .x) (other (nodeOf (stateIn whole) (c .x))) (u .node .list)
-      deed-is = le ∙ ap (λ (n : Node). deed letter (c .bound) (c .x) (other n) (u .node .list)) (apart-node (k .apart) (c .x))
+    module _ {l : Deed} (le : l ≡ tells (nodeOf (stateIn b) (c .x)) (u .node) (u .passed)) where
+      deed-is : l ≡ tells (nodeOf (stateIn whole) (c .x)) (u .node) (u .passed)
+      deed-is = le ∙ ap (λ (n : Node). tells n (u .node) (u .passed)) (apart-node (k .apart) (c .x))
 
       timer-given : Given whole whole (stateIn whole .flight) (c .bound) (c .x) u l
       timer-given = record {

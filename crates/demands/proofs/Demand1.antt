@@ -1,5 +1,5 @@
 -- Demand 1: what is refused, by which number, and that a refused call leaves what it was lent. Assumes nothing.
-use mathlib.Core.Path.{_≡_, refl, sym, ap, _∙_, subst}
+use mathlib.Core.Path.{_≡_, refl, sym, ap, _∙_}
 use mathlib.Core.Logic.{_≢_}
 use mathlib.Core.Bool.{Bool, true, false, true≢false, cond, not, _&&_}
 use mathlib.Core.List.{List, [], _∷_}
@@ -171,7 +171,7 @@ open-down file store = go (fileOf file) refl
 pub step-down : (store log : List ℕ)
     → TurnsDown (stepRefusal (step store log .answer)) (stepPlaces store log) ((step store log .store ≡ store) × (step store log .log ≡ log))
 unfolding step stepPlaces firstBroken stepRefusal
-step-down store log = go (storeInRange store) (ltb (length log) 40)
+step-down store log = go (storeInRange store) (ltb (length log) 80)
   where
     p : Plan
     p = planIn store
@@ -360,9 +360,9 @@ line-down l out = go (ranges (l .letter))
     by node other true false = record { first = refl; untouched = λ h. absurd (h refl) }
 
     go : (r : Ranges) → TurnsDown (lineRefusal (writtenIn r l (length out)))
-        (place (letterUnknown r) 2 ∷ place (outside r l) 3 ∷ place (ltb (length out) 40) 9 ∷ [])
+        (place (letterUnknown r) 2 ∷ place (outside r l) 3 ∷ place (ltb (length out) 80) 9 ∷ [])
         (holds (writtenIn r l (length out)) l out ≡ out)
-    go (upTo node other) = by node other (within l node other) (ltb (length out) 40)
+    go (upTo node other) = by node other (within l node other) (ltb (length out) 80)
     go unknown = record { first = refl; untouched = λ h. refl }
 
 pub table-down : (n d : ℕ) → tableAnswer n d ≡ firstBroken (tablePlaces n d)

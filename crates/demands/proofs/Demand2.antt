@@ -2,35 +2,35 @@
 -- Assumes nothing.
 use mathlib.Core.Path.{_≡_, refl, sym, ap, _∙_, subst}
 use mathlib.Core.Bool.{Bool, true, false}
-use mathlib.Core.List.{List, [], _∷_, _++_, append-nil}
-use Prim.Native.Nat.{ℕ, suc, _^_, _≤_, _<_}
+use mathlib.Core.List.{List, [], _∷_, _++_, append-nil, List·Memᴰ}
+use Prim.Native.Nat.{ℕ, _^_, _≤_, _<_}
 use native.Mathlib.Nat.{pow-le-pow-right}
 use native.Mathlib.Omega.{arith}
 use native.Mathlib.Decide.{decLt}
 use lib.Dec.{lit<}
 use borrow.Author.Tests.{le-ltb}
 use lib.ListN.{length, getD, List·getD-eq-default}
-use Rattle.limits.specs.Limits.{lineRoom, storeSize, fileRoom}
+use Rattle.limits.specs.Limits.{logRoom, storeSize, fileRoom}
 use Rattle.text.specs.Put.{put}
 use Rattle.logline.specs.declared.Line.{Line}
 use Rattle.logline.specs.declared.Read.the-variants.{Accepted as Read}
 use Rattle.logline.specs.Line.{lineText, readOf}
 use Rattle.logline.proofs.LineTrip.{text-accepted}
-use Rattle.plans.specs.Plan.{Crash, Plan}
+use Rattle.plans.specs.Plan.{Plan}
 use Rattle.runfile.specs.File.{accepted, fileOf}
 use Rattle.runfile.proofs.RoundTrip.{written-back, accepted-plan}
 use Rattle.node.specs.Node.{alone}
-use Rattle.model.specs.Platform.{State, Event, Entry, crash, message, watch, heartbeat, Outcome, did, ended, refused, alive, nodeOf, messageAt, try, left}
-use Rattle.model.specs.Platform.{steps, after}
-use Rattle.model.specs.Lines.{lineOf, eventLines, lastLine, linesFrom, messageDeed, deedOf, deedLines, linesText}
+use Rattle.model.specs.Platform.{State, Event, Entry, crash, message, watch, heartbeat, Outcome, did, ended, refused, alive, nodeOf, messageAt, received}
+use Rattle.model.specs.Platform.{try, left, steps, after}
+use Rattle.model.specs.Lines.{eventLines, lastLine, linesFrom, crashDeed, messageDeed, watchDeed, heartbeatDeed, deedOf, linesText}
 use Rattle.plans.proofs.Facts.{plan-plain}
 use Rattle.model.proofs.Plans.{plan-accepted}
-use Rattle.plans.specs.Plain.{noCrash, Plain}
+use Rattle.plans.specs.Plain.{Plain}
 use Rattle.model.specs.Range.{Sound}
 use Rattle.model.proofs.RangesKept.{try-ok, left-range, after-range}
 use Rattle.store.specs.Store.{encode, planIn, stateIn, storeInRange}
 use Rattle.model.proofs.SettledNode.{crashed-lt}
-use Rattle.model.proofs.Lines.{did-in-ranges, last-in-ranges}
+use Rattle.model.proofs.Lines.{lines-list, did-in-ranges, last-in-ranges}
 use Rattle.platform.specs.declared.Wrote.the-variants.{Bytes}
 use Rattle.platform.specs.declared.Stepped.the-variants.{Did, Done}
 use Rattle.platform.specs.declared.Ran.the-variants.{Done as Finished, Spent}
@@ -51,17 +51,15 @@ outcome-log p s ended store log = ap (put log 0) (sym (append-nil (lineText (las
 outcome-log p s refused store log = refl
 
 outcome-answer : (p : Plan) (s : State) (o : Outcome) (store log : List ℕ) → stepOutcome p s o store log .answer ≡ stepAnswer p s o
-unfolding stepOutcome stepAnswer linesText deedLines
-outcome-answer p s (did e s') store log =
-    let l : Line = lineOf p s s' (e .tick) (e .event) in
-    ap (λ (t : List ℕ). Did l (length t)) (append-nil (lineText l))
+unfolding stepOutcome stepAnswer
+outcome-answer p s (did e s') store log = refl
 outcome-answer p s ended store log = refl
 outcome-answer p s refused store log = refl
 
 module _ (b : List ℕ) (p : Plan) (s : State) (held : b ≡ encode p s) (inside : storeInRange b ≡ true) (plan : planIn b ≡ p)
     (state : stateIn b ≡ s) where
-  stepped : (log : List ℕ) → lineRoom ≤ length log → step b log ≡ stepOutcome p s (try p s) b log
-  stepped log room = step-in b p s inside plan state log ∙ rw (le-ltb (length log) lineRoom room) refl
+  stepped : (log : List ℕ) → logRoom ≤ length log → step b log ≡ stepOutcome p s (try p s) b log
+  stepped log room = step-in b p s inside plan state log ∙ rw (le-ltb (length log) logRoom room) refl
 
   next-of : NextEvents p s b
   unfolding steps linesFrom runState
@@ -110,7 +108,7 @@ module _ (file store : List ℕ) (p : Plan) (ok : fileOf file ≡ accepted p) (s
       write-in b p s inside plan state out room
       ∙ ap (λ (text : List ℕ). record { answer = Bytes (length text); out = put out 0 text }) (written-back file p ok)
 
--- ---- every event's line is one that the reader takes
+-- ---- every line of an event is one that the reader takes
 
 -- a node's list has 64 bits at most
 list-small : (p : Plan) → Plain p → (s : State) → Sound p s → (x : ℕ) → (nodeOf s x) .list < 2 ^ 64
@@ -120,27 +118,30 @@ list-small p pl s r x = go (decLt x (p .n))
     go (yes h) = omega (arith, r .fields x h .list, pow-le-pow-right {n = 2} (lit< tt) (pl .n≤))
     go (no h) = rw (List·getD-eq-default (s .nodes) (alone x 0) {n = x} (rw (r .nodes) (omega arith))) (lit< tt)
 
-line-list : (p : Plan) → Plain p → (s s' : State) → Sound p s' → (t : ℕ) (e : Event) → (lineOf p s s' t e) .list < 2 ^ 64
-unfolding deedOf messageDeed
-line-list p pl s s' r t (crash k) = list-small p pl s' r k
-line-list p pl s s' r t (message i) = go (alive p (s .done) ((messageAt s i) .to))
+deed-list : (p : Plan) → Plain p → (s s' : State) → Sound p s' → (t : ℕ) (e : Event) → deedOf p s s' t e .list < 2 ^ 64
+unfolding deedOf crashDeed messageDeed watchDeed heartbeatDeed
+deed-list p pl s s' r t (crash k) = list-small p pl s' r k
+deed-list p pl s s' r t (message i) = go (alive p (s .done) ((messageAt s i) .to))
   where
-    go : (live : Bool) → (messageDeed t (messageAt s i) live ((nodeOf s' ((messageAt s i) .to)) .list)) .list < 2 ^ 64
-    go true = list-small p pl s' r ((messageAt s i) .to)
-    go false = list-small p pl s' r ((messageAt s i) .to)
-line-list p pl s s' r t (watch x) = list-small p pl s' r x
-line-list p pl s s' r t (heartbeat x) = list-small p pl s' r x
+    to : ℕ
+    to = (messageAt s i) .to
+
+    go : (live : Bool) → messageDeed t (messageAt s i) live (nodeOf s to) (nodeOf s' to) (received p s t (messageAt s i) .passed) .list < 2 ^ 64
+    go true = list-small p pl s' r to
+    go false = list-small p pl s' r to
+deed-list p pl s s' r t (watch x) = list-small p pl s' r x
+deed-list p pl s s' r t (heartbeat x) = list-small p pl s' r x
 
 pub line-read : (file : List ℕ) (p : Plan) → fileOf file ≡ accepted p → (k : ℕ) (e : Entry) (s' : State) → try p (after p k) ≡ did e s'
-    → let l : Line = lineOf p (after p k) s' (e .tick) (e .event) in readOf (lineText l) ≡ Read l
+    → (l : Line) → List·Memᴰ l (eventLines p (after p k) s' e) → readOf (lineText l) ≡ Read l
 unfolding left
-line-read file p ok k e s' h =
+line-read file p ok k e s' h l m =
     let pl : Plain p = plan-plain p (accepted-plan file p ok) in
     let s : State = after p k in
     let r : Sound p s = after-range p pl k in
     let r' : Sound p s' = subst (λ (o : Outcome). Sound p (left s o)) h (left-range p pl s r (try p s) (try-ok p pl s r)) in
-    let l : Line = lineOf p s s' (e .tick) (e .event) in
-    text-accepted l (did-in-ranges p pl s r e s' h) (line-list p pl s s' r' (e .tick) (e .event))
+    let list : l .list ≡ deedOf p s s' (e .tick) (e .event) .list = lines-list _ l m in
+    text-accepted l (did-in-ranges p pl s r e s' h l m) (rw list (deed-list p pl s s' r' (e .tick) (e .event)))
 
 -- ---- and so is the last line
 

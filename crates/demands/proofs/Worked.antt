@@ -8,7 +8,8 @@ use Prim.Native.Nat.{ℕ, _≤_}
 use native.Mathlib.Omega.{arith}
 use lib.ListN.{length, replicate}
 use Rattle.fields.specs.Fields.{bytes, value, fieldAt, zeros}
-use Rattle.ring.specs.Ring.{keep, numbers, among, eachOnce, listed, listing, unlisted, round, place, ahead, back, next, count, powers, jumps, targets}
+use Rattle.ring.specs.Ring.{keep, numbers, among, eachOnce, listed, listing, unlisted, passing, round, place, ahead}
+use Rattle.ring.specs.Ring.{firstUnlisted, back, next, count, powers, jumps, targets}
 use Rattle.node.specs.declared.Node.{Node}
 use Rattle.node.specs.Node.{reports, opening, onHeartbeat, onObserver, onReport, onHeartbeatDue, onMessage, leaving}
 use Rattle.node.specs.Range.{nodeTest, apart, liveTest}
@@ -46,7 +47,7 @@ node = record { emitter = 1; observer = 1; watch = 6; heartbeat = 4; list = 0 }
 pub ninth : (nodeOf (after two 8) 0 ≡ node)
     × (nextEvent two (after two 8) ≡ some (record { tick = 3; event = heartbeat 0 }))
     × (lastTick two 0 8 ≡ 3)
-unfolding two node keep numbers listed listing unlisted round place ahead back next count powers jumps targets reports opening
+unfolding two node keep numbers listed listing unlisted passing round place ahead firstUnlisted back next count powers jumps targets reports opening
     onHeartbeat onObserver onReport onHeartbeatDue leaving onMessage ringOrder orderOf hits among alive start crashEntries messageEntries timerEntry
     timerEntries pending earlier first upTo nextEvent delayIn delayOf numbered turned without received apply fits tried try left steps after
     callTo tickOr ticked lastTick

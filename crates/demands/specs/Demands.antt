@@ -3,12 +3,12 @@
 use mathlib.Core.Path.{_≡_}
 use mathlib.Core.Logic.{_≢_, _⊎_}
 use mathlib.Core.Bool.{Bool, true, false, cond, not, _&&_}
-use mathlib.Core.List.{List, [], _∷_}
+use mathlib.Core.List.{List, [], _∷_, List·Memᴰ}
 use mathlib.Core.Option.{Option, none, some}
 use Prim.Native.Nat.{ℕ, _+_, _/_, _%_, _^_, _≤_, _<_}
 use lib.Dec.{eqb, leb, ltb}
 use lib.ListN.{length, getD, take}
-use Rattle.limits.specs.Limits.{mostNodes, mostInFlight, lineRoom, recordSize, storeSize, fileRoom}
+use Rattle.limits.specs.Limits.{mostNodes, mostInFlight, logRoom, recordSize, storeSize, fileRoom}
 use Rattle.ring.specs.Ring.{numbers, tableAnswer}
 use Rattle.text.specs.Put.{put}
 use Rattle.text.specs.Number.{decimal}
@@ -22,7 +22,7 @@ use Rattle.logline.specs.declared.Written.{Written}
 use Rattle.logline.specs.declared.Written.the-variants.{Bytes as LineBytes, Refused as LineRefused}
 use Rattle.logline.specs.Line.{Ranges, upTo, unknown, ranges, within, readOf, fields as columnsOf, lineText, writtenOf, outOf}
 use Rattle.model.specs.Platform.{State, Entry, nextEvent, apply, Outcome, did, ended, refused, try, steps, eventCount, runAnswer, firstEvents, after}
-use Rattle.model.specs.Lines.{lineOf, lastLine, linesText, linesFrom}
+use Rattle.model.specs.Lines.{lineOf, eventLines, lastLine, linesText, linesFrom}
 use Rattle.model.specs.Claims.{CrashedAre, Safe, LogRoundedUp, K, Settles}
 use Rattle.host.specs.Record.{decode, openable, sound}
 use Rattle.host.specs.Call.{tickTaken, messageTaken, openAnswer, openLeaves, deliverAnswer, deliverLeaves, deliverSends}
@@ -82,7 +82,7 @@ overfull p s = overfullBy p s (nextEvent p s)
 
 unfoldable pub stepPlaces : List ℕ → List ℕ → List Place
 stepPlaces store log =
-    place (not (storeInRange store)) 7 ∷ place (ltb (length log) 40) 9 ∷ place (overfull (planIn store) (stateIn store)) 8 ∷ []
+    place (not (storeInRange store)) 7 ∷ place (ltb (length log) 80) 9 ∷ place (overfull (planIn store) (stateIn store)) 8 ∷ []
 
 -- a run stands before such an event with some of its budget left
 unfoldable pub stopped : Plan → State → ℕ → Bool
@@ -138,7 +138,7 @@ outside unknown l = true
 
 unfoldable pub linePlaces : Line → List ℕ → List Place
 linePlaces l out =
-    place (letterUnknown (ranges (l .letter))) 2 ∷ place (outside (ranges (l .letter)) l) 3 ∷ place (ltb (length out) 40) 9 ∷ []
+    place (letterUnknown (ranges (l .letter))) 2 ∷ place (outside (ranges (l .letter)) l) 3 ∷ place (ltb (length out) 80) 9 ∷ []
 
 unfoldable pub lineRefusal : Written → ℕ
 lineRefusal (LineBytes size) = 0
@@ -201,23 +201,23 @@ pub record Demand1 : Type 0 where
 abbrev pub storeOf : List ℕ → List ℕ → List Call → List ℕ
 storeOf file store cs = storeAfterAll cs (openFile file store .store)
 
--- 'A step does one event, answers it and writes its line, or answers done': its line, and how many bytes that has
+-- 'A step does one event, answers it and writes its line, or answers done': the event's own line, and how many bytes all its lines have
 unfoldable pub stepAnswer : Plan → State → Outcome → Stepped
-stepAnswer p s (did e s') = let l : Line = lineOf p s s' (e .tick) (e .event) in Did l (length (lineText l))
+stepAnswer p s (did e s') = Did (lineOf p s s' (e .tick) (e .event)) (length (linesText (eventLines p s s' e)))
 stepAnswer p s ended = Done (lastLine p s) (length (lineText (lastLine p s)))
 stepAnswer p s refused = Unstepped 8
 
 -- the next call on a store, whose plan is p and whose state is s, does the next events that 01 fixes
 pub record NextEvents (p : Plan) (s : State) (store : List ℕ) : Type 0 where
-  -- a step does one, answers it and writes its line, or answers done with the last line where none is left
-  pub stepStore : (log : List ℕ) → lineRoom ≤ length log → step store log .store ≡ encode p (steps p 1 s)
-  pub stepLines : (log : List ℕ) → lineRoom ≤ length log → step store log .log ≡ put log 0 (linesText (linesFrom p 1 s))
-  pub stepAnswers : (log : List ℕ) → lineRoom ≤ length log → step store log .answer ≡ stepAnswer p s (try p s)
+  -- a step does one, answers it and writes its lines, or answers done with the last line where none is left
+  pub stepStore : (log : List ℕ) → logRoom ≤ length log → step store log .store ≡ encode p (steps p 1 s)
+  pub stepLines : (log : List ℕ) → logRoom ≤ length log → step store log .log ≡ put log 0 (linesText (linesFrom p 1 s))
+  pub stepAnswers : (log : List ℕ) → logRoom ≤ length log → step store log .answer ≡ stepAnswer p s (try p s)
   -- a run does its budget's, and answers how many it did
   pub runStore : (budget : ℕ) → run store budget .store ≡ encode p (steps p budget s)
   pub runAnswers : (budget : ℕ) → run store budget .answer ≡ ran (runAnswer p budget s) (eventCount p budget s)
 
--- behind the pointers of an accepted step from C stand its line's letter, tick, node and other and the line's length
+-- behind the pointers of an accepted step from C stand its own line's letter, tick, node and other and the length of all its lines
 abbrev pub StepPuts : Stepped → Line → ℕ → ℕ → Type 0
 StepPuts a l size was =
     (stepLetter a was ≡ l .letter) × (stepTick a was ≡ l .tick) × (stepNode a was ≡ l .node) × (stepOther a was ≡ l .other)
@@ -238,9 +238,9 @@ pub record Demand2 : Type 0 where
   pub runPuts : (n was : ℕ) → ((runEvents (Finished n) was ≡ n) × (runSpent (Finished n) was ≡ 0))
       × ((runEvents (Spent n) was ≡ n) × (runSpent (Spent n) was ≡ 1))
   pub writePuts : (n was : ℕ) → writeSize (Bytes n) was ≡ n
-  -- every event's line, and the last line, is one that the log reader takes, and such a line has five columns
+  -- every line of an event, and the last line, is one that the log reader takes, and such a line has five columns
   pub lines : (file : List ℕ) (p : Plan) → fileOf file ≡ accepted p → (k : ℕ) (e : Entry) (s' : State) → try p (after p k) ≡ did e s'
-      → let l : Line = lineOf p (after p k) s' (e .tick) (e .event) in readOf (lineText l) ≡ LineRead l
+      → (l : Line) → List·Memᴰ l (eventLines p (after p k) s' e) → readOf (lineText l) ≡ LineRead l
   pub lastLines : (file : List ℕ) (p : Plan) → fileOf file ≡ accepted p → (k : ℕ)
       → let l : Line = lastLine p (after p k) in readOf (lineText l) ≡ LineRead l
   pub columns : (text : List ℕ) (l : Line) → readOf text ≡ LineRead l
@@ -252,7 +252,7 @@ pub record Demand2 : Type 0 where
       → (cs : List Call) (out : List ℕ) → fileRoom ≤ length out
       → writeFile (storeOf file store cs) out ≡ record { answer = Bytes (length file); out = put out 0 file }
   -- a log's line that is read and written again, and one that is written and read
-  pub lineAgain : (text : List ℕ) (l : Line) (out : List ℕ) → readOf text ≡ LineRead l → lineRoom ≤ length out
+  pub lineAgain : (text : List ℕ) (l : Line) (out : List ℕ) → readOf text ≡ LineRead l → logRoom ≤ length out
       → (writtenOf l (length out) ≡ LineBytes (length text)) × (outOf l out ≡ put out 0 text)
   pub lineBack : (l : Line) (out : List ℕ) (size : ℕ) → writtenOf l (length out) ≡ LineBytes size → l .list < 2 ^ 64
       → readOf (take size (outOf l out)) ≡ LineRead l

@@ -1,30 +1,33 @@
 -- The table of document 01's starred edges, an entry each with 01's words above it: what a definition gives there; and those of document
--- 02's line Q and of its reported emitter. To add one, write its line here and `refl` for it in proofs/Starred.antt. Assumes nothing.
+-- 02's line Q, of its reported emitter and of its line K. To add one, write its line here and `refl` for it in proofs/Starred.antt. Assumes nothing.
 use mathlib.Core.Path.{_≡_}
 use mathlib.Core.List.{List, [], _∷_, _++_}
 use Prim.Native.Nat.{ℕ}
 use Prim.Native.Char.{code}
 use Prim.Native.String.{String, [] as empty, _∷_ as before}
-use Rattle.ring.specs.Ring.{numbers, listing, place, back, powers, targets}
+use Rattle.ring.specs.declared.NodeBefore.{NodeBefore}
+use Rattle.ring.specs.Ring.{numbers, listing, nodeBefore, place, back, backFrom, powers, targets}
 use Rattle.node.specs.declared.Node.{Node}
-use Rattle.node.specs.Node.{Turn, due, O, R, message, silent, alone, onMessage}
+use Rattle.node.specs.Node.{Turn, turn, due, O, R, message, silent, sending, alone, onMessage}
 use Rattle.runfile.specs.File.{FileAnswer, accepted, turnedDown, fileOf}
 use Rattle.plans.specs.Plan.{startPlan, withRing, withDelay}
 use Rattle.logline.specs.declared.Line.{Line}
-use Rattle.logline.specs.Line.{lineText}
-use Rattle.model.specs.Lines.{log}
+use Rattle.logline.specs.declared.Read.the-variants.{Accepted, Refused}
+use Rattle.logline.specs.declared.Written.the-variants.{Bytes, Refused as Unwritten}
+use Rattle.logline.specs.Line.{letterK, readOf, lineText, writtenOf as lineWritten}
+use Rattle.model.specs.Lines.{line, log}
 
 -- the dead list with these nodes listed
 unfoldable pub dead : List ℕ → ℕ
 dead [] = 0
 dead (i ∷ is) = listing (dead is) i
 
--- the forward targets of node i, and the node that the search from i back leads to, in the ring of n nodes in number order
+-- the forward targets of node i, and the search back from node i that is just left, in the ring of n nodes in number order
 unfoldable pub targetsOf : ℕ → ℕ → ℕ → List ℕ
 targetsOf n d i = targets (numbers 0 n) d (place (numbers 0 n) i)
 
-unfoldable pub backFrom : ℕ → ℕ → ℕ → ℕ
-backFrom n d i = back (numbers 0 n) d (place (numbers 0 n) i)
+unfoldable pub searchFrom : ℕ → ℕ → ℕ → NodeBefore
+searchFrom n d i = backFrom (numbers 0 n) d i
 
 -- node 5 of eight with these nodes listed and 4 as emitter, watch and heartbeat due at ticks 24 and 21
 unfoldable pub five : List ℕ → Node
@@ -56,7 +59,7 @@ written (turnedDown number line) = []
 unfoldable pub logOf : String → List ℕ
 logOf file = written (judged file)
 
--- the log above the starred edges
+-- the log above the starred edges, which "gains `K,6,0,1,0000000000000002` after its W line" by document 02's #103
 unfoldable pub workedLog : List ℕ
 workedLog =
     bytes "S,2,0,1,0000000000000000\n"
@@ -67,6 +70,7 @@ workedLog =
     ++ bytes "S,4,0,1,0000000000000000\n"
     ++ bytes "X,5,1,0,0000000000000000\n"
     ++ bytes "W,6,0,1,0000000000000002\n"
+    ++ bytes "K,6,0,1,0000000000000002\n"
     ++ bytes "E,6,1,0,0000000000000002\n"
 
 pub record Edges : Type 0 where
@@ -87,9 +91,9 @@ pub record Edges : Type 0 where
   -- "m 5: 1, 2, 4"
   pub powers-below-5 : powers 5 ≡ 1 ∷ 2 ∷ 4 ∷ []
   -- "N 5, node 0 with 3 and 4 listed goes back from 4 to 2"
-  pub back-over-listed : backFrom 5 (dead (3 ∷ 4 ∷ [])) 4 ≡ 2
+  pub back-over-listed : searchFrom 5 (dead (3 ∷ 4 ∷ [])) 4 .node ≡ 2
   -- "with all others listed, to itself"
-  pub back-to-itself : backFrom 5 (dead (1 ∷ 2 ∷ 3 ∷ 4 ∷ [])) 4 ≡ 0
+  pub back-to-itself : searchFrom 5 (dead (1 ∷ 2 ∷ 3 ∷ 4 ∷ [])) 4 .node ≡ 0
   -- "D 5: delay 5 passes"
   pub delay-5-passes : judged "P,2,2,7,5,6\nL,0,5\n" ≡ accepted (withDelay (startPlan 2 2 7 5 6) (record { number = 0; delay = 5 }))
   -- "0 and 6 get 3"
@@ -121,10 +125,28 @@ pub record Edges : Type 0 where
       ≡ record {
         node = record { emitter = 2; observer = 6; watch = due 40; heartbeat = due 21; list = dead (3 ∷ 4 ∷ []) };
         sends = message O 2 0 ∷ message R 6 4 ∷ message R 7 4 ∷ message R 1 4 ∷ [];
+        passed = 2;
       }
   -- "if it is alone, it stops as at an expiry"
-  pub last-emitter-reported : reportTo5 4 (0 ∷ 1 ∷ 2 ∷ 3 ∷ 6 ∷ 7 ∷ []) ≡ silent (alone 5 (dead (0 ∷ 1 ∷ 2 ∷ 3 ∷ 4 ∷ 6 ∷ 7 ∷ [])))
+  pub last-emitter-reported : reportTo5 4 (0 ∷ 1 ∷ 2 ∷ 3 ∷ 6 ∷ 7 ∷ []) ≡ turn (alone 5 (dead (0 ∷ 1 ∷ 2 ∷ 3 ∷ 4 ∷ 6 ∷ 7 ∷ []))) [] 7
   -- a report of any other node as before: listed and relayed, and nothing where it is listed already or the node itself
-  pub other-reported : reportTo5 3 (2 ∷ []) ≡ record { node = five (2 ∷ 3 ∷ []); sends = message R 6 3 ∷ message R 7 3 ∷ message R 1 3 ∷ [] }
+  pub other-reported : reportTo5 3 (2 ∷ []) ≡ sending (five (2 ∷ 3 ∷ [])) (message R 6 3 ∷ message R 7 3 ∷ message R 1 3 ∷ [])
   pub listed-reported : reportTo5 3 (3 ∷ []) ≡ silent (five (3 ∷ []))
   pub itself-reported : reportTo5 5 (3 ∷ []) ≡ silent (five (3 ∷ []))
+  -- the line K of document 02, #103
+  -- "how many listed nodes it passed, the one just left included"
+  pub passes-two : searchFrom 5 (dead (3 ∷ 4 ∷ [])) 4 ≡ nodeBefore 2 2
+  -- nodes that are listed elsewhere are not passed
+  pub passes-three : searchFrom 8 (dead (2 ∷ 3 ∷ 4 ∷ 6 ∷ [])) 4 ≡ nodeBefore 1 3
+  -- "becoming alone included": up to the node itself; of three nodes, node 0 left 2 before and now leaves 1
+  pub passes-to-itself : searchFrom 5 (dead (1 ∷ 2 ∷ 3 ∷ 4 ∷ [])) 4 ≡ nodeBefore 0 4
+  pub passes-one : searchFrom 3 (dead (1 ∷ 2 ∷ [])) 1 ≡ nodeBefore 0 1
+  -- at opening nothing was left, and nothing is listed
+  pub passes-none : back (numbers 0 3) 0 (place (numbers 0 3) 0) ≡ nodeBefore 2 0
+  -- its line is read, with a number to 63; "a sixth column" is not of its form
+  pub move-read : readOf (bytes "K,6,0,63,0000000000000002\n") ≡ Accepted (line letterK 6 0 63 2)
+  pub move-64-refused : readOf (bytes "K,6,0,64,0000000000000002\n") ≡ Refused 3
+  pub six-columns-refused : readOf (bytes "K,6,0,1,0000000000000002,7\n") ≡ Refused 2
+  -- "Number 9 now reads under 80 for every log part"
+  pub part-80-written : lineWritten (line letterK 6 0 1 2) 80 ≡ Bytes 25
+  pub part-79-refused : lineWritten (line letterK 6 0 1 2) 79 ≡ Unwritten 9

@@ -8,8 +8,8 @@ use mathlib.Core.List.{List, [], _∷_, _++_, List·Memᴰ, List·Memᴰ·not-ni
 use mathlib.Core.Option.{Option, none, some}
 use native.Mathlib.Nat.{pow-le-pow-right}
 use native.Mathlib.Omega.{arith}
-use borrow.Author.Tests.{ne-eqb}
-use lib.Dec.{lit<}
+use borrow.Author.Tests.{eq-eqb, ne-eqb}
+use lib.Dec.{eqb, lit<}
 use lib.ListN.{length, getD, length-append, length-replicate}
 use Rattle.ring.specs.Ring.{listed}
 use Rattle.node.specs.declared.Node.{Node}
@@ -27,11 +27,11 @@ use Rattle.node.proofs.Sends.{Sendable}
 use Rattle.node.proofs.Ranges.{Took}
 use Rattle.model.specs.Range.{FlightRange, Sound}
 use Rattle.plans.specs.Plain.{Plain}
-use Rattle.logline.specs.Line.{letterC as C, letterX as X, letterW as W, letterS as S}
-use Rattle.model.specs.Lines.{otherOf, deed, messageDeed, deedOf}
+use Rattle.logline.specs.Line.{letterC as C, letterX as X}
+use Rattle.model.specs.Lines.{otherOf, deed, moves, crashDeed, messageDeed, watchDeed, heartbeatDeed, deedOf}
 use Rattle.model.proofs.NextEvent.{Chosen}
 use Rattle.model.proofs.SettledNode.{crashed-listed}
-use Rattle.model.proofs.RangesKept.{at-mem, received-took, watch-taken, beat-taken, not-early}
+use Rattle.model.proofs.RangesKept.{node-taken, at-mem, received-took, watch-taken, beat-taken, not-early}
 use Rattle.store.specs.declared.Flight.{Flight}
 use Rattle.store.specs.Store.{encode, planIn, stateIn}
 use Rattle.store.specs.Inside.{SmallNode, Fits, Held, flying, withTick, crashed, withoutMessage, messageOf}
@@ -45,7 +45,7 @@ use Rattle.event.specs.Event.{SmallMessage, Turns, entry, nextAt, nextOf
 use Rattle.event.specs.Ready.{Ready}
 use Rattle.plans.proofs.Tests.{ranges}
 use Rattle.event.proofs.Readiness.{mostReached, ready-accepted, ready-sound, ready-next}
-use Rattle.event.proofs.Turning.{node-taken, chosen-of, try-did, turn-refused, turn-did, refused-answer, did-answer, received-few}
+use Rattle.event.proofs.Turning.{chosen-of, try-did, turn-refused, turn-did, refused-answer, did-answer, received-few}
 
 -- ---- a turn whose numbers fit
 
@@ -132,18 +132,19 @@ module _ (b : List ℕ) (r : Ready b) (t : ℕ) (ev : Event) (next : NextIs b t 
 
 -- ---- a timer that is due, of a watch or of heartbeats
 
--- The event e is next, at tick t: node x takes the turn that the plan and the node give, and what e did is told by a letter, the other
--- node and the list after it.
-pub record Timer (b : List ℕ) (t x : ℕ) (e : Event) (turn : Plan → Node → Turn) (letter : ℕ) (other : Node → ℕ) : Type 0 where
+-- The event e is next, at tick t: node x takes the turn that the plan and the node give, and what e did is told of the node before and after it
+-- and of the number passed.
+pub record Timer (b : List ℕ) (t x : ℕ) (e : Event) (turn : Plan → Node → Turn) (tells : Node → Node → ℕ → Deed) : Type 0 where
   pub ready : Ready b
   pub next : NextIs b t e
   pub place : x < planIn b .n
   pub takes : Takes b ready t e next x (turn (planIn b) (nodeOf (stateIn b) x))
   pub applied : apply (planIn b) (stateIn b) t e ≡ taken (planIn b) (stateIn b) t x (stateIn b .flight) (turn (planIn b) (nodeOf (stateIn b) x))
-  pub told : (s' : State) → deedOf (planIn b) (stateIn b) s' t e ≡ deed letter t x (other (nodeOf (stateIn b) x)) (nodeOf s' x .list)
+  pub told : (s' : State)
+      → deedOf (planIn b) (stateIn b) s' t e ≡ tells (nodeOf (stateIn b) x) (nodeOf s' x) (turn (planIn b) (nodeOf (stateIn b) x) .passed)
 
 module _ (b : List ℕ) (r : Ready b) (t x : ℕ) where
-  pub watch-timer : NextIs b t (watch x) → Timer b t x (watch x) (λ p a. onWatchDue (orderOf p) (p .w) t x a) W (λ a. a .emitter)
+  pub watch-timer : NextIs b t (watch x) → Timer b t x (watch x) (λ p a. onWatchDue (orderOf p) (p .w) t x a) (watchDeed t x)
   unfolding Chosen apply deedOf
   watch-timer next =
       let ch = chosen b r t (watch x) next in
@@ -154,7 +155,7 @@ module _ (b : List ℕ) (r : Ready b) (t x : ℕ) where
       let takes = watch-taken (planIn b) pl (stateIn b) (ready-sound b r) t past end x place (ch .1) (ch .2) in
       record { ready = r; next = next; place = place; takes = takes; applied = refl; told = λ s'. refl }
 
-  pub beat-timer : NextIs b t (heartbeat x) → Timer b t x (heartbeat x) (λ p a. onHeartbeatDue (p .h) t a) S (λ a. a .observer)
+  pub beat-timer : NextIs b t (heartbeat x) → Timer b t x (heartbeat x) (λ p a. onHeartbeatDue (p .h) t a) (heartbeatDeed t x)
   unfolding Chosen apply deedOf
   beat-timer next =
       let ch = chosen b r t (heartbeat x) next in
@@ -165,8 +166,7 @@ module _ (b : List ℕ) (r : Ready b) (t x : ℕ) where
       let takes = beat-taken (planIn b) pl (stateIn b) (ready-sound b r) t past end x place (ch .1) (ch .2) in
       record { ready = r; next = next; place = place; takes = takes; applied = refl; told = λ s'. refl }
 
-module _ {b : List ℕ} {t x : ℕ} {e : Event} {turn : Plan → Node → Turn} {letter : ℕ} {other : Node → ℕ}
-    (k : Timer b t x e turn letter other) where
+module _ {b : List ℕ} {t x : ℕ} {e : Event} {turn : Plan → Node → Turn} {tells : Node → Node → ℕ → Deed} (k : Timer b t x e turn tells) where
   pub timer-tick : t ≤ mostTick
   timer-tick = event-tick b (k .ready) t e (k .next)
 
@@ -193,13 +193,17 @@ module _ {b : List ℕ} {t x : ℕ} {e : Event} {turn : Plan → Node → Turn} 
         → nextOutcome b ≡ did (entry t e) (taken (planIn b) (stateIn b) t x (stateIn b .flight) (turnOf u))
     timer-did = turn-did (planIn b) (stateIn b) t e (k .next) x (stateIn b .flight) u _ is (k .applied)
 
-    pub timer-done : {a : Deed} → a ≡ deed letter t x (other (nodeOf (stateIn b) x)) (u .node .list)
+    timer-passed : u .passed ≡ turn (planIn b) (nodeOf (stateIn b) x) .passed
+    unfolding turned
+    timer-passed = ap (λ (w : Turned). w .passed) is
+
+    pub timer-done : {a : Deed} → a ≡ tells (nodeOf (stateIn b) x) (u .node) (u .passed)
         → length (stateIn b .flight) + u .count ≤ mostInFlight → (Did a ≡ nextAnswer b) × (turnLeft b t x u ≡ storeLeft b)
     unfolding turnOf
     timer-done {a} ae h =
         let after = node-taken (planIn b) t x (stateIn b) (stateIn b .flight) (turnOf u) (rw (ready-sound b (k .ready) .nodes) (k .place)) in
         did-answer (planIn b) (stateIn b) (turnLeft b t x u) a _ _ (timer-did h) refl
-        (ae ∙ (ap (λ (n : Node). deed letter t x (other (nodeOf (stateIn b) x)) (n .list)) (sym after) ∙ sym (k .told _)))
+        (ae ∙ (ap₂ (tells (nodeOf (stateIn b) x)) (sym after) timer-passed ∙ sym (k .told _)))
 
 -- ---- a crash
 
@@ -208,12 +212,15 @@ module _ (b : List ℕ) (r : Ready b) (t k : ℕ) (next : NextIs b t (crash k)) 
   unfolding Chosen
   crash-place = let ch = chosen b r t (crash k) next in rw (← ch .2) (ready-accepted b r .plain .node (stateIn b .done) (ch .0))
 
-  pub crash-done : (b' : List ℕ) (a : Deed) → a ≡ deed C t k k (nodeOf (stateIn b) k .list)
+  pub crash-done : (b' : List ℕ) (a : Deed) → a ≡ deed C t k k (nodeOf (stateIn b) k .list) false 0
       → b' ≡ encode (planIn b) (crashed (withTick (stateIn b) t))
       → (Did a ≡ nextAnswer b) × (b' ≡ storeLeft b)
-  unfolding deedOf apply withTick crashed
+  unfolding deedOf crashDeed moves apply withTick crashed
   crash-done b' a ae q =
-      did-answer (planIn b) (stateIn b) b' a _ _ (try-did (planIn b) (stateIn b) t (crash k) next (ready-sound b r .few)) q ae
+      let e : ℕ = nodeOf (stateIn b) k .emitter in
+      let stays : eqb e e ≡ true = eq-eqb e e refl in
+      did-answer (planIn b) (stateIn b) b' a _ _ (try-did (planIn b) (stateIn b) t (crash k) next (ready-sound b r .few)) q
+      (ae ∙ ap (λ (c : Bool). deed C t k k (nodeOf (stateIn b) k .list) (not c) 0) (sym stays))
 
 -- ---- a message
 
@@ -329,9 +336,14 @@ module _ (b : List ℕ) (r : Ready b) (t i : ℕ) (next : NextIs b t (message i)
             (event-tick b r t (message i) next) (rw rest-plan message-place) few (rw rest-state rest-room) (rw rest-state (ready-next b r)) (received-small .0)
             (received-small .1)
 
+      message-passed : u .passed ≡ received (planIn b) (stateIn b) t M .passed
+      unfolding turned
+      message-passed = ap (λ (w : Turned). w .passed) is
+
       -- what it did; its receiver is dead where the list of crashed nodes has it
       pub message-done : (dead : ℕ) (l : Bool) → dead ≡ crashedList (planIn b) (stateIn b .done) → l ≡ listed dead (f .to)
-          → (a : Deed) → a ≡ messageDeed t (messageOf f) (not l) (u .node .list) → length (without i (stateIn b .flight)) + u .count ≤ mostInFlight
+          → (a : Deed) → a ≡ messageDeed t (messageOf f) (not l) (nodeOf (stateIn b) (f .to)) (u .node) (u .passed)
+          → length (without i (stateIn b .flight)) + u .count ≤ mostInFlight
           → (Did a ≡ nextAnswer b)
           × (encode (planIn b) (taken (planIn b) (stateIn b) t (M .to) (without i (stateIn b .flight)) (turnOf u)) ≡ storeLeft b)
       unfolding deedOf turnOf
@@ -340,8 +352,9 @@ module _ (b : List ℕ) (r : Ready b) (t i : ℕ) (next : NextIs b t (message i)
           did-answer (planIn b) (stateIn b) _ a _ _
           (turn-did (planIn b) (stateIn b) t (message i) next (M .to) (without i (stateIn b .flight)) u _ is message-by room) refl
           (ae
-          ∙ (ap₂ (λ (g : InFlight) (y : Bool). messageDeed t g y (u .node .list)) (ap messageOf fe) (not-dropped dead l de le)
-          ∙ ap (λ (n : Node). messageDeed t M (alive (planIn b) (stateIn b .done) (M .to)) (n .list)) (sym after)))
+          ∙ (ap₂ (λ (g : InFlight) (y : Bool). messageDeed t g y (nodeOf (stateIn b) (g .to)) (u .node) (u .passed)) (ap messageOf fe)
+          (not-dropped dead l de le)
+          ∙ ap₂ (messageDeed t M (alive (planIn b) (stateIn b .done) (M .to)) (nodeOf (stateIn b) (M .to))) (sym after) message-passed))
 
       -- the store after it, where the message was taken out before
       module _ (room : length (stateIn b .flight) - 1 + u .count ≤ mostInFlight) (c : List ℕ)
@@ -353,20 +366,26 @@ module _ (b : List ℕ) (r : Ready b) (t i : ℕ) (next : NextIs b t (message i)
             q ∙ (ap₂ (λ (p : Plan) (s : State). encode p (taken p s t (f .to) (s .flight) (turnOf u))) (rest-plan room c e) (rest-state room c e)
             ∙ ap (λ (k : ℕ). encode (planIn b) (taken (planIn b) (stateIn b) t k (without i (stateIn b .flight)) (turnOf u))) same-to)
 
--- ---- what a message did
+-- ---- what a message did to its receiver, which was n, as the code tells it: it read n as a
 
-module _ (t : ℕ) (m : Flight) (dropped : Bool) (d : ℕ) where
-  pub deed-dropped : dropped ≡ true → deed X t (m .to) (m .from) d ≡ messageDeed t (messageOf m) (not dropped) d
+module _ (t : ℕ) (m : Flight) (dropped : Bool) (a a' n : Node) (k : ℕ) (same : a ≡ n) (d : Deed) where
+  abbrev Of : ℕ → ℕ → Type 0
+  Of letter other = d ≡ deed letter t (m .to) other (a' .list) (moves a a') k
+
+  abbrev Told : Type 0
+  Told = d ≡ messageDeed t (messageOf m) (not dropped) n a' k
+
+  pub deed-dropped : dropped ≡ true → Of X (m .from) → Told
   unfolding messageDeed
-  deed-dropped e = rw e
+  deed-dropped e q = rw (e, ← same) q
 
-  pub deed-report : dropped ≡ false → m .kind ≡ R → deed R t (m .to) (m .subject) d ≡ messageDeed t (messageOf m) (not dropped) d
+  pub deed-report : dropped ≡ false → m .kind ≡ R → Of R (m .subject) → Told
   unfolding messageDeed otherOf
-  deed-report e h = rw (e, h)
+  deed-report e h q = rw (e, h, ← same) q
 
-  pub deed-other : dropped ≡ false → m .kind ≢ R → deed (m .kind) t (m .to) (m .from) d ≡ messageDeed t (messageOf m) (not dropped) d
+  pub deed-other : dropped ≡ false → m .kind ≢ R → Of (m .kind) (m .from) → Told
   unfolding messageDeed otherOf
-  deed-other e h = rw (e, ne-eqb (m .kind) R h)
+  deed-other e h q = rw (e, ne-eqb (m .kind) R h, ← same) q
 
 -- ---- the event that the search answers
 

@@ -9,10 +9,9 @@ use native.Mathlib.Numerals.{add-one}
 use native.Mathlib.Omega.{arith}
 use borrow.Author.Tests.{le-leb, lt-leb}
 use lib.ListN.{length, getD, take, length-append, length-take}
-use lib.Seq.{getD-set-same}
 use Rattle.node.specs.declared.Message.{Message}
 use Rattle.node.specs.declared.Turned.{Turned}
-use Rattle.node.specs.Node.{Turn, silent, alone, places, turned, onMessage}
+use Rattle.node.specs.Node.{Turn, silent, places, turned, onMessage}
 use Rattle.node.proofs.Sends.{message-few}
 use Rattle.limits.specs.Limits.{mostSent, mostNodes, mostInFlight}
 use Rattle.plans.specs.Plan.{Plan, planTest, orderOf}
@@ -73,10 +72,6 @@ module _ (p : Plan) (t x : ℕ) where
   unfolding taken
   length-taken s rest v = length-append rest (numbered p t x (s .next) (v .sends)) ∙ ap (λ (k : ℕ). length rest + k) (length-numbered (v .sends) (s .next))
 
-  pub node-taken : (s : State) (rest : List InFlight) (v : Turn) → x < length (s .nodes) → nodeOf (taken p s t x rest v) x ≡ v .node
-  unfolding taken
-  node-taken s rest v h = getD-set-same (s .nodes) x (v .node) (alone x 0) h
-
 -- the code hands over the rule's turn
 take-all : {A : Type 0} (xs ys : List A) → take (length xs) (xs ++ ys) ≡ xs
 take-all [] ys = refl
@@ -84,7 +79,7 @@ take-all (x ∷ xs) ys = ap (λ (l : List _). x ∷ l) (take-all xs ys)
 
 turn-back : (v : Turn) → turnOf (turned v) ≡ v
 unfolding turnOf turned places
-turn-back v = ap (λ (ms : List Message). record { node = v .node; sends = ms }) (take-all (v .sends) _)
+turn-back v = ap (λ (ms : List Message). record { node = v .node; sends = ms; passed = v .passed }) (take-all (v .sends) _)
 
 -- ---- an event that is next
 

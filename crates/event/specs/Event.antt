@@ -60,7 +60,7 @@ storeLeft b = encode (planIn b) (left (stateIn b) (nextOutcome b))
 -- ---- a turn as the code hands it over
 
 unfoldable pub turnOf : Turned → Turn
-turnOf u = record { node = u .node; sends = take (u .count) (u .sent) }
+turnOf u = record { node = u .node; sends = take (u .count) (u .sent); passed = u .passed }
 
 -- node x sends messages at tick t: they join those in flight, numbered from the next number on
 unfoldable pub sending : Plan → State → ℕ → ℕ → List Message → State

@@ -176,7 +176,7 @@ module _ (s : List ℕ) (r : Record) (tick : ℕ) (e : sound s ≡ true) (rq : r
 
   -- the messages of a turn, as the code has them, are at most seven
   few : (t : Turned) (u : Turn) → t ≡ turned u → length (u .sends) ≤ mostSent → t .count ≤ mostSent
-  few t u q h = rw (turned-count t (u .node) (u .sends) q) h
+  few t u q h = rw (turned-count t u q) h
 
   pub timer-asks : (1 ≤ r .nodes) × (r .nodes ≤ mostNodes) × (r .h ≤ mostH) × (r .w ≤ mostW) × (tick ≤ mostTick) × (r .node .emitter < mostNodes)
   timer-asks =

@@ -58,9 +58,9 @@ messageSize = 8
 abbrev pub mostBytes : ℕ
 mostBytes = 65536
 
--- the least length of a log part: 'under 40 bytes for a line' gets 9
-abbrev pub lineRoom : ℕ
-lineRoom = 40
+-- the least length of a log part: document 02, #103, 'under 80 for every log part' gets 9
+abbrev pub logRoom : ℕ
+logRoom = 80
 
 -- of a message part: 'under 56 for messages' gets 9
 abbrev pub partSize : ℕ

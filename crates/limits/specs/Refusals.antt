@@ -37,7 +37,7 @@ badStore = 7
 abbrev pub tooMany : ℕ
 tooMany = 8
 
--- 'log, file or message part: under 40 bytes for a line, under 56 for messages, under 65,536 for a run file'
+-- 'log, file or message part: .. under 56 for messages, under 65,536 for a run file', and by 02, #103, 'under 80 for every log part'
 abbrev pub shortPart : ℕ
 shortPart = 9
 

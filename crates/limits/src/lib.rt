@@ -30,10 +30,10 @@ pub const MOST_SENT: usize = 7;
 
 pub const MESSAGE_SIZE: usize = 8;
 
-// Lent parts: the longest run file, and the least length for a line, for messages and for a run file.
+// Lent parts: the longest run file, and the least length for an event's lines, for messages and for a run file.
 pub const MOST_BYTES: usize = 65536;
 
-pub const LINE_ROOM: usize = 40;
+pub const LOG_ROOM: usize = 80;
 
 pub const PART_SIZE: usize = MOST_SENT * MESSAGE_SIZE;
 

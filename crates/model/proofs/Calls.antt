@@ -11,7 +11,7 @@ use lib.Dec.{ltb}
 use Rattle.model.specs.Platform.{State, Entry, Outcome, did, ended, refused, nextEvent, spent, finished, overfull, runAnswer, try, left, steps}
 use Rattle.model.specs.Platform.{eventCount, after, start, step, run, asks, asked, events, called, calls, SizedCall}
 use Rattle.plans.specs.Plan.{Plan}
-use Rattle.limits.specs.Limits.{lineRoom}
+use Rattle.limits.specs.Limits.{logRoom}
 
 module _ (p : Plan) where
   -- where no event is done, none ever is
@@ -81,7 +81,7 @@ module _ (p : Plan) where
   called-steps : (c : SizedCall) (s : State) → called p c s ≡ steps p (asks c) s
   unfolding called asks steps
   called-steps (run budget) s = refl
-  called-steps (step room) s = go (ltb room lineRoom)
+  called-steps (step room) s = go (ltb room logRoom)
     where
       go : (b : Bool) → cond b s (left s (try p s)) ≡ steps p (cond b 0 1) s
       go true = refl

@@ -23,7 +23,7 @@ use Rattle.model.specs.Claims.{S, settledBy, Spaced}
 use Rattle.ring.proofs.Unlisted.{countBy}
 use Rattle.ring.proofs.GoingBack.{Found}
 use Rattle.ring.proofs.Laws.{keep-ext}
-use Rattle.ring.proofs.Lists.{listing-other}
+use Rattle.ring.proofs.Lists.{listing-other, listing-lists}
 use Rattle.ring.proofs.Gaps.{gap}
 use Rattle.model.proofs.Events.{Seen, Frame, AtTimer, AtMessage, Cause, byExpiry, byReport, Leaves, Step, crash, drop, idle, beat}
 use Rattle.model.proofs.Events.{watched, report, moves as moves-on, alone as aloneS, sends}
@@ -88,7 +88,8 @@ module _ (p : Plan) (ac : Accepted p) where
 
       -- the new emitter is found going back from the old one, seen from x
       back-found : Found (p .n) io (listed (leftList nx)) x (gap (p .n) io x (nx .emitter)) y
-      back-found = found-back (p .n) (leftList nx) (orderOf p) io x xN un (nx .emitter) ((r .fields x xN) .emitter) other
+      back-found =
+          found-back (p .n) (leftList nx) (orderOf p) io x xN un (nx .emitter) ((r .fields x xN) .emitter) other (listing-lists (nx .list) (nx .emitter))
 
       leaving : Leaves (P p ac) (view p s) t x gone (listed (leftList nx)) y
       leaving = record {

@@ -82,6 +82,8 @@ pub mod Search
 pub mod Happened
 -- the ranges of lines, and their text
 pub mod Lines
+-- WHERE A LINE K FOLLOWS: after each expired watch and each report of the emitter, and nowhere else
+pub mod Moved
 -- ---- worked instances
 
 -- the starred logs, and a state that settles

@@ -44,7 +44,7 @@ module _ (p : Plan) (ac : Accepted p) where
 
   -- the neighbours of a node in a ring of two or more
   abbrev before : ℕ → ℕ
-  before j = back (orderOf p) 0 (place (orderOf p) j)
+  before j = back (orderOf p) 0 (place (orderOf p) j) .node
 
   abbrev behind : ℕ → ℕ
   behind j = next (orderOf p) 0 (place (orderOf p) j)

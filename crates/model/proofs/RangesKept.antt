@@ -160,6 +160,11 @@ at-mem ms i h = at-in noMessage ms i h
 
 -- ---- an event
 
+-- the node that takes a turn is what the turn leaves
+pub node-taken : (p : Plan) (t x : ℕ) (s : State) (rest : List InFlight) (v : Turn) → x < length (s .nodes) → nodeOf (taken p s t x rest v) x ≡ v .node
+unfolding taken
+node-taken p t x s rest v h = getD-set-same (s .nodes) x (v .node) (alone x 0) h
+
 module _ (p : Plan) (pl : Plain p) (s : State) (r : Sound p s) where
   abbrev io : InOrder (p .n) (orderOf p)
   io = pl .order
@@ -185,8 +190,7 @@ module _ (p : Plan) (pl : Plain p) (s : State) (r : Sound p s) where
     -- one node takes a turn
     module _ (x : ℕ) (xN : x < p .n) (rest : List InFlight) (u : Turn) where
       pub here : nodeOf (taken p s t x rest u) x ≡ u .node
-      unfolding taken
-      here = getD-set-same (s .nodes) x (u .node) (alone x 0) (rw (r .nodes) xN)
+      here = node-taken p t x s rest u (rw (r .nodes) xN)
 
       pub other : (j : ℕ) → j ≢ x → nodeOf (taken p s t x rest u) j ≡ nodeOf s j
       unfolding taken

@@ -6,15 +6,18 @@ use mathlib.Core.List.{List, [], _∷_, map}
 use mathlib.Core.Option.{none, some}
 use Prim.Native.Nat.{ℕ, _<_}
 use native.Mathlib.Omega.{arith}
-use Rattle.ring.specs.Ring.{keep, numbers, among, eachOnce, listed, listing, unlisted, round, place, ahead, back, next, count, powers, jumps, targets}
+use Rattle.ring.specs.Ring.{keep, numbers, among, eachOnce, listed, listing, unlisted, passing, round, place, ahead}
+use Rattle.ring.specs.Ring.{firstUnlisted, back, next, count, powers, jumps, targets}
 use Rattle.node.specs.declared.Node.{Node}
 use Rattle.node.specs.Node.{due, R, reports, opening, onHeartbeat, onObserver, onReport, onHeartbeatDue, onMessage, leaving}
+use Rattle.logline.specs.Line.{letterR, letterK}
 use Rattle.model.specs.Platform.{alive, survivors, start, crashEntries, messageEntries, timerEntry, timerEntries, pending, earlier, first, upTo}
 use Rattle.model.specs.Platform.{InFlight, State, message, messageAt}
 use Rattle.model.specs.Platform.{nextEvent, delayIn, delayOf, numbered, nodeOf, taken, without, received, apply, fits, tried, try, left, steps, after}
 use Rattle.plans.specs.Plan.{Crash, Plan, within, startRanges, longEnough, crashRange, risingFrom, rising, later, hits, noneTwice, crashOrder}
 use Rattle.plans.specs.Plan.{ringOrder, orderOf, ringTest, ringCount, ringRange, delayOrder, fewDelays, every, startTest, crashTest, delayTest, planTest}
 use Rattle.model.specs.Range.{Accepted, NotBefore}
+use Rattle.model.specs.Lines.{line, otherOf, moves, messageDeed, deedOf, deedLines, eventLines}
 use Rattle.model.specs.Claims.{S, settledBy, Spaced, NoneLeftBefore, SettledAt}
 use Rattle.model.proofs.NextEvent.{Best, best}
 use Rattle.model.proofs.Theorems.{settling}
@@ -53,8 +56,8 @@ pub record Ends (ring : List ℕ) (fields : List (List ℕ)) : Type 0 where
 -- nodes 0, 1 and 3 list node 2, and are neighbours in the ring 0, 1, 3; in the shuffled one, in the ring 0, 3, 1
 pub four-ends : Ends [] ((3 ∷ 1 ∷ 4 ∷ []) ∷ (0 ∷ 3 ∷ 4 ∷ []) ∷ (1 ∷ 0 ∷ 4 ∷ []) ∷ [])
     × Ends shuffled ((1 ∷ 3 ∷ 4 ∷ []) ∷ (3 ∷ 0 ∷ 4 ∷ []) ∷ (0 ∷ 1 ∷ 4 ∷ []) ∷ [])
-unfolding four endOf keep numbers listed listing unlisted round place ahead back next count powers jumps targets reports opening onHeartbeat
-    onObserver onReport onHeartbeatDue leaving onMessage ringOrder orderOf hits among alive survivors start crashEntries messageEntries
+unfolding four endOf keep numbers listed listing unlisted passing round place ahead firstUnlisted back next count powers jumps targets reports opening
+    onHeartbeat onObserver onReport onHeartbeatDue leaving onMessage ringOrder orderOf hits among alive survivors start crashEntries messageEntries
     timerEntry timerEntries pending earlier first upTo nextEvent delayIn delayOf numbered taken without received apply fits tried try left
     steps after S settledBy
 four-ends =
@@ -117,10 +120,13 @@ pub record SixLeaves : Type 0 where
   pub message-next : nextEvent nine (after nine 166) ≡ some (record { tick = 47; event = message 0 })
   pub report-of-2 : firstIn (after nine 166) ≡ R ∷ 6 ∷ 2 ∷ []
   pub observes-1 : six 167 ≡ record { emitter = 1; observer = 7; watch = due 67; heartbeat = due 48; list = 60 }
+  -- and it passes node 2 alone, the one just left: nodes 3, 4 and 5 were passed in moves before
+  pub lines : eventLines nine (after nine 166) (after nine 167) (record { tick = 47; event = message 0 })
+      ≡ line letterR 47 6 2 60 ∷ line letterK 47 6 1 60 ∷ []
 
 pub six-leaves : SixLeaves
-unfolding nine six firstIn keep numbers listed listing unlisted round place ahead back next count powers jumps targets reports opening onHeartbeat
-    onObserver onReport onHeartbeatDue leaving onMessage ringOrder orderOf hits among alive survivors start crashEntries messageEntries
+unfolding nine six firstIn keep numbers listed listing unlisted passing round place ahead firstUnlisted back next count powers jumps targets reports
+    opening onHeartbeat onObserver onReport onHeartbeatDue leaving onMessage ringOrder orderOf hits among alive survivors start crashEntries messageEntries
     timerEntry timerEntries pending earlier first upTo nextEvent delayIn delayOf numbered taken without received apply fits tried try left
-    steps after
-six-leaves = record { observes-2 = refl; message-next = refl; report-of-2 = refl; observes-1 = refl }
+    steps after otherOf moves messageDeed deedOf deedLines
+six-leaves = record { observes-2 = refl; message-next = refl; report-of-2 = refl; observes-1 = refl; lines = refl }

@@ -11,7 +11,7 @@ use Rattle.node.specs.declared.Node.{Node}
 use Rattle.node.specs.declared.Message.{Message}
 use Rattle.node.specs.Node.{Turn, silent, alone, opening, onMessage, onWatchDue, onHeartbeatDue}
 use Rattle.plans.specs.Plan.{Crash, Delay, Plan, hits, withCrashed, orderOf}
-use Rattle.limits.specs.Limits.{mostInFlight, lineRoom}
+use Rattle.limits.specs.Limits.{mostInFlight, logRoom}
 
 -- ---- the state
 
@@ -242,7 +242,7 @@ pub data SizedCall : Type 0 where
 
 -- what a call does to the state
 unfoldable pub called : Plan → SizedCall → State → State
-called p (step room) s = cond (ltb room lineRoom) s (left s (try p s))
+called p (step room) s = cond (ltb room logRoom) s (left s (try p s))
 called p (run budget) s = steps p budget s
 
 unfoldable pub calls : Plan → List SizedCall → State → State
@@ -251,7 +251,7 @@ calls p (c ∷ cs) s = calls p cs (called p c s)
 
 -- how many events a call asks for: a step not refused by 9 one, a run its budget
 unfoldable pub asks : SizedCall → ℕ
-asks (step room) = cond (ltb room lineRoom) 0 1
+asks (step room) = cond (ltb room logRoom) 0 1
 asks (run budget) = budget
 
 unfoldable pub asked : List SizedCall → ℕ

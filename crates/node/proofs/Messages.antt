@@ -11,7 +11,7 @@ use Rattle.ring.proofs.Counts.{length-targets, jumps-count-le, take-row}
 use Rattle.node.specs.declared.Message.{Message}
 use Rattle.node.specs.declared.Node.{Node}
 use Rattle.node.specs.declared.Turned.{Turned}
-use Rattle.node.specs.Node.{Turn, R, message, reports, sending, places, turned, relayed}
+use Rattle.node.specs.Node.{Turn, turn, R, message, reports, sending, places, turned, withPassed, relayed}
 use Rattle.limits.specs.Limits.{mostSent}
 
 -- ---- a loop that puts reports
@@ -66,10 +66,10 @@ places-more ms ns h =
     (drop-at (replicate (length ns) none) (replicate (7 - (length ms + length ns)) none) (length ns) (length-replicate (length ns) none)))
 
 -- a node that sends one message at most, with reports after it
-pub relayed-turned : (order : List ℕ) (me subject : ℕ) (n : Node) (ms : List Message) → length ms ≤ 1 → length order ≤ 64
-    → relayed order me subject (turned (sending n ms)) ≡ turned (sending n (ms ++ reports subject (targets order (n .list) (place order me))))
+pub relayed-turned : (order : List ℕ) (me subject : ℕ) (n : Node) (ms : List Message) (k : ℕ) → length ms ≤ 1 → length order ≤ 64
+    → relayed order me subject (turned (turn n ms k)) ≡ turned (turn n (ms ++ reports subject (targets order (n .list) (place order me))) k)
 unfolding relayed turned
-relayed-turned order me subject n ms h l =
+relayed-turned order me subject n ms k h l =
     let to : List ℕ = targets order (n .list) (place order me) in
     let rs : List Message = reports subject to in
     let e : length rs ≤ 6 =
@@ -84,7 +84,7 @@ jumps-few order d m k l mq kq = rw (kq, mq) (jumps-count-le (length order) d l)
 pub relayed-put : (order : List ℕ) (me subject : ℕ) (t : Turned) (p m k : ℕ) (to : List ℕ) (sent : List Message)
     → p ≡ place order me → to ≡ row (targets order (t .node .list) p) → m ≡ count (length order) (t .node .list) → k ≡ jumps m
     → sent ≡ sets (t .sent) (t .count) (reports subject (take k to))
-    → relayed order me subject t ≡ record { node = t .node; sent = sent; count = t .count + k }
+    → relayed order me subject t ≡ record { node = t .node; sent = sent; count = t .count + k; passed = t .passed }
 unfolding relayed
 relayed-put order me subject t p m k to sent pq tq mq kq sq =
     let d : ℕ = t .node .list in
@@ -94,9 +94,15 @@ relayed-put order me subject t p m k to sent pq tq mq kq sq =
     length-reports subject (targets order d (place order me)) ∙ length-targets order d (place order me) ∙ sym (kq ∙ ap jumps mq) in
     rw (l, sq, e)
 
-pub turned-count : (t : Turned) (n : Node) (ms : List Message) → t ≡ turned (sending n ms) → t .count ≡ length ms
+pub turned-count : (t : Turned) (u : Turn) → t ≡ turned u → t .count ≡ length (u .sends)
 unfolding turned
-turned-count t n ms e = ap (λ (x : Turned). x .count) e
+turned-count t u e = ap (λ (x : Turned). x .count) e
+
+-- a turn of which it is said how many listed nodes were passed
+pub turned-passed : (t t' : Turned) (n : Node) (ms : List Message) (k : ℕ) → t ≡ turned (sending n ms) → t' ≡ withPassed t k
+    → t' ≡ turned (turn n ms k)
+unfolding withPassed turned
+turned-passed t t' n ms k e w = w ∙ ap (λ (x : Turned). withPassed x k) e
 
 pub turned-sends : (t : Turned) (u : Turn) → t ≡ turned u → take (t .count) (t .sent) ≡ u .sends
 unfolding turned places

@@ -12,7 +12,7 @@ use Rattle.ring.specs.Ring.{listed, listing, place, targets}
 use Rattle.node.specs.declared.Message.{Message}
 use Rattle.node.specs.declared.Node.{Node}
 use Rattle.node.specs.Node.{Turn, due, H, O, R, message, reports, silent, sending, alone, withObserver, withWatch, withHeartbeat, withList}
-use Rattle.node.specs.Node.{ringed, leftList, newEmitter, moved, leaving}
+use Rattle.node.specs.Node.{turn, ringed, leftList, newEmitter, passedOver, moved, leaving}
 use Rattle.node.specs.Node.{opening, onHeartbeat, onObserver, onReport, onHeartbeatDue, onMessage}
 use Rattle.node.specs.Range.{Known}
 
@@ -60,15 +60,16 @@ module _ (order : List ℕ) (w tick me : ℕ) (n : Node) where
   movedSends = message O (newEmitter order n) 0 ∷ reports (n .emitter) (targets order (leftList n) (place order me))
 
   pub data Left : Turn → Type 0 where
-    stops : newEmitter order n ≡ me → Left (silent (alone me (leftList n)))
-    moves : newEmitter order n ≢ me → Left (sending (moved w tick (newEmitter order n) (leftList n) n) movedSends)
+    stops : newEmitter order n ≡ me → Left (turn (alone me (leftList n)) [] (passedOver order n))
+    moves : newEmitter order n ≢ me → Left (turn (moved w tick (newEmitter order n) (leftList n) n) movedSends (passedOver order n))
 
   pub left : Left (leaving order w tick me n)
   unfolding leaving
   left = go (eqb (newEmitter order n) me) refl
     where
       go : (b : Bool) → eqb (newEmitter order n) me ≡ b
-          → Left (cond b (silent (alone me (leftList n))) (sending (moved w tick (newEmitter order n) (leftList n) n) movedSends))
+          → Left (cond b (turn (alone me (leftList n)) [] (passedOver order n))
+          (turn (moved w tick (newEmitter order n) (leftList n) n) movedSends (passedOver order n)))
       go true e = stops (eqb-true (newEmitter order n) me e)
       go false e = moves (eqb-false (newEmitter order n) me e)
 

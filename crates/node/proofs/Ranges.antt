@@ -1,7 +1,7 @@
 -- Each rule leaves a live node in range in range, and what it sends is sendable. It holds in any ring order. Assumes nothing.
-use mathlib.Core.Path.{_≡_, refl, sym, _∙_}
+use mathlib.Core.Path.{_≡_, refl, sym, ap, _∙_}
 use mathlib.Core.Logic.{_⊎_, inl, inr, _≢_}
-use mathlib.Core.Bool.{false}
+use mathlib.Core.Bool.{false, true≢false}
 use mathlib.Core.List.{List, List·Memᴰ, List·Memᴰ·not-nil, List·Memᴰ·cases-cons, List·Memᴰ·eq-of-singleton}
 use Prim.Native.Nat.{ℕ, _^_, _≤_, _<_}
 use native.Mathlib.Omega.{arith}
@@ -13,10 +13,11 @@ use Rattle.ring.specs.Ring.{listed, place, targets, InOrder}
 use Rattle.ring.proofs.Lists.{listing-lt, listing-lists, listing-other, listed-none}
 use Rattle.ring.proofs.Gaps.{gap}
 use Rattle.ring.proofs.GoingBack.{Found}
-use Rattle.ring.proofs.Neighbours.{open-back-below, open-back-other, open-next-below, open-next-other, found-back}
+use Rattle.ring.proofs.Neighbours.{open-back-below, open-back-other, open-next-below, open-next-other, count-some, found-back}
+use Rattle.ring.proofs.Passed.{from-below}
 use Rattle.node.specs.declared.Message.{Message}
 use Rattle.node.specs.declared.Node.{Node}
-use Rattle.node.specs.Node.{Turn, off, H, O, R, message, reports, silent, leftList, newEmitter}
+use Rattle.node.specs.Node.{Turn, off, H, O, R, message, reports, silent, leftList, newEmitter, passedOver}
 use Rattle.node.specs.Node.{opening, onHeartbeat, onObserver, onReport, onHeartbeatDue, onWatchDue, onMessage}
 use Rattle.node.specs.Range.{NodeRange, LiveRange, NotOverdue, Known}
 use Rattle.node.proofs.Moves.{Opened, joins, starts-alone, opened, Heard, renews, unheard, heard, observed}
@@ -35,13 +36,14 @@ later-range n h w t u a l f = record {
 }
 
 -- a turn that node me, which was a and in range at the last tick, takes at tick t: the node after it is in range if t is not before the
--- last tick, no timer of it is overdue where none was, and what it sends is sendable and at most seven messages
+-- last tick, no timer of it is overdue where none was, what it sends is sendable and at most seven messages, and fewer than n nodes were passed
 pub record Took (n h w last t me : ℕ) (a : Node) (u : Turn) : Type 0 where
   pub fields : last ≤ t → NodeRange n h w t (u .node)
   pub live : LiveRange me (u .node)
   pub timers : NotOverdue t a → NotOverdue t (u .node)
   pub sends : (v : Message) → List·Memᴰ v (u .sends) → Sendable n me v
   pub few : length (u .sends) ≤ mostSent
+  pub passed : u .passed < n
 
 module _ (n : ℕ) (order : List ℕ) (io : InOrder n order) (me : ℕ) (below : me < n) where
   -- ---- opening
@@ -85,6 +87,7 @@ module _ (n : ℕ) (order : List ℕ) (io : InOrder n order) (me : ℕ) (below :
           timers = λ o. o;
           sends = λ v m. absurd (List·Memᴰ·not-nil m);
           few = omega arith;
+          passed = omega arith;
         }
 
     pub heartbeat-took : (from : ℕ) → from ≢ me → Took n h w last t me a (onHeartbeat w t from a)
@@ -106,6 +109,7 @@ module _ (n : ℕ) (order : List ℕ) (io : InOrder n order) (me : ℕ) (below :
           timers = λ o. record { watch = λ on. omega arith; heartbeat = o .heartbeat };
           sends = λ v m. absurd (List·Memᴰ·not-nil m);
           few = omega arith;
+          passed = omega arith;
         }
 
     pub observer-took : (from : ℕ) → from < n → from ≢ me → Took n h w last t me a (onObserver t from a)
@@ -122,6 +126,7 @@ module _ (n : ℕ) (order : List ℕ) (io : InOrder n order) (me : ℕ) (below :
       timers = λ o. record { watch = o .watch; heartbeat = λ on. omega arith };
       sends = λ v m. absurd (List·Memᴰ·not-nil m);
       few = omega arith;
+      passed = omega arith;
     })
 
     -- leaving an emitter that is another node
@@ -130,7 +135,10 @@ module _ (n : ℕ) (order : List ℕ) (io : InOrder n order) (me : ℕ) (below :
       left-unlisted = listing-other (a .list) (a .emitter) me ne (l .lists)
 
       new-emitter : Found n io (listed (leftList a)) me (gap n io me (a .emitter)) (newEmitter order a)
-      new-emitter = found-back n (leftList a) order io me below left-unlisted (a .emitter) (f .emitter) ne
+      new-emitter = found-back n (leftList a) order io me below left-unlisted (a .emitter) (f .emitter) ne (listing-lists (a .list) (a .emitter))
+
+      few-passed : passedOver order a < n
+      few-passed = from-below n (leftList a) order io (a .emitter) (f .emitter) (count-some n (leftList a) order io me below left-unlisted)
 
       within : leftList a < 2 ^ n
       within = listing-lt n (a .list) (a .emitter) (f .list) (f .emitter)
@@ -163,6 +171,7 @@ module _ (n : ℕ) (order : List ℕ) (io : InOrder n order) (me : ℕ) (below :
         timers = λ o. record { watch = λ on. absurd (on refl); heartbeat = λ on. absurd (on refl) };
         sends = λ v m. absurd (List·Memᴰ·not-nil m);
         few = omega arith;
+        passed = few-passed;
       }
       left-took u (moves other) = record {
         fields = λ late. record {
@@ -177,7 +186,14 @@ module _ (n : ℕ) (order : List ℕ) (io : InOrder n order) (me : ℕ) (below :
         timers = λ o. record { watch = λ on. omega arith; heartbeat = o .heartbeat };
         sends = λ v m. sent v other (List·Memᴰ·cases-cons m);
         few = left-few order order-few w t me a _ (moves other);
+        passed = few-passed;
       }
+
+      -- the emitter moves: the one that is left is listed, and no listed node is taken
+      pub left-moves : (u : Turn) → Left order w t me a u → a .emitter ≢ u .node .emitter
+      left-moves u (stops e) q = ne q
+      left-moves u (moves other) q =
+          true≢false (sym (listing-lists (a .list) (a .emitter)) ∙ (ap (listed (leftList a)) q ∙ new-emitter .unlisted))
 
     report-took : (subject : ℕ) → subject < n → Took n h w last t me a (onReport order w t me subject a)
     report-took subject sN = go (onReport order w t me subject a) (reported order w t me subject a)
@@ -201,6 +217,7 @@ module _ (n : ℕ) (order : List ℕ) (io : InOrder n order) (me : ℕ) (below :
               timers = λ o. record { watch = o .watch; heartbeat = o .heartbeat };
               sends = reports-sendable n order io me below _ un subject sN (listing-lists (a .list) subject);
               few = told-few order order-few w t me subject a _ (relays e ne other);
+              passed = omega arith;
             }
 
     pub message-took : (kind from subject : ℕ) → Known kind → from < n → from ≢ me → (kind ≡ R → subject < n)
@@ -230,6 +247,7 @@ module _ (n : ℕ) (order : List ℕ) (io : InOrder n order) (me : ℕ) (below :
         about = λ q. absurd (eqb-false H R refl q);
       });
       few = omega arith;
+      passed = omega arith;
     })
 
     pub watch-took : a .watch ≢ off → Took n h w last t me a (onWatchDue order w t me a)

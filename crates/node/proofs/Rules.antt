@@ -1,5 +1,5 @@
 -- What the code of each rule gives is what its definition says. Assumes nothing.
-use mathlib.Core.Path.{_≡_, sym, _∙_}
+use mathlib.Core.Path.{_≡_, sym, ap, _∙_}
 use mathlib.Core.Bool.{Bool, true, false}
 use mathlib.Core.List.{List, [], _∷_}
 use Prim.Native.Nat.{ℕ, _+_, _*_, _≤_, _<_}
@@ -8,10 +8,12 @@ use native.Mathlib.Omega.{arith}
 use borrow.Author.Tests.{eq-eqb, ne-eqb, lt-ltb, le-ltb}
 use lib.ListN.{length}
 use Rattle.limits.specs.Limits.{mostNodes}
+use Rattle.ring.specs.declared.NodeBefore.{NodeBefore}
 use Rattle.ring.specs.Ring.{listed, listing, place, back, next}
 use Rattle.node.specs.declared.Node.{Node}
 use Rattle.node.specs.Node.{H, O, message, silent, sending, alone, withObserver, withWatch, withHeartbeat, withList, turned, relayed, opening}
-use Rattle.node.specs.Node.{onHeartbeat, onObserver, onReport, onHeartbeatDue, onMessage, leftList, newEmitter, moved, leaving}
+use Rattle.node.specs.Node.{onHeartbeat, onObserver, onReport, onHeartbeatDue, onMessage, turn, leftList, searchLeft, newEmitter, passedOver}
+use Rattle.node.specs.Node.{moved, leaving}
 use Rattle.node.proofs.Messages.{relayed-turned}
 
 -- ---- opening
@@ -21,10 +23,10 @@ module _ (order : List ℕ) (h w me : ℕ) where
   unfolding opening
   opening-alone l = rw (le-ltb 1 (length order) l)
 
-  pub opening-joined : 1 < length order → (p e o : ℕ) → p ≡ place order me → e ≡ back order 0 p → o ≡ next order 0 p
-      → opening order h w me ≡ record { emitter = e; observer = o; watch = w + 1; heartbeat = h + 1; list = 0 }
+  pub opening-joined : 1 < length order → (p o : ℕ) (b : NodeBefore) → p ≡ place order me → b ≡ back order 0 p → o ≡ next order 0 p
+      → opening order h w me ≡ record { emitter = b .node; observer = o; watch = w + 1; heartbeat = h + 1; list = 0 }
   unfolding opening
-  opening-joined l p e o pq eq oq = rw (lt-ltb 1 (length order) l, eq, oq, pq, add-one w, add-one h)
+  opening-joined l p o b pq bq oq = rw (lt-ltb 1 (length order) l, bq, oq, pq, add-one w, add-one h)
 
 -- ---- messages
 
@@ -61,7 +63,7 @@ module _ (order : List ℕ) (w tick me subject : ℕ) (n : Node) (b : Bool) (bq 
       unfolding onReport
       report-new e d dq l =
           rw (sym bq ∙ t, ne-eqb subject me ne, ne-eqb subject (n .emitter) e, ← dq)
-          (sym (relayed-turned order me subject (withList n d) [] (omega arith) l))
+          (sym (relayed-turned order me subject (withList n d) [] 0 (omega arith) l))
 
 -- ---- timers
 
@@ -70,26 +72,32 @@ pub heartbeat-sent : (h tick : ℕ) (n : Node)
 unfolding onHeartbeatDue
 heartbeat-sent h tick n = rw (add-one (tick + h))
 
--- ---- leaving the emitter: d is the list with it, p its place, e the new one
+-- ---- leaving the emitter: d is the list with it, p its place, b what the search finds
 
-module _ (order : List ℕ) (w tick me : ℕ) (n : Node) (d p e : ℕ) (dq : d ≡ leftList n) (pq : p ≡ place order (n .emitter))
-    (eq : e ≡ back order d p) where
-  new-emitter : newEmitter order n ≡ e
-  new-emitter = rw (← dq, ← pq) (sym eq)
+module _ (order : List ℕ) (w tick me : ℕ) (n : Node) (d p : ℕ) (b : NodeBefore) (dq : d ≡ leftList n) (pq : p ≡ place order (n .emitter))
+    (bq : b ≡ back order d (p + 1)) where
+  found : searchLeft order n ≡ b
+  found = rw (← dq, ← pq, ← add-one p) (sym bq)
 
-  pub leaving-alone : e ≡ me → leaving order w tick me n ≡ silent (alone me d)
+  new-emitter : newEmitter order n ≡ b .node
+  new-emitter = ap (λ (x : NodeBefore). x .node) found
+
+  passed-over : passedOver order n ≡ b .passed
+  passed-over = ap (λ (x : NodeBefore). x .passed) found
+
+  pub leaving-alone : b .node ≡ me → leaving order w tick me n ≡ turn (alone me d) [] (b .passed)
   unfolding leaving
-  leaving-alone z = rw (new-emitter, eq-eqb e me z, ← dq)
+  leaving-alone z = rw (new-emitter, passed-over, eq-eqb (b .node) me z, ← dq)
 
   -- the node and its message O, as the code has them; the reports follow
-  pub leaving-moves : (e ≡ me → ⊥) → length order ≤ mostNodes → (m : Node)
-      → m ≡ record { emitter = e; observer = n .observer; watch = tick + 2 * w + 1; heartbeat = n .heartbeat; list = d }
-      → turned (leaving order w tick me n) ≡ relayed order me (n .emitter) (turned (sending m (message O e 0 ∷ [])))
+  pub leaving-moves : (b .node ≡ me → ⊥) → length order ≤ mostNodes → (m : Node)
+      → m ≡ record { emitter = b .node; observer = n .observer; watch = tick + 2 * w + 1; heartbeat = n .heartbeat; list = d }
+      → turned (leaving order w tick me n) ≡ relayed order me (n .emitter) (turned (turn m (message O (b .node) 0 ∷ []) (b .passed)))
   unfolding leaving
   leaving-moves z l m mq =
-      let moves : m ≡ moved w tick e d n = rw (add-one (tick + 2 * w)) at mq in
-      rw (new-emitter, ne-eqb e me z, ← dq, moves)
-      (sym (relayed-turned order me (n .emitter) (moved w tick e d n) (message O e 0 ∷ []) (omega arith) l))
+      let moves : m ≡ moved w tick (b .node) d n = rw (add-one (tick + 2 * w)) at mq in
+      rw (new-emitter, passed-over, ne-eqb (b .node) me z, ← dq, moves)
+      (sym (relayed-turned order me (n .emitter) (moved w tick (b .node) d n) (message O (b .node) 0 ∷ []) (b .passed) (omega arith) l))
 
 -- ---- a message of a kind
 

@@ -8,15 +8,17 @@ use lib.Dec.{eqb, ltb}
 use lib.ListN.{length, replicate}
 use lib.Seq.{sets}
 use Rattle.limits.specs.Limits.{mostSent}
-use Rattle.ring.specs.Ring.{listed, listing, place, back, next, targets}
+use Rattle.ring.specs.Ring.{listed, listing, place, back, backFrom, next, targets}
+use Rattle.ring.specs.declared.NodeBefore.{NodeBefore}
 use Rattle.node.specs.declared.Message.{Message}
 use Rattle.node.specs.declared.Node.{Node}
 use Rattle.node.specs.declared.Turned.{Turned}
 
--- what a rule gives
+-- what a rule gives: the node after it, what that sends, and how many listed nodes the search for a new emitter passed, 0 where there was none
 pub record Turn : Type 0 where
   pub node : Node
   pub sends : List Message
+  pub passed : ℕ
 
 -- ---- timers and messages
 
@@ -57,9 +59,13 @@ withHeartbeat n x = record { emitter = n .emitter; observer = n .observer; watch
 abbrev pub withList : Node → ℕ → Node
 withList n x = record { emitter = n .emitter; observer = n .observer; watch = n .watch; heartbeat = n .heartbeat; list = x }
 
--- a node, with the messages that it sends
+-- a node, with the messages that it sends, and how many listed nodes it passed in a search for a new emitter
+abbrev pub turn : Node → List Message → ℕ → Turn
+turn n ms passed = record { node = n; sends = ms; passed = passed }
+
+-- a node that makes no such search
 abbrev pub sending : Node → List Message → Turn
-sending n ms = record { node = n; sends = ms }
+sending n ms = turn n ms 0
 
 -- a node that sends nothing
 abbrev pub silent : Node → Turn
@@ -72,7 +78,7 @@ alone me list = record { emitter = me; observer = me; watch = off; heartbeat = o
 -- a node of a ring of two or more, at opening
 abbrev pub ringed : List ℕ → ℕ → ℕ → ℕ → Node
 ringed order h w me = record {
-  emitter = back order 0 (place order me);
+  emitter = back order 0 (place order me) .node;
   observer = next order 0 (place order me);
   watch = due w;
   heartbeat = due h;
@@ -85,9 +91,15 @@ ringed order h w me = record {
 abbrev pub leftList : Node → ℕ
 leftList n = listing (n .list) (n .emitter)
 
--- "the new emitter is the first unlisted node going back from it"
+-- "the new emitter is the first unlisted node going back from it", and how many listed nodes that search passed, "the one just left included"
+abbrev pub searchLeft : List ℕ → Node → NodeBefore
+searchLeft order n = backFrom order (leftList n) (n .emitter)
+
 abbrev pub newEmitter : List ℕ → Node → ℕ
-newEmitter order n = back order (leftList n) (place order (n .emitter))
+newEmitter order n = searchLeft order n .node
+
+abbrev pub passedOver : List ℕ → Node → ℕ
+passedOver order n = searchLeft order n .passed
 
 -- a node moved to an emitter, with a list: "watch due becomes this tick + 2 × W"
 abbrev pub moved : ℕ → ℕ → ℕ → ℕ → Node → Node
@@ -100,11 +112,9 @@ unfoldable pub leaving : List ℕ → ℕ → ℕ → ℕ → Node → Turn
 leaving order w tick me n =
     let list : ℕ = leftList n in
     let emitter : ℕ = newEmitter order n in
-    cond (eqb emitter me) (silent (alone me list))
-    (record {
-      node = moved w tick emitter list n;
-      sends = message O emitter 0 ∷ reports (n .emitter) (targets order list (place order me));
-    })
+    let passed : ℕ = passedOver order n in
+    cond (eqb emitter me) (turn (alone me list) [] passed)
+    (turn (moved w tick emitter list n) (message O emitter 0 ∷ reports (n .emitter) (targets order list (place order me))) passed)
 
 -- ---- the rules
 
@@ -128,11 +138,11 @@ onReport order w tick me subject n =
     let list : ℕ = listing (n .list) subject in
     cond (listed (n .list) subject || eqb subject me) (silent n)
     (cond (eqb subject (n .emitter)) (leaving order w tick me n)
-    (record { node = withList n list; sends = reports subject (targets order list (place order me)) }))
+    (sending (withList n list) (reports subject (targets order list (place order me)))))
 
 -- heartbeat due: send H to the observer; due becomes this tick + H
 unfoldable pub onHeartbeatDue : ℕ → ℕ → Node → Turn
-onHeartbeatDue h tick n = record { node = withHeartbeat n (due (tick + h)); sends = message H (n .observer) 0 ∷ [] }
+onHeartbeatDue h tick n = sending (withHeartbeat n (due (tick + h))) (message H (n .observer) 0 ∷ [])
 
 -- watch due: the node leaves its emitter
 abbrev pub onWatchDue : List ℕ → ℕ → ℕ → ℕ → Node → Turn
@@ -150,10 +160,14 @@ unfoldable pub places : List Message → List Message
 places ms = ms ++ replicate (mostSent - length ms) (message 0 0 0)
 
 unfoldable pub turned : Turn → Turned
-turned u = record { node = u .node; sent = places (u .sends); count = length (u .sends) }
+turned u = record { node = u .node; sent = places (u .sends); count = length (u .sends); passed = u .passed }
+
+-- a node after a rule whose search passed so many listed nodes
+unfoldable pub withPassed : Turned → ℕ → Turned
+withPassed t passed = record { node = t .node; sent = t .sent; count = t .count; passed = passed }
 
 -- a node after a rule, with R of a subject to its forward targets after what it sends already
 unfoldable pub relayed : List ℕ → ℕ → ℕ → Turned → Turned
 relayed order me subject t =
     let ms : List Message = reports subject (targets order (t .node .list) (place order me)) in
-    record { node = t .node; sent = sets (t .sent) (t .count) ms; count = t .count + length ms }
+    record { node = t .node; sent = sets (t .sent) (t .count) ms; count = t .count + length ms; passed = t .passed }

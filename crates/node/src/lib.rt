@@ -7,7 +7,7 @@ ghost use lib.ListN.{length, take};
 ghost use lib.Seq.{sets};
 ghost use Rattle.limits.specs.Limits.{mostNodes, mostH, mostW, mostTick};
 ghost use Rattle.node.specs.Node.{message, reports, silent, sending, alone, opening, onHeartbeat, onObserver, onReport, onHeartbeatDue, onWatchDue};
-ghost use Rattle.node.specs.Node.{onMessage, turned, relayed, leaving};
+ghost use Rattle.node.specs.Node.{onMessage, turned, relayed, leaving, withPassed};
 ghost use Rattle.node.specs.Range.{nodeTest, apart, liveTest};
 
 // A node's fields. A timer is 0 where it is off, else one more than the tick at which it is due.
@@ -26,11 +26,13 @@ pub struct Message {
     pub subject: u8,
 }
 
-// A node after a rule, with what it sends: the first `count` of seven messages. The others are zero.
+// A node after a rule, with what it sends: the first `count` of seven messages. The others are zero. And how many listed nodes its search for a
+// new emitter passed, 0 where there was none.
 pub struct Turned {
     pub node: Node,
     pub sent: [Message; 7],
     pub count: usize,
+    pub passed: u8,
 }
 
 fn no_message() -> Message
@@ -51,6 +53,7 @@ pub fn quiet(n: Node) -> Turned
         node: n,
         sent: [no_message(); 7],
         count: 0,
+        passed: 0,
     }
 }
 
@@ -64,6 +67,21 @@ fn sends_one(n: Node, m: Message) -> Turned
         node: n,
         sent,
         count: 1,
+        passed: 0,
+    }
+}
+
+// A node after a rule whose search for a new emitter passed so many listed nodes.
+fn with_passed(t: Turned, passed: u8) -> Turned
+    ensures { λ r. ⌜ r ≡ withPassed t passed ⌝ }
+{
+    let node = t.node;
+    let sent = t.sent;
+    Turned {
+        node,
+        sent,
+        count: t.count,
+        passed,
     }
 }
 
@@ -108,6 +126,7 @@ fn relay(order: &[u8], me: u8, subject: u8, t: Turned) -> Turned
         node,
         sent,
         count: t.count + jumps,
+        passed: t.passed,
     }
 }
 
@@ -124,27 +143,29 @@ fn lone(me: u8, list: u64) -> Node
     }
 }
 
-// Leaving the emitter: it is listed and reported, and the first unlisted node going back from it becomes the emitter.
+// Leaving the emitter: it is listed and reported, and the first unlisted node going back from it becomes the emitter. The search begins at the node
+// that is left, so that it is passed too.
 fn leave_emitter(order: &[u8], w: u32, tick: u32, me: u8, n: Node) -> Turned
     requires { ⌜ (1 ≤ length (now order)) × (length (now order) ≤ mostNodes) × (w ≤ mostW) × (tick ≤ mostTick) × (n .emitter < mostNodes) ⌝ }
     ensures { λ r. ⌜ r ≡ turned (leaving (now (order .entry)) w tick me n) ⌝ }
 {
     let list = ring::with_listed(n.list, n.emitter);
     let p = ring::place_of(order, n.emitter);
-    let emitter = ring::find_back(order, list, p);
-    if emitter == me {
-        return quiet(lone(me, list));
+    let found = ring::find_back(order, list, p + 1);
+    if found.node == me {
+        return with_passed(quiet(lone(me, list)), found.passed);
     }
     let mut m = n;
-    m.emitter = emitter;
+    m.emitter = found.node;
     m.watch = tick + 2 * w + 1;
     m.list = list;
     let observe = Message {
         kind: b'O',
-        to: emitter,
+        to: found.node,
         subject: 0,
     };
-    relay(order, me, n.emitter, sends_one(m, observe))
+    let turned = with_passed(sends_one(m, observe), found.passed);
+    relay(order, me, n.emitter, turned)
 }
 
 // Opening, at tick 0.
@@ -156,10 +177,10 @@ pub fn opened(order: &[u8], h: u32, w: u32, me: u8) -> Node
         return lone(me, 0);
     }
     let p = ring::place_of(order, me);
-    let emitter = ring::find_back(order, 0, p);
+    let before = ring::find_back(order, 0, p);
     let observer = ring::find_next(order, 0, p);
     Node {
-        emitter,
+        emitter: before.node,
         observer,
         watch: w + 1,
         heartbeat: h + 1,

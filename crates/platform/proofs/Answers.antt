@@ -9,7 +9,7 @@ use lib.ListN.{length, getD}
 use Rattle.text.specs.Put.{Put}
 use Rattle.runfile.specs.Text.{planText}
 use Rattle.runfile.proofs.Size.{plan-size}
-use Rattle.limits.specs.Limits.{lineRoom, fileRoom}
+use Rattle.limits.specs.Limits.{logRoom, fileRoom}
 use Rattle.store.specs.Store.{planIn, stateIn, storeInRange}
 use Rattle.store.specs.Inside.{Held}
 use Rattle.platform.specs.declared.Stepped.{Stepped}
@@ -30,14 +30,14 @@ module _ (b log : List ℕ) where
   unfolding step
   step-bad bad = rw bad (refl, (refl, refl))
 
-  pub step-short : storeInRange b ≡ true → length log < lineRoom → Steps (step b log) (Unstepped shortPart) b log
+  pub step-short : storeInRange b ≡ true → length log < logRoom → Steps (step b log) (Unstepped shortPart) b log
   unfolding step
-  step-short ok short = rw (ok, lt-ltb (length log) lineRoom short) (refl, (refl, refl))
+  step-short ok short = rw (ok, lt-ltb (length log) logRoom short) (refl, (refl, refl))
 
-  pub step-next : {a : Stepped} {b' log' : List ℕ} → storeInRange b ≡ true → lineRoom ≤ length log → Steps (stepNext b log) a b' log'
+  pub step-next : {a : Stepped} {b' log' : List ℕ} → storeInRange b ≡ true → logRoom ≤ length log → Steps (stepNext b log) a b' log'
       → Steps (step b log) a b' log'
   unfolding step
-  step-next ok room e = rw (ok, le-ltb (length log) lineRoom room) e
+  step-next ok room e = rw (ok, le-ltb (length log) logRoom room) e
 
 -- ---- run
 

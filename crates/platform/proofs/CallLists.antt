@@ -8,7 +8,7 @@ use native.Mathlib.Omega.{arith}
 use lib.Dec.{leb, ltb}
 use lib.ListN.{getD}
 use Rattle.plans.specs.Plan.{Plan, planTest}
-use Rattle.limits.specs.Limits.{mostNext, lineRoom}
+use Rattle.limits.specs.Limits.{mostNext, logRoom}
 use Rattle.model.specs.Platform.{State, step as stepOf, run as runOf, start, try, left, steps, after, called, calls, SizedCall}
 use Rattle.plans.specs.Plain.{Plain}
 use Rattle.plans.proofs.Facts.{plan-plain}
@@ -23,7 +23,7 @@ use Rattle.platform.proofs.Stores.{Holds, plan-of, state-of, in-range-o
 called-steps : (p : Plan) (c : SizedCall) (s : State) → (k : ℕ) × (called p c s ≡ steps p k s)
 unfolding called steps
 called-steps p (runOf budget) s = (budget, refl)
-called-steps p (stepOf room) s = go (ltb room lineRoom)
+called-steps p (stepOf room) s = go (ltb room logRoom)
   where
     go : (b : Bool) → (k : ℕ) × (cond b s (left s (try p s)) ≡ steps p k s)
     go true = (0, refl)

@@ -6,7 +6,6 @@ use native.Mathlib.Omega.{arith}
 use lib.ListN.{length}
 use Rattle.text.specs.Put.{Put}
 use Rattle.logline.specs.declared.Line.{Line}
-use Rattle.limits.specs.Limits.{lineRoom}
 use Rattle.logline.specs.Line.{lineText}
 use Rattle.model.specs.declared.Deed.{Deed}
 use Rattle.plans.specs.Plan.{Plan}

@@ -13,7 +13,7 @@ use Rattle.plans.specs.Plan.{Plan, planTest}
 use Rattle.runfile.specs.Text.{planText}
 use mathlib.Mathlib.Data.Bool.Basic.{and-elim-left as and-first, and-elim-right as and-second}
 use Rattle.plans.proofs.Tests.{Ranges, ranges}
-use Rattle.limits.specs.Limits.{mostNext, lineRoom, storeSize, fileRoom}
+use Rattle.limits.specs.Limits.{mostNext, logRoom, storeSize, fileRoom}
 use Rattle.model.specs.Platform.{State, Outcome, did, ended, refused, try, left, steps, runAnswer, eventCount, spent, finished, overfull, called, Ending}
 use Rattle.plans.specs.Plain.{Plain}
 use Rattle.model.specs.Range.{Sound, soundTest, storeTest}
@@ -59,7 +59,7 @@ module _ (p : Plan) (s : State) (h : Holds p s) where
 
 module _ (b : List ℕ) (p : Plan) (s : State) (ok : storeInRange b ≡ true) (plan : planIn b ≡ p) (state : stateIn b ≡ s) where
   pub step-in : (log : List ℕ) → step b log
-      ≡ cond (ltb (length log) lineRoom) (record { answer = Unstepped shortPart; store = b; log = log }) (stepOutcome p s (try p s) b log)
+      ≡ cond (ltb (length log) logRoom) (record { answer = Unstepped shortPart; store = b; log = log }) (stepOutcome p s (try p s) b log)
   unfolding step
   step-in log = rw (ok, plan, state)
 
@@ -98,7 +98,7 @@ module _ (p : Plan) (s : State) (h : Holds p s) (cap : s .next ≤ mostNext) whe
   abbrev stepped : Bool → List ℕ → AfterStep
   stepped short log = cond short (record { answer = Unstepped shortPart; store = encode p s; log = log }) (stepOutcome p s (try p s) (encode p s) log)
 
-  step-of : (log : List ℕ) → step (encode p s) log ≡ stepped (ltb (length log) lineRoom) log
+  step-of : (log : List ℕ) → step (encode p s) log ≡ stepped (ltb (length log) logRoom) log
   step-of log = step-in (encode p s) p s in-range (plan-of p s h) (state-of p s h) log
 
   run-of : (budget : ℕ) → run (encode p s) budget ≡ runState p s budget
@@ -107,7 +107,7 @@ module _ (p : Plan) (s : State) (h : Holds p s) (cap : s .next ≤ mostNext) whe
   -- a call leaves the encoding of what the model's call does to the state
   pub call-store : (c : Call) → storeAfter c (encode p s) ≡ encode p (called p (sized c) s)
   unfolding storeAfter sized called runState
-  call-store (aStep log) = ap (λ (a : AfterStep). a .store) (step-of log) ∙ go (ltb (length log) lineRoom)
+  call-store (aStep log) = ap (λ (a : AfterStep). a .store) (step-of log) ∙ go (ltb (length log) logRoom)
     where
       go : (short : Bool) → (stepped short log) .store ≡ encode p (cond short s (left s (try p s)))
       go true = refl
@@ -116,7 +116,7 @@ module _ (p : Plan) (s : State) (h : Holds p s) (cap : s .next ≤ mostNext) whe
 
   pub call-not-7 : (c : Call) → refusal c (encode p s) ≢ badStore
   unfolding refusal runState stepRefusal
-  call-not-7 (aStep log) = subst (λ (a : AfterStep). stepRefusal (a .answer) ≢ badStore) (sym (step-of log)) (go (ltb (length log) lineRoom))
+  call-not-7 (aStep log) = subst (λ (a : AfterStep). stepRefusal (a .answer) ≢ badStore) (sym (step-of log)) (go (ltb (length log) logRoom))
     where
       go : (short : Bool) → stepRefusal ((stepped short log) .answer) ≢ badStore
       go true = λ e. omega arith

@@ -11,7 +11,7 @@ use Rattle.logline.specs.Line.{lineText}
 use Rattle.plans.specs.Plan.{Plan}
 use Rattle.runfile.specs.Text.{planText}
 use Rattle.runfile.specs.File.{FileAnswer, accepted, fileOf, turnedDown}
-use Rattle.limits.specs.Limits.{storeSize, lineRoom, fileRoom}
+use Rattle.limits.specs.Limits.{storeSize, logRoom, fileRoom}
 use Rattle.limits.specs.Refusals.{badStore, tooMany, shortPart}
 use Rattle.model.specs.Platform.{State, Outcome, did, ended, refused, start, try, steps, eventCount, runAnswer, spent, finished, overfull, Ending}
 use Rattle.model.specs.Lines.{lineOf, eventLines, lastLine, linesText}
@@ -72,7 +72,7 @@ stepNext store log = stepOutcome (planIn store) (stateIn store) (try (planIn sto
 unfoldable pub step : List ℕ → List ℕ → AfterStep
 step store log =
     cond (storeInRange store)
-    (cond (ltb (length log) lineRoom)
+    (cond (ltb (length log) logRoom)
     (record { answer = Unstepped shortPart; store = store; log = log })
     (stepNext store log))
     (record { answer = Unstepped badStore; store = store; log = log })

@@ -11,7 +11,7 @@ use store::messages;
 ghost use mathlib.Core.Path.{_≡_};
 ghost use Prim.Native.Nat.{_≤_};
 ghost use lib.ListN.{length};
-ghost use Rattle.limits.specs.Limits.{lineRoom};
+ghost use Rattle.limits.specs.Limits.{logRoom};
 ghost use Rattle.event.specs.Ready.{Ready};
 ghost use Rattle.queue.specs.Rows.{size};
 ghost use Rattle.platform.specs.Calls.{stepNext, runNext};
@@ -19,7 +19,7 @@ ghost use Rattle.platform.specs.Calls.{stepNext, runNext};
 // The next event and its lines, or the last line where none is left.
 pub fn step_ready(store: &mut [u8], log: &mut [u8]) -> Stepped
     requires { ⌜ Ready (now store) ⌝ }
-    requires { ⌜ lineRoom ≤ length (now log) ⌝ }
+    requires { ⌜ logRoom ≤ length (now log) ⌝ }
     ensures { λ r. ⌜ r ≡ stepNext (now (store .entry)) (now (log .entry)) .answer ⌝ }
     ensures { λ _. ⌜ now (store .exit) ≡ stepNext (now (store .entry)) (now (log .entry)) .store ⌝ }
     ensures { λ _. ⌜ now (log .exit) ≡ stepNext (now (store .entry)) (now (log .entry)) .log ⌝ }

@@ -6,7 +6,7 @@ mod advance; // advance.rt: events, for a step and for a run
 use event::lines;
 use limits::BAD_STORE;
 use limits::FILE_ROOM;
-use limits::LINE_ROOM;
+use limits::LOG_ROOM;
 use limits::SHORT_PART;
 use logline::Line;
 use runfile::Read;
@@ -68,7 +68,7 @@ pub fn step(store: &mut [u8], log: &mut [u8]) -> Stepped
     if !lent::in_range(store) {
         return Stepped::Refused(BAD_STORE);
     }
-    if log.len() < LINE_ROOM {
+    if log.len() < LOG_ROOM {
         return Stepped::Refused(SHORT_PART);
     }
     advance::step_ready(store, log)

@@ -10,6 +10,7 @@ use lib.Dec.{eqb, ltb, leb}
 use lib.ListN.{length, getD, take, drop, replicate}
 use Rattle.limits.specs.Limits.{mostNodes}
 use Rattle.limits.specs.Refusals.{accepted, outOfRange}
+use Rattle.ring.specs.declared.NodeBefore.{NodeBefore}
 
 -- ---- 01's numbers
 
@@ -66,6 +67,15 @@ unlisted d xs = keep (λ i. not (listed d i)) xs
 unfoldable pub unlistedSet : ℕ → ℕ → ℕ
 unlistedSet n d = 2 ^ n - 1 - d % 2 ^ n
 
+-- ---- the answer of a search: a node, and how many listed nodes were passed on the way to it
+
+abbrev pub nodeBefore : ℕ → ℕ → NodeBefore
+nodeBefore node passed = record { node = node; passed = passed }
+
+-- one more is passed
+unfoldable pub passing : NodeBefore → NodeBefore
+passing b = nodeBefore (b .node) (suc (b .passed))
+
 -- ---- "nodes are 0 to N−1 in a ring"
 
 -- the place of node i, or the list's length where it has none
@@ -89,9 +99,19 @@ round order p = drop p order ++ take p order
 unfoldable pub ahead : List ℕ → ℕ → ℕ → ℕ → ℕ
 ahead order d p k = getD (unlisted d (round order p)) k none
 
--- "the first unlisted node going back" from the place p; the node there comes last
-unfoldable pub back : List ℕ → ℕ → ℕ → ℕ
-back order d p = getD (unlisted d (reverse (round order p))) 0 none
+-- of nodes in turn, the first that d does not list, and how many listed ones are passed before it
+unfoldable pub firstUnlisted : ℕ → List ℕ → NodeBefore
+firstUnlisted d [] = nodeBefore none 0
+firstUnlisted d (x ∷ xs) = cond (listed d x) (passing (firstUnlisted d xs)) (nodeBefore x 0)
+
+-- "the search for the node before": "the first unlisted node going back" from the place p, and "how many listed nodes it passed". It begins at
+-- the place before p, and the node at p comes last
+unfoldable pub back : List ℕ → ℕ → ℕ → NodeBefore
+back order d p = firstUnlisted d (reverse (round order p))
+
+-- the search from a node that is just left: it begins at that node, listed by then, and so has "the one just left included"
+abbrev pub backFrom : List ℕ → ℕ → ℕ → NodeBefore
+backFrom order d e = back order d (suc (place order e))
 
 -- the first unlisted node ahead of the place p; the node there comes last
 unfoldable pub next : List ℕ → ℕ → ℕ → ℕ

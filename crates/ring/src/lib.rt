@@ -23,6 +23,12 @@ pub struct Table {
     pub rows: [[u8; ROW_SIZE]; MOST_NODES],
 }
 
+// The answer of the search for the node before: that node, and how many listed nodes were passed on the way to it.
+pub struct NodeBefore {
+    pub node: u8,
+    pub passed: u8,
+}
+
 // Whether the dead list d lists node i.
 pub fn is_listed(d: u64, i: u8) -> bool
     ensures { λ r. ⌜ r ≡ listed d i ⌝ }
@@ -137,19 +143,22 @@ pub fn find_ahead(order: &[u8], d: u64, p: usize, k: usize) -> u8
     NONE
 }
 
-// The first unlisted node going back from the place p, or 255.
-pub fn find_back(order: &[u8], d: u64, p: usize) -> u8
+// The first unlisted node going back from the place p, or 255, and how many listed ones were passed.
+pub fn find_back(order: &[u8], d: u64, p: usize) -> NodeBefore
+    requires { ⌜ length (now order) ≤ mostNodes ⌝ }
     ensures { λ r. ⌜ r ≡ back (now (order .entry)) d p ⌝ }
 {
+    let mut passed: u8 = 0;
     let mut s = order.len();
     while 0 < s {
         s -= 1;
         let x = step(order, p, s);
         if !is_listed(d, x) {
-            return x;
+            return NodeBefore { node: x, passed };
         }
+        passed += 1;
     }
-    NONE
+    NodeBefore { node: NONE, passed }
 }
 
 // The first unlisted node ahead of the place p, or 255.

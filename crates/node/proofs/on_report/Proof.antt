@@ -1,7 +1,6 @@
 -- `node::on_report` meets its contract. Assumes nothing.
 use mathlib.Core.Path.{sym, ap, _∙_}
-use mathlib.Core.List.{[]}
-use Rattle.node.specs.Node.{turned, relayed}
+use Rattle.node.specs.Node.{silent, turned, relayed}
 use Rattle.node.proofs.Messages.{turned-count}
 use Rattle.node.proofs.Rules.{report-known, report-own, report-leaves, report-new}
 use borrow.Author.Needs.{needs}
@@ -25,7 +24,7 @@ returns-3 c =
     ∙ ap turned (sym (report-leaves _ _ _ _ _ _ _ (at-if1 .before .is-listed .ensures) (at-if1 .if1 .left) (at-if2 .if2 .left) (c .before .if3 .taken)))
 
 relay-requires : tie.Need-relay-requires
-relay-requires c κs = let one = turned-count _ _ [] (c .quiet3 .ensures) in search needs
+relay-requires c κs = let one = turned-count _ (silent _) (c .quiet3 .ensures) in search needs
 
 returns-4 : tie.Need-returns-4
 returns-4 c =

@@ -15,22 +15,22 @@ use Rattle.course.proofs.turn.send_all.Statement.{statement}
 use Rattle.course.proofs.turn.send_all.Tie as tie
 
 -- the turn of which the loop reads the messages and their count
-abbrev turnOf : Node → List Message → ℕ → Turned
-turnOf a sent count = record { node = a; sent = sent; count = count }
+abbrev turnOf : Node → ℕ → List Message → ℕ → Turned
+turnOf a passed sent count = record { node = a; sent = sent; count = count; passed = passed }
 
 abbrev Inv-loop : tie.InvT-loop
 Inv-loop b₀ q₀ start end t x sent count i₀ b q i =
     (i ≤ count)
     × (length b ≡ length b₀)
     × (length q ≡ length q₀)
-    × ((a : Node) (whole : List ℕ) → Apart b₀ q₀ start end whole → Turns whole t x (turnOf a sent count)
-    → Sent whole t x (turnOf a sent count) start end i b q)
+    × ((a : Node) (passed : ℕ) (whole : List ℕ) → Apart b₀ q₀ start end whole → Turns whole t x (turnOf a passed sent count)
+    → Sent whole t x (turnOf a passed sent count) start end i b q)
 
 abbrev μ-loop : tie.MeasureT-loop
 μ-loop b₀ q₀ start end t x sent count i₀ b q i = count - i
 
 loop-holds : tie.Need-loop-holds Inv-loop μ-loop
-loop-holds c = (omega arith, refl, refl, λ a whole s r. sent-starts whole _ _ _ _ _ _ _ s)
+loop-holds c = (omega arith, refl, refl, λ a k whole s r. sent-starts whole _ _ _ _ _ _ _ s)
 
 array-copy-out-stamp : tie.Need-array-copy-out-stamp Inv-loop μ-loop
 array-copy-out-stamp c =
@@ -45,7 +45,7 @@ stamp-requires c κs =
     let start = turn .before .before .before .before in
     let p = start .pre in
     let l = turn .loop in
-    let s = l .inv .3 (start .args .u .node) (p .whole) (p .apart) (p .turns) in
+    let s = l .inv .3 (start .args .u .node) (start .args .u .passed) (p .whole) (p .apart) (p .turns) in
     let n = sent-number (p .whole) _ _ (start .args .u) (p .turns) _ _ _ _ _ s (test .loop-test .taken) in
     ((apart-held (s .apart), sent-plan (p .whole) _ _ (start .args .u) (p .turns) _ _ _ _ _ s), (p .turns .tick, n))
 
@@ -64,7 +64,7 @@ push-requires c κs =
     let start = turn .before .before .before .before in
     let p = start .pre in
     let l = turn .loop in
-    let s = l .inv .3 (start .args .u .node) (p .whole) (p .apart) (p .turns) in
+    let s = l .inv .3 (start .args .u .node) (start .args .u .passed) (p .whole) (p .apart) (p .turns) in
     sent-open (p .whole) _ _ (start .args .u) (p .turns) _ _ _ _ _ s (test .loop-test .taken) (p .room)
 
 loop-again : tie.Need-loop-again Inv-loop μ-loop
@@ -84,7 +84,7 @@ loop-again c =
       omega (arith, less),
       search needs,
       search needs,
-      λ a whole s t. sent-turn whole _ _ _ t _ _ _ _ _ (l .inv .3 a whole s t) less _ _ refl _ (f .0) _ r room _ _ (f .1) q,
+      λ a k whole s t. sent-turn whole _ _ _ t _ _ _ _ _ (l .inv .3 a k whole s t) less _ _ refl _ (f .0) _ r room _ _ (f .1) q,
     )
 
 same-length : tie.Need-same-length Inv-loop μ-loop
@@ -98,7 +98,7 @@ returns c =
     let turn = c .before in
     let start = turn .before .before .before .before in
     let u = start .args .u in
-    λ whole s r. sent-all whole _ _ u _ _ _ _ _ (turn .loop .inv .3 (u .node) whole s r) (omega arith)
+    λ whole s r. sent-all whole _ _ u _ _ _ _ _ (turn .loop .inv .3 (u .node) (u .passed) whole s r) (omega arith)
 
 pub send-all-spec : {M : Type 1} → statement M
 send-all-spec =
