@@ -50,10 +50,10 @@ pub mod SpacedRuns
 pub mod NextEvent
 -- opening, and any event
 pub mod RangesKept
--- the cap on the next number
-pub mod NextNumber
 -- e from the calls alone
 pub mod Calls
+-- the cap on the next number, and the most events
+pub mod NextNumber
 -- which nodes have crashed
 pub mod Crashed
 -- ---- the platform's events are those of the proof, and the theorems

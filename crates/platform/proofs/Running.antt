@@ -7,7 +7,8 @@ use Prim.Native.Nat.{ℕ, zero, suc, _+_, _-_, _≤_, _<_}
 use native.Mathlib.Omega.{arith}
 use Rattle.plans.specs.Plan.{Plan}
 use Rattle.model.specs.Platform.{State, Event, crash, message, watch, heartbeat, Entry, Outcome, did, ended, refused, nextEvent, try, left, steps}
-use Rattle.model.specs.Platform.{eventCount, spent, finished, overfull, runAnswer, Ending}
+use Rattle.model.specs.Platform.{eventCount, spent, finished, overfull, runAnswer}
+use Rattle.model.proofs.Calls.{stuck, answer-try, count-try, answer-end}
 use Rattle.model.specs.declared.Deed.{Deed}
 use Rattle.store.specs.Store.{encode, planIn, stateIn}
 use Rattle.event.specs.declared.Happened.{Happened}
@@ -34,54 +35,6 @@ module _ (p : Plan) where
   pub starts : (first : State) (budget : ℕ) → Ongoing p first budget budget first
   starts first budget = record { within = omega arith; ends = refl; answer = refl; count = omega arith }
 
-  -- where nothing is done, nothing changes
-  stays : (k : ℕ) (s : State) → left s (try p s) ≡ s → steps p k s ≡ s
-  unfolding steps
-  stays zero s e = refl
-  stays (suc k) s e = rw e (stays k s e)
-
-  -- a budget of one more than k, by the outcome of its first try
-  abbrev answerAfter : ℕ → Outcome → Ending
-  answerAfter k (did e s') = runAnswer p k s'
-  answerAfter k ended = finished
-  answerAfter k refused = overfull
-
-  abbrev pub countAfter : ℕ → Outcome → ℕ
-  countAfter k (did e s') = suc (eventCount p k s')
-  countAfter k ended = 0
-  countAfter k refused = 0
-
-  answer-try : (k : ℕ) (s : State) {o : Outcome} → try p s ≡ o → runAnswer p (suc k) s ≡ answerAfter k o
-  unfolding runAnswer
-  answer-try k s {o} e = same (try p s) ∙ ap (answerAfter k) e
-    where
-      same : (o : Outcome) → elim o [ did e s' ↦ runAnswer p k s' | ended ↦ finished | refused ↦ overfull ] ≡ answerAfter k o
-      same (did e s') = refl
-      same ended = refl
-      same refused = refl
-
-  pub count-try : (k : ℕ) (s : State) {o : Outcome} → try p s ≡ o → eventCount p (suc k) s ≡ countAfter k o
-  unfolding eventCount
-  count-try k s {o} e = same (try p s) ∙ ap (countAfter k) e
-    where
-      same : (o : Outcome) → elim o [ did e s' ↦ suc (eventCount p k s') | ended ↦ zero | refused ↦ zero ] ≡ countAfter k o
-      same (did e s') = refl
-      same ended = refl
-      same refused = refl
-
-  -- a budget of 0, by whether an event is left
-  abbrev answerAtEnd : Option Entry → Ending
-  answerAtEnd none = finished
-  answerAtEnd (some e) = spent
-
-  answer-end : (s : State) {o : Option Entry} → nextEvent p s ≡ o → runAnswer p 0 s ≡ answerAtEnd o
-  unfolding runAnswer
-  answer-end s {o} e = same (nextEvent p s) ∙ ap answerAtEnd e
-    where
-      same : (o : Option Entry) → elim o [ none ↦ finished | some e ↦ spent ] ≡ answerAtEnd o
-      same none = refl
-      same (some e) = refl
-
   module _ (first : State) (budget : ℕ) (s : State) where
     -- what the run comes to, where it ends in s with the answer a
     abbrev pub EndsIn : Ran → Type 0
@@ -97,8 +50,8 @@ module _ (p : Plan) where
         rw one-less (record {
           within = omega (arith, h .within);
           ends = h .ends ∙ rw o;
-          answer = h .answer ∙ answer-try k s o;
-          count = omega (arith, h .within, h .count, count-try k s o);
+          answer = h .answer ∙ answer-try p k s o;
+          count = omega (arith, h .within, h .count, count-try p k s o);
         })
 
     -- no event is left, or the next is refused: the run ends here
@@ -106,29 +59,29 @@ module _ (p : Plan) where
     unfolding steps left ran
     ends-done zero h more o = absurd (omega arith)
     ends-done (suc k) h more o =
-        let none-more : eventCount p budget first ≡ budget - suc k = omega (arith, h .count, count-try k s o) in
-        (rw (h .answer ∙ answer-try k s o, none-more), h .ends ∙ rw o (stays k s (ap (left s) o)))
+        let none-more : eventCount p budget first ≡ budget - suc k = omega (arith, h .count, count-try p k s o) in
+        (rw (h .answer ∙ answer-try p k s o, none-more), h .ends ∙ rw o (stuck p k s (ap (left s) o)))
 
     pub ends-refused : (rest : ℕ) → Ongoing p first budget rest s → 0 < rest → try p s ≡ refused → EndsIn (Refused tooMany (budget - rest))
     unfolding steps left ran
     ends-refused zero h more o = absurd (omega arith)
     ends-refused (suc k) h more o =
-        let none-more : eventCount p budget first ≡ budget - suc k = omega (arith, h .count, count-try k s o) in
-        (rw (h .answer ∙ answer-try k s o, none-more), h .ends ∙ rw o (stays k s (ap (left s) o)))
+        let none-more : eventCount p budget first ≡ budget - suc k = omega (arith, h .count, count-try p k s o) in
+        (rw (h .answer ∙ answer-try p k s o, none-more), h .ends ∙ rw o (stuck p k s (ap (left s) o)))
 
     -- the budget is used up
     pub used-done : (rest : ℕ) → Ongoing p first budget rest s → rest ≤ 0 → nextEvent p s ≡ none → EndsIn (Done budget)
     unfolding steps eventCount ran
     used-done zero h full o =
         let all : eventCount p budget first ≡ budget = omega (arith, h .count) in
-        (rw (h .answer ∙ answer-end s o, all), h .ends)
+        (rw (h .answer ∙ answer-end p s o, all), h .ends)
     used-done (suc k) h full o = absurd (omega arith)
 
     pub used-spent : (rest : ℕ) → Ongoing p first budget rest s → rest ≤ 0 → (e : Entry) → nextEvent p s ≡ some e → EndsIn (Spent budget)
     unfolding steps eventCount ran
     used-spent zero h full e o =
         let all : eventCount p budget first ≡ budget = omega (arith, h .count) in
-        (rw (h .answer ∙ answer-end s o, all), h .ends)
+        (rw (h .answer ∙ answer-end p s o, all), h .ends)
     used-spent (suc k) h full e o = absurd (omega arith)
 
 -- ---- on the bytes of a store
