@@ -15,7 +15,8 @@
  *
  * An accepted call answers KELBRAUT_ACCEPTED. A refused one answers another number and writes nothing that is lent to it:
  * no byte of a record, of a store or of a part, and no number behind a pointer. Only a run that is refused by 8 keeps the
- * events before it, and says how many they are.
+ * events before it, and says how many they are. A dispatcher's call is not refused where an event of one of its stores is:
+ * it says which stores that has stopped.
  */
 #ifndef KELBRAUT_H
 #define KELBRAUT_H
@@ -35,7 +36,8 @@ extern "C" {
 #define KELBRAUT_SHORT_TIME_OUT 4 /* P line: W below H + D */
 #define KELBRAUT_BAD_ORDER 5      /* C or L line: not rising, or a node twice */
 #define KELBRAUT_MANY_DELAYS 6    /* L line: the 2,049th */
-#define KELBRAUT_BAD_STORE 7      /* not 65,536 bytes, a field out of range, or an unused byte not zero */
+#define KELBRAUT_BAD_STORE 7      /* not 65,536 bytes, a field out of range, or an unused byte not zero; part of stores: no
+                                     whole number of them, or one of them is out of range */
 #define KELBRAUT_OVERFULL 8       /* event: more than 2,048 messages would be in flight after it */
 #define KELBRAUT_SHORT_PART 9     /* message part under 56 bytes, log part under 80, file part under 65,536; also where
                                      less would do */
@@ -43,6 +45,8 @@ extern "C" {
 #define KELBRAUT_BAD_MESSAGE 11   /* unknown kind, or the sender or a report's subject is no other node of the ring */
 #define KELBRAUT_BAD_TICK 12      /* before the record's last tick, or above 1,000,000 */
 #define KELBRAUT_BAD_RING 13      /* Q line: not each node once */
+#define KELBRAUT_BAD_PART 14      /* part of stores: empty, or longer than eight of them */
+#define KELBRAUT_BAD_TURN 15      /* length of a turn: outside 1 to 1,000 */
 
 /* Kinds of message. */
 #define KELBRAUT_HEARTBEAT 'H' /* the sender lives; goes to its observer */
@@ -245,7 +249,7 @@ static inline uint8_t kelbraut_subject(const uint8_t message[KELBRAUT_MESSAGE]) 
  * ---- A rehearsal ----
  *
  * A run file says how many nodes there are, which of them crash and how long messages take. A store, 65,536 bytes, is
- * opened from it and holds the rehearsal; each call on it does the next events. To write the log of a run file:
+ * opened from it and holds the rehearsal; steps, runs and turns do its next events. To write the log of a run file:
  *
  *     uint8_t store[KELBRAUT_STORE], log[KELBRAUT_LOG_PART];
  *     uint64_t letter = 0, tick, node, other, size;
@@ -257,15 +261,15 @@ static inline uint8_t kelbraut_subject(const uint8_t message[KELBRAUT_MESSAGE]) 
  *         }
  *     }
  *
- * planner.c beside this file tries the crashes of a run file with several time-outs. A copy of a store's bytes is the
- * rehearsal at that moment, from which one can go on as often as one likes. A store that was opened, and that only these
- * calls have written since, is never refused by 7.
+ * planner.c beside this file tries the crashes of a run file with several time-outs, dispatch.c rehearses several files
+ * side by side. A copy of a store's bytes is the rehearsal at that moment, from which one can go on as often as one likes.
+ * A store that was opened, and that only these calls have written since, is never refused by 7.
  *
  * An accepted call writes every number behind its pointers. A refused one leaves them as they were, so look at the answer
  * first; on 8 a run writes `events` alone.
  *
  * Threads: calls on different stores may run at the same time, each with parts of its own. Those on one store come one
- * after another.
+ * after another; a dispatcher's call is one on each store of its part.
  *
  * Library: `rt staticlib planner` proves it and builds target/staticlib/libplanner.a, for x86-64 Linux, in about four
  * minutes, in a third of one where what is below it is proved already.
@@ -295,6 +299,10 @@ static inline uint8_t kelbraut_subject(const uint8_t message[KELBRAUT_MESSAGE]) 
 #define KELBRAUT_LONGEST_FILE 65536
 #define KELBRAUT_LOG_PART 80
 #define KELBRAUT_FILE_PART 65536
+
+/* Of a dispatcher's call: the most stores in its part, and the most events of a turn. */
+#define KELBRAUT_MOST_STORES 8
+#define KELBRAUT_LONGEST_TURN 1000
 
 /*
  * Letters of events. A message that is delivered has its kind for letter: KELBRAUT_HEARTBEAT and KELBRAUT_OBSERVER with
@@ -350,6 +358,39 @@ uint64_t kelbraut_run(uint8_t *store, size_t store_size, uint64_t budget, uint64
  * Answers 0, 7 or 9.
  */
 uint64_t kelbraut_write(const uint8_t *store, size_t store_size, uint8_t *part, size_t part_size, uint64_t *size);
+
+/*
+ * The dispatcher: rehearses several stores side by side, so that a long rehearsal does not keep the others waiting. The part
+ * `stores` has one to eight opened stores and nothing else; store i begins at byte i x 65,536. The call gives turns of
+ * `length` events, 1 to 1,000: as many turns as `turns` says, any number, or fewer where no store can go on.
+ *
+ * Who gets a turn: store 0, then the next by index, and after the last one store 0 again, round and round. A store that is
+ * done, with no event left up to its end tick, is passed over and uses no turn. In its turn a store does `length` events, or
+ * as many as are left. Where an event is refused by 8, the store keeps the events before it, has used its turn, maybe without
+ * any event, and is stopped: it is passed over for the rest of the call. So in a call a store that has an event left and is
+ * not stopped waits for at most seven turns of others, however long their rehearsals are.
+ *
+ * What is written: `given` becomes the number of turns given. All eight of `events` are written: events[i] becomes how many
+ * events store i did in this call, 0 where there is no store i. Bit i of `stopped` becomes 1 where store i is stopped, every
+ * other bit 0. Each store then holds what one kelbraut_run of it alone would leave with its turns x `length` as budget, and
+ * events[i] is what that run would count. How many turns it had follows, since all but its last have `length` events:
+ * events[i] / length, rounded up; where it is stopped, rounded down and one more, as the refused event was of its last turn.
+ *
+ * Which stores are done: where `given` is below `turns`, no store can go on, and each that is not stopped is done. Otherwise
+ * a store is done that is not stopped and whose events are no multiple of `length`; where they are one, it may be done or
+ * not, and kelbraut_run with budget 0 tells: `spent` becomes 0 where it is done.
+ *
+ * From call to call nothing is remembered but the stores. Each call starts at store 0. So where `turns` is no multiple of the
+ * number of stores that go on, the first of them get a turn more; with fewer turns than stores, the last get none until the
+ * first are done. A stopped store gets a turn again in the next call and is stopped again: take it out of the part.
+ *
+ * Each store is tested for 7 once a call, before the first turn, also where `turns` is 0. A refused call leaves everything:
+ * all stores, also those before the one that is out of range, and the numbers behind the three pointers. A thread that calls
+ * it needs as much stack as for kelbraut_run.
+ * Answers 0, 14, 15 or 7; 14 and 15 before a byte of the part is read.
+ */
+uint64_t kelbraut_dispatch(uint8_t *stores, size_t stores_size, uint64_t length, uint64_t turns, uint64_t *given,
+                           uint64_t events[KELBRAUT_MOST_STORES], uint64_t *stopped);
 
 #ifdef __cplusplus
 }

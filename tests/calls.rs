@@ -1,4 +1,5 @@
 //! The platform's calls, each in two ways: through the static library, and by the simulator on what a store holds.
+#![allow(dead_code)]
 
 use simulator::limits::*;
 use simulator::log;

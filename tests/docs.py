@@ -11,6 +11,8 @@ Looked at are words in backquotes, links, blocks of commands, and paths in plain
 - A name is defined in crates/ or include/kelbraut.h: a definition, law, record, field, constructor, function, type, constant, crate,
   module or must-fail edit. Of an expression that goes for what is applied; arguments are free. `a::b` is b in crate or module a.
 - A name beside a file, as in "`law` in `FILE`", "`FILE`: `law`" or "`law` (`FILE`)", is defined in that file.
+- The public calls, which are those exported for C and those in the table of docs/THEOREMS.md, have no `requires`, and the table has each
+  of the former.
 - A table whose first column is headed 'Crate' has a row for each crate. docs/README.md names every document, test and tool, and tests/run
   every test.
 
@@ -311,6 +313,36 @@ def figures(text, rows):
     return complaints
 
 
+def sources():
+    return {path: read(path) for path in glob.glob("crates/*/src/*.rt")}
+
+
+def public_calls(theorems, sources):
+    """Complaints about public calls: one that is exported for C and not in the table of calls, and one that asks its caller for something."""
+    complaints, listed, path = [], {}, ""
+    lines = theorems.split("\n")
+    at = lines.index("| Call | In | Contract by |")
+    for number, line in enumerate(lines[at + 2 :], at + 3):
+        if not line.startswith("|"):
+            break
+        calls, place = line.split("|")[1:3]
+        path = (re.findall(r"`(.*)`", place) or [path])[0]
+        listed.update({(path, call.split("::")[-1]): number for call in re.findall(r"`([\w:]+)`", calls)})
+    heads = {}
+    for source, text in sources.items():
+        for head in re.findall(r'^(?:pub )?(?:extern "C" )?fn .*?^\{', text, re.M | re.S):
+            heads[source, re.search(r"fn (\w+)", head).group(1)] = head
+    exported = {call for call, head in heads.items() if head.startswith('pub extern "C"') and not call[0].startswith("crates/lines/")}
+    complaints += [("docs/THEOREMS.md", at + 1, name, "exported, and not in the table") for source, name in sorted(exported - set(listed))]
+    for (source, name), number in listed.items():
+        head = heads.get((source, name))
+        if head is None:
+            complaints.append(("docs/THEOREMS.md", number, name, f"no such function in {source}"))
+        elif "requires" in head:
+            complaints.append((source, 1, name, "a public call with a `requires`"))
+    return complaints
+
+
 # ---- whether the check sees what is wrong
 
 
@@ -363,6 +395,13 @@ def self_test(repository, rows):
     for path, word in (("docs/README.md", "docs/LAYOUTS.md"), ("docs/README.md", "tools/bench.sh"), ("tests/run", "host")):
         if (path, 1, word) not in [complaint[:3] for complaint in unnamed]:
             failures.append(f"tests/docs.py: that {path} does not name {word} is not seen")
+    of_calls, run = read("docs/THEOREMS.md"), "    ensures { λ r. ⌜ r ≡ run (now (store .entry)) budget .answer ⌝ }"
+    platform, wanting = "crates/platform/src/lib.rt", "    requires { ⌜ budget ≡ 1 ⌝ }\n"
+    asked = {path: text.replace(run, wanting + run) if path == platform else text for path, text in sources().items()}
+    unlisted = public_calls(of_calls.replace("`kelbraut_write`, ", ""), sources())
+    for seen, word in ((public_calls(of_calls, asked), "run"), (unlisted, "kelbraut_write")):
+        if word not in [complaint[2] for complaint in seen]:
+            failures.append(f"tests/docs.py: that `{word}` asks for something, or is not in the table of calls, is not seen")
     return failures
 
 
@@ -375,6 +414,7 @@ def main():
     repository, rows = Repository(), counted()
     failures = self_test(repository, rows)
     complaints = index(repository, read("docs/README.md"), read("tests/run")) + figures(read(FIGURES), rows)
+    complaints += public_calls(read("docs/THEOREMS.md"), sources())
     for path in DOCUMENTS:
         complaints += Document(repository, path, read(path)).check()
     failures += map(shown, sorted(complaints))

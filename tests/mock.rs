@@ -1,4 +1,6 @@
-//! The platform's four calls over the simulator and its store, with one mistake at a time: what tests/platform.rs has to find.
+//! The platform's four calls over the simulator and its store, with one mistake at a time: what tests/platform.rs has to find. With none, they
+//! are the other calls beside tests/dispatch_mock.rs.
+#![allow(dead_code)]
 
 use super::calls::{opening, refused, simulated, Answer, Call};
 use simulator::layout::*;

@@ -1,7 +1,7 @@
 /*
- * The four calls of a rehearsal from C, as the header declares them: the ring is in the file's order, a run in pieces leaves
- * the store that steps leave, a step that moves an emitter writes two lines, the run file is written back, and a refused call
- * writes nothing that is lent to it, neither a byte nor a number.
+ * The five calls of a rehearsal from C, as the header declares them: the ring is in the file's order, a run in pieces leaves
+ * the store that steps leave, a step that moves an emitter writes two lines, the run file is written back, the dispatcher's
+ * turns leave the stores that runs leave, and a refused call writes nothing that is lent to it, neither a byte nor a number.
  */
 #include <inttypes.h>
 #include <stdio.h>
@@ -211,6 +211,95 @@ static void overfull_move(unsigned early, uint64_t wanted) {
     CHECK(store[EMITTERS + 61] == 60 && store[EMITTERS + 63] == (answer == KELBRAUT_ACCEPTED ? 61 : 62));
 }
 
+static uint8_t stores[(KELBRAUT_MOST_STORES + 1) * KELBRAUT_STORE], stores_kept[sizeof stores];
+static uint64_t given, events[KELBRAUT_MOST_STORES + 1], stopped;
+
+/* One number more than eight stands behind `events`: no call writes it. */
+static uint64_t dispatch(size_t size, uint64_t length, uint64_t turns) {
+    given = stopped = BEFORE;
+    for (unsigned i = 0; i <= KELBRAUT_MOST_STORES; i++) {
+        events[i] = BEFORE;
+    }
+    memcpy(stores_kept, stores, sizeof stores);
+    uint64_t answer = kelbraut_dispatch(stores, size, length, turns, &given, events, &stopped);
+    CHECK(events[KELBRAUT_MOST_STORES] == BEFORE);
+    return answer;
+}
+
+/* A dispatcher's call is refused by a number and leaves all stores and numbers. */
+static int turned_down(size_t size, uint64_t length, uint64_t turns, uint64_t by) {
+    int left = dispatch(size, length, turns) == by && given == BEFORE && stopped == BEFORE;
+    for (unsigned i = 0; i < KELBRAUT_MOST_STORES; i++) {
+        left = left && events[i] == BEFORE;
+    }
+    return left && memcmp(stores, stores_kept, sizeof stores) == 0;
+}
+
+/* Stores with 178, 8, 0 and 2,048 events, the last one with a refused event after them, and again the first, up to nine. */
+static void open_stores(void) {
+    static const char *const texts[] = {"P,6,5,27,2,90\nC,30,1\nC,35,2\n", ALONE, "P,1,1,2,1,5\n", OVERFULL};
+    for (unsigned i = 0; i <= KELBRAUT_MOST_STORES; i++) {
+        const char *text = texts[i % 4];
+        CHECK(open_text(text, strlen(text), sizeof store) == KELBRAUT_ACCEPTED);
+        memcpy(stores + i * KELBRAUT_STORE, store, sizeof store);
+    }
+}
+
+/*
+ * An accepted call on the first `count` stores gives so many turns, the i-th store having `had` of them and so many events, 0
+ * where there is none. Each store is what a run alone leaves, and what stands behind the part is left.
+ */
+static void dispatched(unsigned count, uint64_t length, uint64_t turns, const uint64_t *had, const uint64_t *did,
+                       uint64_t stop) {
+    uint64_t sum = 0;
+    CHECK(dispatch(count * KELBRAUT_STORE, length, turns) == KELBRAUT_ACCEPTED && stopped == stop);
+    for (unsigned i = 0; i < KELBRAUT_MOST_STORES; i++) {
+        CHECK(events[i] == (i < count ? did[i] : 0));
+        memcpy(store, stores_kept + i * KELBRAUT_STORE, sizeof store);
+        if (i < count) {
+            sum += had[i];
+            uint64_t wanted = stop >> i & 1 ? KELBRAUT_OVERFULL : KELBRAUT_ACCEPTED;
+            CHECK(run(sizeof store, had[i] * length) == wanted && a == did[i]);
+        }
+        CHECK(memcmp(store, stores + i * KELBRAUT_STORE, sizeof store) == 0);
+    }
+    CHECK(given == sum);
+}
+
+static void turns_go_round(void) {
+    static const uint64_t none[8] = {0}, once[] = {1, 1, 0, 1, 0, 0, 0, 0};
+    open_stores();
+    dispatched(8, 1000, 0, none, none, 0);
+    dispatched(8, 1, 3, once, once, 0);
+    dispatched(3, 10, 4, (const uint64_t[]){3, 1, 0}, (const uint64_t[]){30, 7, 0}, 0);
+    /* Store 3 has 23 whole turns left and is then not done: the refused event takes another turn, in each call anew. */
+    dispatched(4, 89, 24, (const uint64_t[]){2, 0, 0, 22}, (const uint64_t[]){147, 0, 0, 1958}, 0);
+    dispatched(4, 89, 1, (const uint64_t[]){0, 0, 0, 1}, (const uint64_t[]){0, 0, 0, 89}, 0);
+    dispatched(4, 89, 3, (const uint64_t[]){0, 0, 0, 1}, none, 8);
+    dispatched(4, 1, UINT64_MAX, (const uint64_t[]){0, 0, 0, 1}, none, 8);
+    open_stores();
+    dispatched(8, 512, UINT64_MAX, (const uint64_t[]){1, 1, 0, 5, 1, 1, 0, 5},
+               (const uint64_t[]){178, 8, 0, 2048, 178, 8, 0, 2048}, 0x88);
+    dispatched(3, 512, 7, none, none, 0);
+}
+
+/* 14 before 15, 15 before 7; 7 where the part is no whole stores, or where the first or the last of them is out of range. */
+static void turns_refused(void) {
+    const size_t eight = KELBRAUT_MOST_STORES * KELBRAUT_STORE;
+    open_stores();
+    CHECK(turned_down(0, 0, 1, KELBRAUT_BAD_PART) && turned_down(0, 1, 0, KELBRAUT_BAD_PART));
+    CHECK(turned_down(eight + 1, 1001, 1, KELBRAUT_BAD_PART) && turned_down(sizeof stores, 1, 1, KELBRAUT_BAD_PART));
+    CHECK(turned_down(eight, 0, 1, KELBRAUT_BAD_TURN) && turned_down(1, KELBRAUT_LONGEST_TURN + 1, 1, KELBRAUT_BAD_TURN));
+    CHECK(turned_down(eight, UINT64_MAX, 0, KELBRAUT_BAD_TURN));
+    CHECK(turned_down(1, 1, 1, KELBRAUT_BAD_STORE) && turned_down(KELBRAUT_STORE - 1, 1, 1, KELBRAUT_BAD_STORE));
+    CHECK(turned_down(KELBRAUT_STORE + 1, 1, 0, KELBRAUT_BAD_STORE) && turned_down(eight - 1, 1, 1, KELBRAUT_BAD_STORE));
+    stores[eight - 1] = 1;
+    CHECK(turned_down(eight, KELBRAUT_LONGEST_TURN, 1, KELBRAUT_BAD_STORE) && turned_down(eight, 1, 0, KELBRAUT_BAD_STORE));
+    CHECK(dispatch(eight - KELBRAUT_STORE, KELBRAUT_LONGEST_TURN, 1) == KELBRAUT_ACCEPTED && given == 1 && events[0] == 178);
+    stores[0] = 65;
+    CHECK(turned_down(KELBRAUT_STORE, 1, 1, KELBRAUT_BAD_STORE) && turned_down(eight, 0, 1, KELBRAUT_BAD_TURN));
+}
+
 int main(void) {
     followed_by(FILE_TEXT, sizeof FILE_TEXT - 1, (const uint8_t[]){1, 2, 3, 4, 5, 0});
     followed_by(IN_NUMBER_ORDER, sizeof IN_NUMBER_ORDER - 1, (const uint8_t[]){1, 2, 3, 4, 5, 0});
@@ -231,5 +320,7 @@ int main(void) {
     overfull();
     overfull_move(36, KELBRAUT_OVERFULL);
     overfull_move(37, KELBRAUT_ACCEPTED);
+    turns_go_round();
+    turns_refused();
     return 0;
 }

@@ -1,5 +1,5 @@
 #!/bin/sh
-# Tests the calls of a rehearsal in C through the static library: tests/planner.c calls all four, and the planner's program of
+# Tests the calls of a rehearsal in C through the static library: tests/planner.c calls all five, and the planner's program of
 # include/ is compiled from the header alone. What it writes is compared with fixed tables, and with those that tests/planner.py
 # computes from the rehearsal program's logs. Stops at the first failure.
 #

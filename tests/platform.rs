@@ -11,6 +11,7 @@
 
 mod calls;
 mod common;
+mod lent;
 #[cfg(mock)]
 mod mock;
 mod runs;
@@ -18,6 +19,7 @@ mod stores;
 
 use calls::{answer, opening, proved, refused, simulated, Answer, Call};
 use common::{count, ended, same, seed, shown};
+use lent::Lent;
 use simulator::generator::{self, USUAL};
 use simulator::layout;
 use simulator::limits::*;
@@ -31,6 +33,7 @@ use simulator::recount::{Moves, Recount};
 use simulator::settle;
 use simulator::store::{self, Held};
 use std::process::ExitCode;
+use stores::{platform_of, reached};
 
 /// How many files are generated where no count is given.
 const COUNT: u64 = 300;
@@ -42,47 +45,6 @@ const LENT_CALLS: u64 = 8;
 const MOVE_TRIES: u64 = 40;
 /// The numbers that the four calls answer, 0 where accepted.
 const NUMBERS: [usize; 11] = [0, 1, 2, 3, 4, 5, 6, 7, 8, 9, 13];
-/// Bytes on both sides of a lent part that no call may touch.
-const MARGIN: usize = 32;
-const MARGIN_BYTE: u8 = 0x5a;
-
-/// Bytes lent to a call, between their margins.
-#[derive(Clone)]
-struct Lent(Vec<u8>);
-
-impl Lent {
-    fn new(part: &[u8]) -> Lent {
-        let margin = [MARGIN_BYTE; MARGIN];
-        Lent([&margin, part, &margin].concat())
-    }
-
-    /// A part of this length that holds a pattern.
-    fn filled(length: usize) -> Lent {
-        Lent::new(&(0..length).map(|place| (place * 37 + 11) as u8).collect::<Vec<u8>>())
-    }
-
-    fn part(&self) -> &[u8] {
-        &self.0[MARGIN..self.0.len() - MARGIN]
-    }
-
-    fn part_mut(&mut self) -> &mut [u8] {
-        let end = self.0.len() - MARGIN;
-        &mut self.0[MARGIN..end]
-    }
-
-    /// Whether the part holds `left`, and the margins are whole.
-    fn holds(&self, what: &str, left: &[u8]) -> Result<(), String> {
-        let margins = [&self.0[..MARGIN], &self.0[self.0.len() - MARGIN..]];
-        if margins.iter().any(|margin| margin.iter().any(|byte| *byte != MARGIN_BYTE)) {
-            return Err(format!("the bytes around the {what} are written"));
-        }
-        if self.part() == left {
-            return Ok(());
-        }
-        let place = (0..left.len()).find(|place| self.part()[*place] != left[*place]).unwrap_or(0);
-        Err(format!("byte {place} of the {what} is {}, not {}", self.part()[place], left[place]))
-    }
-}
 
 // ---- the comparison
 
@@ -212,18 +174,6 @@ fn sequence(seen: &mut Seen, file: &[u8], random: &mut Random) -> Result<(), Str
 }
 
 // ---- lent stores
-
-/// The simulator's platform, opened from a file that is accepted.
-fn platform_of(file: &[u8]) -> Platform {
-    Platform::open(plan::read(file).expect("the file is accepted"))
-}
-
-/// The store of a plan after some of its events.
-fn reached(file: &[u8], events: u64) -> Vec<u8> {
-    let mut platform = platform_of(file);
-    platform.run(events);
-    store::encode(&platform)
-}
 
 /// A store that is reached and then changed in a few bytes, mostly within range.
 fn changed_store(file: &[u8], random: &mut Random) -> Vec<u8> {

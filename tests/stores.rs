@@ -1,14 +1,27 @@
-//! Stores that no run file leads to, all of them in range: a plan with any fields of nodes and any messages that the ranges
-//! allow. Rules can be told apart on them that no run tells apart, as a watch renewed by a heartbeat from anyone.
+//! Stores: those that a run file leads to; and some that none leads to, all of them in range: a plan with any fields of nodes and any
+//! messages that the ranges allow. Rules can be told apart on these that no run tells apart, as a watch renewed by a heartbeat from anyone.
+#![allow(dead_code)]
 
 use simulator::layout;
 use simulator::limits::*;
 use simulator::node::{Content, Node};
-use simulator::plan::Plan;
+use simulator::plan::{self, Plan};
 use simulator::platform::Platform;
 use simulator::queue::Message;
 use simulator::random::Random;
 use simulator::store;
+
+/// The simulator's platform, opened from a file that is accepted.
+pub fn platform_of(file: &[u8]) -> Platform {
+    Platform::open(plan::read(file).expect("the file is accepted"))
+}
+
+/// The store of a plan after some of its events.
+pub fn reached(file: &[u8], events: u64) -> Vec<u8> {
+    let mut platform = platform_of(file);
+    platform.run(events);
+    store::encode(&platform)
+}
 
 /// A store of the plan at a tick of its run, with everything else at random.
 pub fn any(plan: &Plan, random: &mut Random) -> Vec<u8> {

@@ -1,11 +1,12 @@
-//! How fast the proved platform is: `kelbraut_run` beside the simulator's run, which keeps a binary heap, in one process; then the
-//! rehearsal program beside the simulator's, with their logs. It says how fast. A difference between the two is an error all the same.
+//! How fast the proved platform is: `kelbraut_run` beside the simulator's run, which keeps a binary heap, and `kelbraut_dispatch` beside
+//! runs of the same stores, in one process; then the rehearsal program beside the simulator's, with their logs. It says how fast. A
+//! difference between two that are compared is an error all the same.
 //!
-//! Usage: bench [quick] [FILE..]: `quick` takes a tenth of the ticks. Where files are named, only they are run and compared.
-//! REHEARSE names another rehearsal program.
+//! Usage: bench [quick] [FILE..]: `quick` takes a tenth of the ticks, and of the dispatcher's rounds. Where files are named, only they are
+//! run and compared. REHEARSE names another rehearsal program.
 //!
 //! A time is the shortest of several. Stores and heaps are opened before it is taken, and warm: each file is first run in part by both,
-//! and then by turns. The time of a proved call has its one check of the store in it.
+//! and then by turns. The time of a proved call has its one check of the store, or of each store, in it.
 
 #[allow(dead_code)]
 #[path = "../tests/calls.rs"]
@@ -32,6 +33,10 @@ const WARMING: u64 = 50_000;
 const CHUNK: usize = 1 << 20;
 /// A run of this budget and above keeps the messages in a queue; below, it searches them for each event.
 const QUEUED: u64 = 12;
+/// Lengths of the dispatcher's turns; how many events each store does, whole turns of all these lengths; how often it is timed.
+const TURNS: [u64; 5] = [1, QUEUED - 1, QUEUED, 100, MAX_TURN];
+const EACH: u64 = 33_000;
+const TURNED: usize = 20;
 /// The most that 02 allows a run, as a multiple of the simulator's time.
 const ASKED: f64 = 3.0;
 /// The fewest messages in flight that 02 asks of a file's last line.
@@ -281,6 +286,95 @@ fn filling() -> Result<(), String> {
     Ok(())
 }
 
+// ---- the dispatcher
+
+extern "C" {
+    fn kelbraut_dispatch(
+        stores: *mut u8,
+        stores_size: usize,
+        length: u64,
+        turns: u64,
+        given: *mut u64,
+        events: *mut u64,
+        stopped: *mut u64,
+    ) -> u64;
+}
+
+/// What is done with the stores of a part: turns of all in one call, or a run of each, one after another.
+#[derive(Clone, Copy)]
+enum Way {
+    Turns { length: u64, turns: u64 },
+    Runs { budget: u64 },
+}
+
+impl Way {
+    /// How many events each store does; None where a call is refused.
+    fn go(self, part: &mut [u8]) -> Option<[u64; MAX_STORES]> {
+        let mut events = [0; MAX_STORES];
+        let refused = match self {
+            Way::Turns { length, turns } => {
+                let (at, size, mut given, mut stopped) = (part.as_mut_ptr(), part.len(), 0, 0);
+                unsafe { kelbraut_dispatch(at, size, length, turns, &mut given, events.as_mut_ptr(), &mut stopped) != 0 }
+            }
+            Way::Runs { budget } => part.chunks_mut(STORE_BYTES).zip(&mut events).any(|(store, events)| {
+                let [number, did, ..] = proved::call(Call::Run { budget }, store, &mut []);
+                *events = did;
+                number != 0
+            }),
+        };
+        (!refused).then_some(events)
+    }
+}
+
+/// Seconds of each of the ways on the part, which is put back before each. The ways go by turns. All have to do as many events of each
+/// store as is said, and to leave the same part.
+fn way_times(part: &[u8], each: u64, ways: &[Way], rounds: usize) -> Result<Vec<f64>, String> {
+    let (mut lent, mut left) = (part.to_vec(), part.to_vec());
+    ways[0].go(&mut left);
+    let mut best = vec![f64::INFINITY; ways.len()];
+    for _ in 0..rounds {
+        for (way, best) in ways.iter().zip(&mut best) {
+            lent.copy_from_slice(part);
+            let began = Instant::now();
+            let events = way.go(&mut lent);
+            *best = best.min(began.elapsed().as_secs_f64());
+            if events != Some([each; MAX_STORES]) || lent != left {
+                return Err("the dispatcher and the runs of its stores differ".to_string());
+            }
+        }
+    }
+    Ok(best)
+}
+
+/// Eight stores: turns by their length beside a run of each, and a call that gives no turn, which is the tests that begin each call.
+fn side_by_side(rounds: usize) -> Result<(), String> {
+    let stores = MAX_STORES as u64;
+    let turns = TURNS.map(|length| Way::Turns { length, turns: stores * (EACH / length) });
+    let ways: Vec<Way> = [Way::Runs { budget: EACH }].into_iter().chain(turns).collect();
+    let (mut columns, mut none) = (Vec::new(), Vec::new());
+    for (in_flight, delay) in [(64, 10), (1_664, 255)] {
+        // Each at another place of its run.
+        let at = |index| store_of(&quiet(10, delay, 10_000), in_flight + 128 * 5 + 19 * index);
+        let part = (0..stores).map(at).collect::<Result<Vec<_>, String>>()?.concat();
+        columns.push(way_times(&part, EACH, &ways, rounds)?);
+        let idle = [Way::Runs { budget: 0 }, Way::Turns { length: 1, turns: 0 }];
+        none.push(way_times(&part, 0, &idle, CALLS * PASSES)?);
+    }
+    println!("Eight stores in a call of the dispatcher, {EACH} events of each; nanoseconds an event. The runs leave the same.\n");
+    println!("{:<22} {:>12} {:>15}", "", "64 in flight", "1,664 in flight");
+    let names = ["a run of each".to_string()].into_iter().chain(TURNS.map(|length| format!("turns of {length}")));
+    for (place, name) in names.enumerate() {
+        let [few, many] = [0, 1].map(|column: usize| columns[column][place] * 1e9 / (stores * EACH) as f64);
+        println!("{name:<22} {few:>12.1} {many:>15.1}");
+    }
+    println!("\nWithout an event, in microseconds a call, or eight:\n");
+    for (place, name) in ["a run of 0 of each", "no turn"].iter().enumerate() {
+        println!("{name:<22} {:>12.1} {:>15.1}", none[0][place] * 1e6, none[1][place] * 1e6);
+    }
+    println!();
+    Ok(())
+}
+
 // ---- programs
 
 fn rehearse() -> String {
@@ -393,6 +487,7 @@ fn bench(words: &[String]) -> Result<(), String> {
     full_store()?;
     crossing()?;
     filling()?;
+    side_by_side(TURNED / part as usize)?;
     programs(200_000 / part)?;
     logs(&files, true)
 }

@@ -22,6 +22,10 @@ pub const MAX_TICK: u64 = 1_000_000;
 pub const MAX_DELAY_NUMBER: u64 = 999_999;
 /// The next message number is at most this in a store.
 pub const MAX_NEXT_NUMBER: u64 = 4_000_000_000_000;
+/// Most stores of the dispatcher's part.
+pub const MAX_STORES: usize = 8;
+/// The dispatcher's turns have 1 to this many events.
+pub const MAX_TURN: u64 = 1_000;
 /// Shortest log part, in bytes: it takes the two lines of an event that moves the emitter.
 pub const LOG_BYTES: usize = 80;
 /// Shortest part that takes a node call's messages, in bytes.
@@ -61,3 +65,7 @@ pub const REFUSED_MESSAGE: u8 = 11;
 pub const REFUSED_TICK: u8 = 12;
 /// A Q line that does not have each node once.
 pub const REFUSED_RING: u8 = 13;
+/// The dispatcher's part of 0 bytes, or longer than `MAX_STORES` stores.
+pub const REFUSED_STORES: u8 = 14;
+/// The dispatcher's turn length outside 1 to `MAX_TURN`.
+pub const REFUSED_TURN: u8 = 15;

@@ -1,4 +1,4 @@
-//! A simulator of document 01, with requests 101 to 103 of document 02: the ring failure detector, in any order of the ring, and
+//! A simulator of document 01, with requests 101 to 104 of document 02: the ring failure detector, in any order of the ring, and
 //! its rehearsal platform.
 //!
 //! It is a second opinion on the proved platform, written from the papers alone.
@@ -14,12 +14,14 @@
 //! - `settle`: demand 3's words about safety and settling.
 //! - `layout`: where a store has its fields.
 //! - `store`: the bytes of a platform, written, read and checked.
+//! - `dispatch`: turns of several stores in one part.
 //! - `exhaust`: all runs of a small ring.
 //! - `log`: log lines, written, read and cut into columns.
 //! - `recount`: the lines K of a log, counted once more from the log alone.
 //! - `random`: seeded numbers.
 //! - `generator`: run files of a seed, good and damaged.
 
+pub mod dispatch;
 pub mod exhaust;
 pub mod fields;
 pub mod generator;

@@ -1,7 +1,10 @@
-//! Whole runs: the worked logs, the edges of 01 that concern the platform, rings in another order, and demand 3's
-//! words on generated plans.
+//! Whole runs: the worked logs, the edges of 01 that concern the platform, rings in another order, demand 3's words on generated
+//! plans; and the turns of the dispatcher.
 
+use super::dispatch::{self, Given};
 use super::generator;
+use super::layout;
+use super::limits::*;
 use super::log::{self, Line};
 use super::node::{Content, Node, Timer};
 use super::plan::{self, Crash, Plan};
@@ -11,7 +14,7 @@ use super::random::Random;
 use super::recount::{self, Moves};
 use super::ring::{self, Ring};
 use super::settle;
-use super::store;
+use super::store::{self, Held};
 
 /// The seed of the generated plans; a failing case names its index.
 const SEED: u64 = 20_261_115;
@@ -707,4 +710,205 @@ fn damaged_files_are_answered() {
     for number in [1, 2, 3, 4, 5, 6, 13] {
         assert!(refused[number] > 0, "refusals by number: {refused:?}");
     }
+}
+
+// ---- the dispatcher
+
+/// Runs of eight, six, one and no events: the worked log; that of `deliveries_come_before_timers_and_crashes_before_both`; and a node
+/// alone that crashes, or does not.
+const EIGHT: &str = "P,2,2,3,1,6\nC,3,1\n";
+const SIX: &str = "P,2,1,2,1,2\nC,2,1\n";
+const ONE: &str = "P,1,1,2,1,5\nC,0,0\n";
+const NONE: &str = "P,1,1,2,1,5\n";
+/// Refused by 8 after 2,048 events: 64 a tick are sent from tick 1 on, and the first arrives at tick 34.
+const OVERFULL: &str = "P,64,1,34,33,200\n";
+
+/// What the stores hold that are opened from the files, and OVERFULL's where it stands so many events before its refusal.
+fn held(files: &[&str], before_refusal: u64) -> Vec<Held> {
+    let one = |file: &&str| {
+        let mut platform = open(file);
+        if *file == OVERFULL {
+            platform.run(2_048 - before_refusal);
+        }
+        Held::from(platform)
+    };
+    files.iter().map(one).collect()
+}
+
+fn part_of(stores: &[Held]) -> Vec<u8> {
+    stores.iter().flat_map(Held::encode).collect()
+}
+
+/// The call gives these turns; the stores' events; and those that are stopped.
+fn gives(part: &mut [u8], (length, turns): (u64, u64), to: &[usize], events: &[u64], stopped: &[usize]) {
+    let mut wanted = Given { turns: to.to_vec(), events: [0; MAX_STORES], stopped: [false; MAX_STORES] };
+    wanted.events[..events.len()].copy_from_slice(events);
+    stopped.iter().for_each(|index| wanted.stopped[*index] = true);
+    assert_eq!(dispatch::dispatch(part, length, turns), Ok(wanted), "{turns} turns of {length}");
+}
+
+/// Eight events and six in turns of three: the first store's third turn has two left; the last one is done after two whole turns, and
+/// gets no third. The one in between has no event and no turn.
+#[test]
+fn turns_skip_stores_that_are_done() {
+    let opened = part_of(&held(&[EIGHT, NONE, SIX], 0));
+    gives(&mut opened.clone(), (3, u64::MAX), &[0, 2, 0, 2, 0], &[8, 0, 6], &[]);
+    gives(&mut opened.clone(), (3, 5), &[0, 2, 0, 2, 0], &[8, 0, 6], &[]);
+    gives(&mut opened.clone(), (3, 4), &[0, 2, 0, 2], &[6, 0, 6], &[]);
+    gives(&mut opened.clone(), (3, 1), &[0], &[3], &[]);
+    gives(&mut opened.clone(), (1_000, 9), &[0, 2], &[8, 0, 6], &[]);
+    gives(&mut opened.clone(), (8, 2), &[0, 2], &[8, 0, 6], &[]);
+    let mut part = opened.clone();
+    gives(&mut part, (3, 0), &[], &[], &[]);
+    assert_eq!(part, opened);
+    gives(&mut part_of(&held(&[NONE], 0)), (1, 7), &[], &[], &[]);
+    gives(&mut part_of(&held(&[NONE, NONE, ONE], 0)), (1, 7), &[2], &[0, 0, 1], &[]);
+    gives(&mut part_of(&held(&[ONE, NONE, SIX, ONE], 0)), (4, 7), &[0, 2, 3, 2], &[1, 0, 6, 1], &[]);
+}
+
+/// Two events before its refusal a store spends a whole turn of two, and is stopped in its next turn, by which it does nothing. In a
+/// turn of three it does two and is stopped. The others go on without it.
+#[test]
+fn a_store_that_refuses_has_used_its_turn() {
+    let opened = part_of(&held(&[SIX, OVERFULL, EIGHT], 2));
+    gives(&mut opened.clone(), (2, u64::MAX), &[0, 1, 2, 0, 1, 2, 0, 2, 2], &[6, 2, 8], &[1]);
+    gives(&mut opened.clone(), (2, 4), &[0, 1, 2, 0], &[4, 2, 2], &[]);
+    gives(&mut opened.clone(), (2, 5), &[0, 1, 2, 0, 1], &[4, 2, 2], &[1]);
+    gives(&mut opened.clone(), (3, u64::MAX), &[0, 1, 2, 0, 2, 2], &[6, 2, 8], &[1]);
+    gives(&mut opened.clone(), (3, 2), &[0, 1], &[3, 2], &[1]);
+    let all = part_of(&held(&[OVERFULL, OVERFULL, NONE, OVERFULL], 0));
+    gives(&mut all.clone(), (7, 100), &[0, 1, 3], &[], &[0, 1, 3]);
+    gives(&mut all.clone(), (7, 2), &[0, 1], &[], &[0, 1]);
+}
+
+/// "Stopped is not remembered": each call tries the store again, which leaves it as it is.
+#[test]
+fn a_stopped_store_is_tried_again_by_the_next_call() {
+    let mut part = part_of(&held(&[SIX, OVERFULL, EIGHT], 2));
+    gives(&mut part, (3, 3), &[0, 1, 2], &[3, 2, 3], &[1]);
+    gives(&mut part, (3, 3), &[0, 1, 2], &[3, 0, 3], &[1]);
+    let before = part[STORE_BYTES..2 * STORE_BYTES].to_vec();
+    gives(&mut part, (3, 3), &[1, 2], &[0, 0, 2], &[1]);
+    gives(&mut part, (3, 3), &[1], &[], &[1]);
+    assert_eq!(part[STORE_BYTES..2 * STORE_BYTES], before);
+}
+
+/// Two turns a call: the third store gets none before the second is done, by the seventh call.
+#[test]
+fn every_call_starts_at_index_0() {
+    let mut part = part_of(&held(&[EIGHT, SIX, EIGHT], 0));
+    for _ in 0..6 {
+        gives(&mut part, (1, 2), &[0, 1], &[1, 1], &[]);
+    }
+    for _ in 0..2 {
+        gives(&mut part, (1, 2), &[0, 2], &[1, 0, 1], &[]);
+    }
+    gives(&mut part, (1, 2), &[2, 2], &[0, 0, 2], &[]);
+    gives(&mut part, (1, 9), &[2, 2, 2, 2], &[0, 0, 4], &[]);
+    gives(&mut part, (1, 9), &[], &[], &[]);
+}
+
+/// Of eight stores each waits seven turns, and no more; also where some drop out, and where the call ends while it waits.
+#[test]
+fn stores_wait_at_most_seven_turns() {
+    let mut eight = held(&[EIGHT; 8], 0);
+    let given = dispatch::give(&mut eight, 1, u64::MAX);
+    assert_eq!(given.turns, (0..64).map(|turn| turn % 8).collect::<Vec<usize>>());
+    for index in 0..8 {
+        assert_eq!((given.turns_of(index), given.longest_wait(index, false)), (8, 7));
+    }
+    let given = dispatch::give(&mut held(&[EIGHT; 8], 0), 1, 7);
+    assert_eq!([0, 6, 7].map(|index| given.longest_wait(index, true)), [6, 6, 7]);
+    let mut mixed = held(&[SIX, ONE, OVERFULL, NONE, SIX, ONE, ONE, EIGHT], 0);
+    let given = dispatch::give(&mut mixed, 2, u64::MAX);
+    assert_eq!(given.turns, [0, 1, 2, 4, 5, 6, 7, 0, 4, 7, 0, 4, 7, 7]);
+    assert_eq!([0, 1, 2, 3, 4, 7].map(|index| given.longest_wait(index, false)), [6, 1, 2, 0, 4, 6]);
+}
+
+/// The number of the refusal, and the part stays.
+fn refuses(part: &[u8], length: u64, turns: u64, number: u8) {
+    let mut lent = part.to_vec();
+    let answer = dispatch::dispatch(&mut lent, length, turns);
+    assert_eq!(answer, Err(number), "{} bytes, {turns} turns of {length}", part.len());
+    assert!(lent == part);
+}
+
+#[test]
+fn refusals_of_the_dispatcher_in_their_order() {
+    let eight = part_of(&held(&[ONE, NONE, SIX, ONE, NONE, SIX, ONE, EIGHT], 0));
+    let more = [&eight[..], &eight[..STORE_BYTES]].concat();
+    let length = |bytes: usize| more[..bytes].to_vec();
+    for turns in [0, 1, u64::MAX] {
+        for (bytes, turn, number) in [
+            (0, 0, 14),
+            (0, 1, 14),
+            (524_289, 1_001, 14),
+            (524_289, 1, 14),
+            (589_824, 1, 14),
+            (1, 0, 15),
+            (1, 1_001, 15),
+            (65_536, 0, 15),
+            (524_288, 1_001, 15),
+            (524_288, u64::MAX, 15),
+            (1, 1, 7),
+            (65_535, 1_000, 7),
+            (65_537, 1, 7),
+            (131_071, 1, 7),
+            (458_753, 1, 7),
+            (524_287, 1, 7),
+        ] {
+            refuses(&length(bytes), turn, turns, number);
+        }
+        for index in 0..8 {
+            let mut damaged = eight.clone();
+            damaged[index * STORE_BYTES + 65_535] = 1;
+            refuses(&damaged, 1, turns, 7);
+            refuses(&damaged, 0, turns, 15);
+        }
+        for turn in [1, 1_000] {
+            assert!(dispatch::dispatch(&mut eight.clone(), turn, turns).is_ok());
+        }
+    }
+}
+
+/// The first heartbeat passes the bound of message numbers, and seven events follow it; only the next call refuses the store.
+#[test]
+fn a_store_that_passes_the_last_number_goes_on() {
+    let mut part = part_of(&held(&[SIX, EIGHT], 0));
+    layout::put(&mut part[STORE_BYTES..], layout::NEXT_NUMBER, 0, MAX_NEXT_NUMBER);
+    gives(&mut part, (1, 11), &[0, 1, 0, 1, 0, 1, 0, 1, 0, 1, 0], &[6, 5], &[]);
+    refuses(&part, 1, 9, 7);
+    refuses(&part, 1, 0, 7);
+}
+
+/// "After its turns each store holds what a run of it by itself would with the length of all its turns as budget." No store that can go on
+/// waits more than seven turns, and turns are missing only where none can.
+#[test]
+fn dispatched_runs_are_runs_alone() {
+    let (mut missing, mut stopped) = (0, 0);
+    for index in 0..150 {
+        let mut random = Random::new(SEED ^ 0x7475_726e, index);
+        let one = |_: u64| {
+            let file = if random.chance(4) { OVERFULL.into() } else { generator::reported_plan(SEED, random.below(500), generator::SMALL) };
+            let mut platform = Platform::open(plan::read(&file).expect("the file is accepted"));
+            let (before, any) = (random.range(0, 40), random.range(0, 800));
+            platform.run(if platform.nodes().len() == 64 { 2_048 - before } else { any });
+            Held::from(platform)
+        };
+        let mut stores: Vec<Held> = (0..=index % 8).map(one).collect();
+        let opened = stores.clone();
+        let (length, turns) = (random.pick(&[1, 7, 12, 300]), random.pick(&[0, 3, 40, 400]));
+        let given = dispatch::give(&mut stores, length, turns);
+        for (place, mut alone) in opened.into_iter().enumerate() {
+            let run = alone.platform.run(given.turns_of(place) * length);
+            assert_eq!(alone.encode(), stores[place].encode(), "{index}: store {place}");
+            assert_eq!((run.events, run.ending == Ending::Refused), (given.events[place], given.stopped[place]), "{index}: store {place}");
+            let still = given.can_go_on(&mut stores, place);
+            assert!(given.longest_wait(place, still) <= 7, "{index}: store {place}");
+            assert!(!still || given.turns.len() as u64 == turns, "{index}: turns are missing");
+        }
+        missing += u64::from((given.turns.len() as u64) < turns);
+        stopped += given.stopped.into_iter().filter(|stopped| *stopped).count();
+    }
+    assert!(missing > 20 && stopped > 60, "{missing} calls with turns missing, {stopped} stores stopped");
 }

@@ -39,10 +39,14 @@ use Rattle.platform.specs.declared.Ran.the-variants.{Done as Finished, Spent, R
 use Rattle.platform.specs.declared.Wrote.{Wrote}
 use Rattle.platform.specs.declared.Wrote.the-variants.{Bytes, Refused as Unwritten}
 use Rattle.platform.specs.Calls.{AfterOpen, AfterStep, AfterRun, AfterWrite, openPlan, openAnswer as fileAnswer, openFile, stepOutcome}
-use Rattle.platform.specs.Calls.{step, ran, runState, run, writeFile, openRefusal, stepRefusal, runRefusal, writeRefusal}
+use Rattle.platform.specs.Calls.{step, ran, runState, run, writeFile, openRefusal, stepRefusal, runRefusal, eventsDone, writeRefusal}
+use Rattle.platform.proofs.Stores.{ran-done}
+use Rattle.dispatcher.specs.declared.Dispatched.{Dispatched}
+use Rattle.dispatcher.specs.Dispatch.{AfterDispatch, given, gave, refused as refusedPart, turnedDown as turnedDownPart, partInRange, dispatch}
 use Rattle.planner.specs.Answers.{stepLetter, stepTick, stepNode, stepOther, stepSize, runEvents, runSpent, writeSize}
+use Rattle.planner.specs.Answers.{dispatchTurns, dispatchEvents, dispatchStopped}
 use Rattle.demands.specs.Demands.{place, firstBroken, TurnsDown, fileNumber, openPlaces, overfullBy, overfull, stepPlaces, stopped}
-use Rattle.demands.specs.Demands.{runPlaces, eventsDone, KeepsEarlier, writePlaces}
+use Rattle.demands.specs.Demands.{runPlaces, KeepsEarlier, writePlaces, dispatchPlaces}
 use Rattle.demands.specs.Nodes.{NodeCall, deliver, timers, leaves}
 use Rattle.demands.specs.Demands.{RecordCall, recordAfterAll, recordPlaces, deliverPlaces, timersPlaces}
 use Rattle.demands.specs.Demands.{letterUnknown, outside, linePlaces, lineRefusal, tablePlaces}
@@ -133,12 +137,6 @@ unfolding runRefusal ran isOverfull
 ran-down spent n = refl
 ran-down finished n = refl
 ran-down overfullRun n = refl
-
-ran-done : (a : Ending) (n : ℕ) → eventsDone (ran a n) ≡ n
-unfolding eventsDone ran
-ran-done spent n = refl
-ran-done finished n = refl
-ran-done overfullRun n = refl
 
 -- ---- the platform's calls
 
@@ -237,6 +235,23 @@ write-down store out = go (storeInRange store) (ltb (length out) 65536)
     go true true = record { first = refl; untouched = λ h. refl }
     go true false = record { first = refl; untouched = λ h. absurd (h refl) }
 
+pub dispatch-down : (part : List ℕ) (turnLength turns : ℕ)
+    → TurnsDown (dispatch part turnLength turns .answer .number) (dispatchPlaces part turnLength) (dispatch part turnLength turns .part ≡ part)
+unfolding dispatch between dispatchPlaces firstBroken refusedPart gave given
+dispatch-down part turnLength turns =
+    go (leb 1 (length part) && leb (length part) 524288) (leb 1 turnLength && leb turnLength 1000) (partInRange part)
+  where
+    after : Bool → Bool → Bool → AfterDispatch
+    after few short ok =
+        cond few (cond short (cond ok (gave part turnLength turns) (turnedDownPart 7 part)) (turnedDownPart 15 part)) (turnedDownPart 14 part)
+
+    go : (few short ok : Bool) → TurnsDown (after few short ok .answer .number) (place (not few) 14 ∷ place (not short) 15 ∷ place (not ok) 7 ∷ [])
+        (after few short ok .part ≡ part)
+    go false short ok = record { first = refl; untouched = λ h. refl }
+    go true false ok = record { first = refl; untouched = λ h. refl }
+    go true true false = record { first = refl; untouched = λ h. refl }
+    go true true true = record { first = refl; untouched = λ h. absurd (h refl) }
+
 -- ---- for files, the line; for C, the numbers behind pointers
 
 pub open-line : (file store : List ℕ) (number line : ℕ) → fileOf file ≡ turnedDown number line → openFile file store .answer ≡ Unopened number line
@@ -261,6 +276,11 @@ pub write-numbers : (a : Wrote) (was : ℕ) → writeRefusal a ≢ 0 → writeSi
 unfolding writeRefusal writeSize
 write-numbers (Bytes size) was h = absurd (h refl)
 write-numbers (Unwritten number) was h = refl
+
+pub dispatch-numbers : (a : Dispatched) (was : ℕ) (wases : List ℕ) → a .number ≢ 0
+    → (dispatchTurns a was ≡ was) × (dispatchEvents a wases ≡ wases) × (dispatchStopped a was ≡ was)
+unfolding dispatchTurns dispatchEvents dispatchStopped
+dispatch-numbers a was wases h = rw (ne-eqb (a .number) 0 h) (refl, refl, refl)
 
 -- ---- a host's calls
 

@@ -8,7 +8,7 @@ use native.Mathlib.Nat.{pow-le-pow-right}
 use native.Mathlib.Omega.{arith}
 use native.Mathlib.Decide.{decLt}
 use lib.Dec.{lit<}
-use borrow.Author.Tests.{le-ltb}
+use borrow.Author.Tests.{eq-eqb, le-ltb}
 use lib.ListN.{length, getD, List·getD-eq-default}
 use Rattle.limits.specs.Limits.{logRoom, storeSize, fileRoom}
 use Rattle.text.specs.Put.{put}
@@ -35,6 +35,8 @@ use Rattle.platform.specs.declared.Wrote.the-variants.{Bytes}
 use Rattle.platform.specs.declared.Stepped.the-variants.{Did, Done}
 use Rattle.platform.specs.declared.Ran.the-variants.{Done as Finished, Spent}
 use Rattle.planner.specs.Answers.{stepLetter, stepTick, stepNode, stepOther, stepSize, runEvents, runSpent, writeSize}
+use Rattle.planner.specs.Answers.{dispatchTurns, dispatchEvents, dispatchStopped}
+use Rattle.dispatcher.specs.declared.Dispatched.{Dispatched}
 use Rattle.platform.specs.Calls.{AfterStep, AfterRun, stepOutcome, step, runState, writeFile}
 use Rattle.platform.specs.CallLists.{Call, eventsOf}
 use Rattle.platform.proofs.Stores.{lends, Holds, plan-of, state-of, in-range, step-in, run-in, write-in, outcome-store}
@@ -169,3 +171,8 @@ run-puts n was = ((refl, refl), (refl, refl))
 pub write-puts : (n was : ℕ) → writeSize (Bytes n) was ≡ n
 unfolding writeSize
 write-puts n was = refl
+
+pub dispatch-puts : (a : Dispatched) (was : ℕ) (wases : List ℕ) → a .number ≡ 0
+    → (dispatchTurns a was ≡ a .turns) × (dispatchEvents a wases ≡ a .events) × (dispatchStopped a was ≡ a .stopped)
+unfolding dispatchTurns dispatchEvents dispatchStopped
+dispatch-puts a was wases e = rw (eq-eqb (a .number) 0 e) (refl, refl, refl)

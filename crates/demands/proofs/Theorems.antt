@@ -1,15 +1,17 @@
--- THE THEOREMS: the customer's three demands. The statements stand in specs/Demands.antt. Assumes nothing.
+-- THE THEOREMS: the customer's three demands, and what request 104 claims. The statements stand in specs/Demands.antt. Assumes nothing.
 use Rattle.runfile.proofs.RoundTrip.{written-back, accepted-plan, read-back}
 use Rattle.runfile.proofs.Refusals.{refusal-small}
 use Rattle.logline.proofs.LineTrip.{refused-number, written-of-read, read-of-written}
 use Rattle.logline.proofs.ColumnTrip.{five-columns}
 use Rattle.rehearsal.proofs.Parts.{whole-output}
+use Rattle.dispatcher.proofs.Theorems.{dispatches-lent}
 use Rattle.planner.proofs.Answered.{taken-apart}
-use Rattle.demands.specs.Demands.{Demand1, Demand2, Demand3}
-use Rattle.demands.proofs.Demand1.{file-length, open-down, step-down, run-down, run-bad-store, write-down}
-use Rattle.demands.proofs.Demand1.{open-line, step-numbers, run-numbers, write-numbers, open-record-down, deliver-down, fire-down, records-stay}
+use Rattle.demands.specs.Demands.{Demand1, Demand2, Demand3, Request104}
+use Rattle.demands.proofs.Demand1.{file-length, open-down, step-down, run-down, run-bad-store, write-down, dispatch-down}
+use Rattle.demands.proofs.Demand1.{open-line, step-numbers, run-numbers, write-numbers, dispatch-numbers}
+use Rattle.demands.proofs.Demand1.{open-record-down, deliver-down, fire-down, records-stay}
 use Rattle.demands.proofs.Demand1.{line-taken, line-only, line-down, table-down}
-use Rattle.demands.proofs.Demand2.{next-events, lent-events, step-puts, run-puts, write-puts, line-read, last-read, file-again}
+use Rattle.demands.proofs.Demand2.{next-events, lent-events, step-puts, run-puts, write-puts, dispatch-puts, line-read, last-read, file-again}
 use Rattle.demands.proofs.Nodes.{rehearsed}
 use Rattle.demands.proofs.Demand3.{any-calls}
 
@@ -25,11 +27,13 @@ demand1 = record {
   running = run-down;
   badStore = run-bad-store;
   writing = write-down;
+  dispatching = dispatch-down;
   openingLine = open-line;
   openingNumber = taken-apart;
   stepNumbers = step-numbers;
   runNumbers = run-numbers;
   writeNumbers = write-numbers;
+  dispatchNumbers = dispatch-numbers;
   nodeOpen = open-record-down;
   nodeDeliver = deliver-down;
   nodeTimers = fire-down;
@@ -50,6 +54,7 @@ demand2 = record {
   stepPuts = step-puts;
   runPuts = run-puts;
   writePuts = write-puts;
+  dispatchPuts = dispatch-puts;
   lines = line-read;
   lastLines = last-read;
   columns = five-columns;
@@ -62,3 +67,7 @@ demand2 = record {
 -- no live node is ever listed, and the platform settles between two crashes
 pub demand3 : Demand3
 demand3 = any-calls
+
+-- each turn of an accepted call of the dispatcher, and what all of them leave of each store
+pub request104 : Request104
+request104 = record { dispatched = dispatches-lent }

@@ -1,5 +1,5 @@
--- THE THREE DEMANDS of the customer's terms, each as a record of what holds of the calls' definitions, which the calls' contracts promise
--- for every input. proofs/Theorems.antt proves them. Assumes nothing.
+-- THE THREE DEMANDS of the customer's terms, and what request 104 of document 02 claims, each as a record of what holds of the calls' definitions,
+-- which the calls' contracts promise for every input. proofs/Theorems.antt proves them. Assumes nothing.
 use mathlib.Core.Path.{_≡_}
 use mathlib.Core.Logic.{_≢_, _⊎_}
 use mathlib.Core.Bool.{Bool, true, false, cond, not, _&&_}
@@ -32,13 +32,18 @@ use Rattle.platform.specs.declared.Opened.the-variants.{Ready, Refused as Unope
 use Rattle.platform.specs.declared.Stepped.{Stepped}
 use Rattle.platform.specs.declared.Stepped.the-variants.{Did, Done, Refused as Unstepped}
 use Rattle.platform.specs.declared.Ran.{Ran}
-use Rattle.platform.specs.declared.Ran.the-variants.{Done as Finished, Spent, Refused as Unrun}
+use Rattle.platform.specs.declared.Ran.the-variants.{Done as Finished, Spent}
 use Rattle.platform.specs.declared.Wrote.{Wrote}
 use Rattle.platform.specs.declared.Wrote.the-variants.{Bytes}
-use Rattle.platform.specs.Calls.{openFile, step, ran, run, writeFile, openRefusal, stepRefusal, runRefusal, writeRefusal}
+use Rattle.platform.specs.Calls.{openFile, step, ran, run, writeFile, openRefusal, stepRefusal, runRefusal, eventsDone, writeRefusal}
 use Rattle.platform.specs.CallLists.{Call, storeAfterAll, NoneAnswers, eventsOf}
+use Rattle.dispatcher.specs.declared.Dispatched.{Dispatched}
+use Rattle.dispatcher.specs.Dispatch.{partInRange, dispatch}
+use Rattle.dispatcher.specs.Claims.{Dispatches}
+use Rattle.dispatcher.specs.PartCalls.{PartCall, storesAfterAll, callsOn, NoCallAnswers, LentCall, AllAround, storeAfterAllLent, lentCalls}
 use Rattle.rehearsal.specs.Part.{WholeOutput}
 use Rattle.planner.specs.Answers.{numberAndLine, stepLetter, stepTick, stepNode, stepOther, stepSize, runEvents, runSpent, writeSize}
+use Rattle.planner.specs.Answers.{dispatchTurns, dispatchEvents, dispatchStopped}
 use Rattle.demands.specs.Nodes.{NodeCall, leaves, SameAsNodes}
 
 -- ---- DEMAND 1: 'Refused by number, with nothing lent to the call written .. All else is accepted, and every call returns, with no duty on
@@ -91,18 +96,19 @@ stopped p s budget = ltb (eventCount p budget s) budget && overfull p (steps p b
 unfoldable pub runPlaces : List ℕ → ℕ → List Place
 runPlaces store budget = place (not (storeInRange store)) 7 ∷ place (stopped (planIn store) (stateIn store) budget) 8 ∷ []
 
--- the events that a run answers
-unfoldable pub eventsDone : Ran → ℕ
-eventsDone (Finished n) = n
-eventsDone (Spent n) = n
-eventsDone (Unrun number n) = n
-
 -- 'Nothing lent changes, but for a run's earlier events': a refused run leaves what a run of just these events leaves
 unfoldable pub KeepsEarlier : List ℕ → ℕ → Type 0
 KeepsEarlier store budget = run store budget .store ≡ run store (eventsDone (run store budget .answer)) .store
 
 unfoldable pub writePlaces : List ℕ → List ℕ → List Place
 writePlaces store out = place (not (storeInRange store)) 7 ∷ place (ltb (length out) 65536) 9 ∷ []
+
+-- the dispatcher: 'the part empty or above eight stores', then 'turn length outside its range', 'both before any store is read. Then 7, for a
+-- part that isn't whole stores or for any store in it'
+unfoldable pub dispatchPlaces : List ℕ → ℕ → List Place
+dispatchPlaces part turnLength =
+    place (not (leb 1 (length part) && leb (length part) 524288)) 14
+    ∷ place (not (leb 1 turnLength && leb turnLength 1000)) 15 ∷ place (not (partInRange part)) 7 ∷ []
 
 -- node calls: 'A node call tries 10, 12, 11, then 9'; opening 10, then 3
 unfoldable pub recordPlaces : List ℕ → ℕ → ℕ → ℕ → ℕ → List Place
@@ -163,6 +169,9 @@ pub record Demand1 : Type 0 where
   pub running : (store : List ℕ) (budget : ℕ) → TurnsDown (runRefusal (run store budget .answer)) (runPlaces store budget) (KeepsEarlier store budget)
   pub badStore : (store : List ℕ) (budget : ℕ) → storeInRange store ≡ false → run store budget .store ≡ store
   pub writing : (store out : List ℕ) → TurnsDown (writeRefusal (writeFile store out .answer)) (writePlaces store out) (writeFile store out .out ≡ out)
+  -- the dispatcher's call, which 7 refuses whole: no store in its part changes
+  pub dispatching : (part : List ℕ) (turnLength turns : ℕ)
+      → TurnsDown (dispatch part turnLength turns .answer .number) (dispatchPlaces part turnLength) (dispatch part turnLength turns .part ≡ part)
   -- for files the line is answered too, in C both in one number
   pub openingLine : (file store : List ℕ) (number line : ℕ) → fileOf file ≡ turnedDown number line
       → openFile file store .answer ≡ Unopened number line
@@ -174,6 +183,8 @@ pub record Demand1 : Type 0 where
   pub runNumbers : (a : Ran) (was : ℕ) → runRefusal a ≢ 0
       → (runSpent a was ≡ was) × (runEvents a was ≡ cond (eqb (runRefusal a) 8) (eventsDone a) was)
   pub writeNumbers : (a : Wrote) (was : ℕ) → writeRefusal a ≢ 0 → writeSize a was ≡ was
+  pub dispatchNumbers : (a : Dispatched) (was : ℕ) (wases : List ℕ) → a .number ≢ 0
+      → (dispatchTurns a was ≡ was) × (dispatchEvents a wases ≡ wases) × (dispatchStopped a was ≡ was)
   -- a host's calls
   pub nodeOpen : (s : List ℕ) (number nodes h w : ℕ)
       → TurnsDown (openAnswer s number nodes h w) (recordPlaces s number nodes h w) (openLeaves s number nodes h w ≡ s)
@@ -238,6 +249,8 @@ pub record Demand2 : Type 0 where
   pub runPuts : (n was : ℕ) → ((runEvents (Finished n) was ≡ n) × (runSpent (Finished n) was ≡ 0))
       × ((runEvents (Spent n) was ≡ n) × (runSpent (Spent n) was ≡ 1))
   pub writePuts : (n was : ℕ) → writeSize (Bytes n) was ≡ n
+  pub dispatchPuts : (a : Dispatched) (was : ℕ) (wases : List ℕ) → a .number ≡ 0
+      → (dispatchTurns a was ≡ a .turns) × (dispatchEvents a wases ≡ a .events) × (dispatchStopped a was ≡ a .stopped)
   -- every line of an event, and the last line, is one that the log reader takes, and such a line has five columns
   pub lines : (file : List ℕ) (p : Plan) → fileOf file ≡ accepted p → (k : ℕ) (e : Entry) (s' : State) → try p (after p k) ≡ did e s'
       → (l : Line) → List·Memᴰ l (eventLines p (after p k) s' e) → readOf (lineText l) ≡ LineRead l
@@ -275,13 +288,47 @@ pub record AfterCalls (p : Plan) (cs : List Call) (store : List ℕ) : Type 0 wh
   -- it is in range, the cap on the next number included
   pub inRange : storeInRange store ≡ true
 
+-- a store as opening leaves it, from an accepted file whose plan is p and a lent store of its length
+pub record JustOpened (p : Plan) (store : List ℕ) : Type 0 where
+  pub file : List ℕ
+  pub lent : List ℕ
+  pub taken : fileOf file ≡ accepted p
+  pub size : length lent ≡ storeSize
+  pub opened : store ≡ openFile file lent .store
+
+-- stores that stand one after another, each just opened, the one at index i from a file whose plan is plans i
+abbrev pub AllOpened : (ℕ → Plan) → List (List ℕ) → Type 0
+AllOpened plans bs = (i : ℕ) → i < length bs → JustOpened (plans i) (getD bs i [])
+
 -- of every file that is accepted, for which W is at least H + D, and every lent store of its length
 pub record Demand3 : Type 0 where
   -- K in S is the base-two logarithm, rounded up, 0 for none
   pub logarithm : (m : ℕ) → LogRoundedUp m (K m)
   pub longEnough : (file : List ℕ) (p : Plan) → fileOf file ≡ accepted p → p .h + p .d ≤ p .w
   pub opens : (file store : List ℕ) (p : Plan) → fileOf file ≡ accepted p → length store ≡ storeSize → openFile file store .answer ≡ Ready
+  -- what opening any accepted file leaves is a store just opened, as `parts` takes them
+  pub justOpened : (file store : List ℕ) (p : Plan) → fileOf file ≡ accepted p → length store ≡ storeSize
+      → JustOpened p (openFile file store .store)
   pub left : (file store : List ℕ) (p : Plan) → fileOf file ≡ accepted p → length store ≡ storeSize
       → (cs : List Call) → AfterCalls p cs (storeOf file store cs)
   pub noneSeven : (file store : List ℕ) (p : Plan) → fileOf file ≡ accepted p → length store ≡ storeSize
       → (cs : List Call) → NoneAnswers 7 cs (openFile file store .store)
+  -- the same where the store is one of several and the calls include the dispatcher's, over any of them in a row: what any such list leaves of a
+  -- store is what the steps and runs leave that it comes to for that store, with a run for each accepted call of the dispatcher over it
+  pub parts : (bs : List (List ℕ)) (plans : ℕ → Plan) → AllOpened plans bs → (cs : List PartCall) (i : ℕ) → i < length bs
+      → (getD (storesAfterAll cs bs) i [] ≡ storeAfterAll (callsOn i cs bs) (getD bs i []))
+      × AfterCalls (plans i) (callsOn i cs bs) (getD (storesAfterAll cs bs) i [])
+  pub partsNoneSeven : (bs : List (List ℕ)) (plans : ℕ → Plan) → AllOpened plans bs → (cs : List PartCall) → NoCallAnswers 7 cs bs
+  -- the same of one store, whatever stands around it in the parts that are lent to the dispatcher: stores of other files, opened anew or moved
+  -- between two calls, stores that no file leads to, or bytes that are no store
+  pub among : (file store : List ℕ) (p : Plan) → fileOf file ≡ accepted p → length store ≡ storeSize → (cs : List LentCall) → AllAround cs
+      → let opened : List ℕ = openFile file store .store in
+      (storeAfterAllLent cs opened ≡ storeOf file store (lentCalls cs opened)) × AfterCalls p (lentCalls cs opened) (storeAfterAllLent cs opened)
+
+-- ---- REQUEST 104: 'A dispatcher over up to eight opened stores, lent one after another in one part'
+
+pub record Request104 : Type 0 where
+  -- of every lent part that is not refused, also of stores that no file leads to: the turns that the call gives, whose they are, how long a store
+  -- waits for its own, and what it holds after them
+  pub dispatched : (part : List ℕ) → ((i : ℕ) → getD part i 0 < 256) → (turnLength turns : ℕ)
+      → dispatch part turnLength turns .answer .number ≡ 0 → Dispatches part turnLength turns

@@ -1,4 +1,4 @@
--- The figures of document 01, each once. Assumes nothing.
+-- The figures of document 01 and those that document 02 adds, each once. Assumes nothing.
 use Prim.Native.Nat.{ℕ, _*_}
 
 -- 'N is the number of nodes, 1 to 64'
@@ -40,6 +40,14 @@ mostNext = 4000000000000
 -- 'The store is 65,536 lent bytes'
 abbrev pub storeSize : ℕ
 storeSize = 65536
+
+-- the most stores of a dispatcher's part: document 02, #104, 'up to eight opened stores'
+abbrev pub mostStores : ℕ
+mostStores = 8
+
+-- the most events of a turn: 'turns of a stated number of events, 1 to 1,000'
+abbrev pub mostTurn : ℕ
+mostTurn = 1000
 
 -- 'a 64-byte node record'
 abbrev pub recordSize : ℕ

@@ -56,3 +56,11 @@ badTick = 12
 -- document 02, #101: 'Q is not each node once; tried after 3 on the Q line'
 abbrev pub notEachOnce : ℕ
 notEachOnce = 13
+
+-- document 02, #104: 'the part empty or above eight stores'
+abbrev pub badPart : ℕ
+badPart = 14
+
+-- document 02, #104: 'turn length outside its range'
+abbrev pub badTurn : ℕ
+badTurn = 15

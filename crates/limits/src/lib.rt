@@ -1,4 +1,4 @@
-// The figures of document 01 and the numbers of its refusals, as the code of all crates has them. The definitions are
+// The figures of documents 01 and 02 and the numbers of their refusals, as the code of all crates has them. The definitions are
 // specs/Limits.antt and specs/Refusals.antt; a function that uses one of these is proved to meet a contract by the definition.
 
 // The ring and the ranges of a run file.
@@ -22,6 +22,11 @@ pub const MOST_IN_FLIGHT: usize = 2048;
 pub const MOST_NEXT: u64 = 4_000_000_000_000;
 
 pub const STORE_SIZE: usize = 65536;
+
+// The dispatcher's part and its turns.
+pub const MOST_STORES: usize = 8;
+
+pub const MOST_TURN: u64 = 1000;
 
 // Node records and messages.
 pub const RECORD_SIZE: usize = 64;
@@ -67,3 +72,7 @@ pub const BAD_MESSAGE: u64 = 11;
 pub const BAD_TICK: u64 = 12;
 
 pub const NOT_EACH_ONCE: u64 = 13;
+
+pub const BAD_PART: u64 = 14;
+
+pub const BAD_TURN: u64 = 15;

@@ -1,8 +1,11 @@
--- What each answer of the platform's calls gives as a number and behind the pointers, beside what the call leaves of the lent parts. Assumes nothing.
+-- What each answer of the platform's calls and the dispatcher's gives as a number and behind the pointers, beside what the call leaves of the
+-- lent parts. Assumes nothing.
 use Prim.Native.Nat.{ℕ, _+_, _*_, _/_, _%_, _^_, _≤_, _<_}
 use native.Mathlib.Omega.{arith}
-use mathlib.Core.Path.{_≡_, sym, _∙_}
+use mathlib.Core.Path.{_≡_, refl, sym, ap, _∙_}
+use mathlib.Core.Bool.{true, false}
 use mathlib.Core.List.{List}
+use lib.Dec.{eqb}
 use borrow.Author.Tests.{eq-eqb, ne-eqb}
 use Rattle.logline.specs.declared.Line.{Line}
 use Rattle.platform.specs.declared.Opened.{Opened}
@@ -14,10 +17,12 @@ use Rattle.platform.specs.declared.Ran.the-variants.{Done as Finished, Spent, R
 use Rattle.platform.specs.declared.Wrote.{Wrote}
 use Rattle.platform.specs.declared.Wrote.the-variants.{Bytes, Refused as Unwritten}
 use Rattle.platform.specs.Calls.{AfterStep, AfterRun, AfterWrite, openFile, stepRefusal, runRefusal, writeRefusal}
-use Rattle.limits.specs.Refusals.{tooMany}
+use Rattle.limits.specs.Refusals.{accepted, tooMany}
+use Rattle.dispatcher.specs.declared.Dispatched.{Dispatched}
+use Rattle.dispatcher.specs.Dispatch.{AfterDispatch}
 use Rattle.platform.proofs.Opening.{opening-small}
 use Rattle.planner.specs.Answers.{numberAndLine, stepLetter, stepTick, stepNode, stepOther, stepSize}
-use Rattle.planner.specs.Answers.{runEvents, runSpent, writeSize}
+use Rattle.planner.specs.Answers.{runEvents, runSpent, writeSize, dispatchTurns, dispatchEvents, dispatchStopped}
 
 -- r is the call's answer, and the code has found its case
 module _ (file before : List ℕ) (r : Opened) (e : r ≡ openFile file before .answer) where
@@ -111,3 +116,34 @@ module _ (after : AfterStep) (r : Stepped) (e : r ≡ after .answer) (s g : List
   pub unstepped : {number : ℕ} → r ≡ Unstepped number → Steps number letter₀ tick₀ node₀ other₀ size₀
   unfolding stepRefusal stepLetter stepTick stepNode stepOther stepSize
   unstepped {number} h = let a : after .answer ≡ Unstepped number = sym e ∙ h in (rw a, (rw a, (rw a, (rw a, (rw a, (rw a, left))))))
+
+-- after a call of the dispatcher: its number, what stands behind its pointers, beside the turns, events and stopped that stood there, and what
+-- it leaves
+module _ (after : AfterDispatch) (r : Dispatched) (e : r ≡ after .answer) (part : List ℕ) (left : part ≡ after .part)
+    (turns₀ : ℕ) (events₀ : List ℕ) (stopped₀ : ℕ) where
+  abbrev pub Dispatches : ℕ → ℕ → List ℕ → ℕ → Type 0
+  Dispatches number turns events stopped =
+      (number ≡ after .answer .number)
+      × ((turns ≡ dispatchTurns (after .answer) turns₀)
+      × ((events ≡ dispatchEvents (after .answer) events₀)
+      × ((stopped ≡ dispatchStopped (after .answer) stopped₀) × (part ≡ after .part))))
+
+  same-number : r .number ≡ after .answer .number
+  same-number = ap (λ (a : Dispatched). a .number) e
+
+  pub undispatched : (r .number ≡ accepted → ⊥) → Dispatches (r .number) turns₀ events₀ stopped₀
+  unfolding dispatchTurns dispatchEvents dispatchStopped
+  undispatched h =
+      let off : eqb (after .answer .number) accepted ≡ false = rw same-number at (ne-eqb (r .number) accepted h) in
+      (same-number, (rw off refl, (rw off refl, (rw off refl, left))))
+
+  pub dispatched : r .number ≡ accepted → Dispatches 0 (r .turns) (r .events) (r .stopped)
+  unfolding dispatchTurns dispatchEvents dispatchStopped
+  dispatched h =
+      let on : eqb (after .answer .number) accepted ≡ true = rw same-number at (eq-eqb (r .number) accepted h) in (
+        sym h ∙ same-number,
+        (
+          rw on (ap (λ (a : Dispatched). a .turns) e),
+          (rw on (ap (λ (a : Dispatched). a .events) e), (rw on (ap (λ (a : Dispatched). a .stopped) e), left)),
+        ),
+      )

@@ -1,7 +1,9 @@
--- What stands after the four calls behind the pointers that were lent to them, for C, and what opening answers. Each number behind a pointer is
--- given for every answer, with `was` for what stood there before: an accepted call puts a value there, a refused one leaves what was there, as 01
--- says: 'Nothing lent changes, but for a run's earlier events'. A call answers the number of its refusal, 0 where there is none. Assumes nothing.
+-- What stands after the platform's calls and the dispatcher's behind the pointers that were lent to them, for C, and what opening answers. Each
+-- number behind a pointer is given for every answer, with `was` for what stood there before: an accepted call puts a value there, a refused one
+-- leaves what was there, as 01 says: 'Nothing lent changes, but for a run's earlier events'. A call answers the number of its refusal, 0 where
+-- there is none. Assumes nothing.
 use mathlib.Core.Bool.{cond}
+use mathlib.Core.List.{List}
 use Prim.Native.Nat.{ℕ, _+_, _*_}
 use lib.Dec.{eqb}
 use Rattle.logline.specs.declared.Line.{Line}
@@ -13,7 +15,8 @@ use Rattle.platform.specs.declared.Ran.{Ran}
 use Rattle.platform.specs.declared.Ran.the-variants.{Done as Finished, Spent, Refused as Unrun}
 use Rattle.platform.specs.declared.Wrote.{Wrote}
 use Rattle.platform.specs.declared.Wrote.the-variants.{Bytes, Refused as Unwritten}
-use Rattle.limits.specs.Refusals.{tooMany}
+use Rattle.dispatcher.specs.declared.Dispatched.{Dispatched}
+use Rattle.limits.specs.Refusals.{accepted, tooMany}
 
 -- ---- opening, with no pointer: 'Each answers its number and, for files, the line (from 1, else 0)', both in one number
 
@@ -66,3 +69,14 @@ runSpent (Unrun number events) was = was
 unfoldable pub writeSize : Wrote → ℕ → ℕ
 writeSize (Bytes size) was = size
 writeSize (Unwritten number) was = was
+
+-- ---- the dispatcher: the turns given, the events of each of eight stores, and which are stopped; a refused call leaves them
+
+unfoldable pub dispatchTurns : Dispatched → ℕ → ℕ
+dispatchTurns a was = cond (eqb (a .number) accepted) (a .turns) was
+
+unfoldable pub dispatchEvents : Dispatched → List ℕ → List ℕ
+dispatchEvents a was = cond (eqb (a .number) accepted) (a .events) was
+
+unfoldable pub dispatchStopped : Dispatched → ℕ → ℕ
+dispatchStopped a was = cond (eqb (a .number) accepted) (a .stopped) was

@@ -1,5 +1,6 @@
-// The platform for planners' own programs in C or Rust: opening, step, run and the run-file writer on numbers and byte slices. A refused call
-// leaves the numbers behind its pointers too. include/kelbraut.h says how to use them.
+// The platform for planners' own programs in C or Rust: opening, step, run, the run-file writer and the dispatcher on numbers and byte slices.
+// A refused call leaves the numbers behind its pointers too. include/kelbraut.h says how to use them.
+use limits::ACCEPTED;
 use limits::TOO_MANY;
 use platform::Opened;
 use platform::Ran;
@@ -9,6 +10,8 @@ ghost use mathlib.Core.Path.{_≡_};
 ghost use Rattle.platform.specs.Calls.{openFile, step, run, writeFile, stepRefusal, runRefusal, writeRefusal};
 ghost use Rattle.planner.specs.Answers.{numberAndLine, stepLetter, stepTick, stepNode, stepOther, stepSize};
 ghost use Rattle.planner.specs.Answers.{runEvents, runSpent, writeSize};
+ghost use Rattle.planner.specs.Answers.{dispatchTurns, dispatchEvents, dispatchStopped};
+ghost use Rattle.dispatcher.specs.Dispatch.{dispatch};
 
 // Opens a store from a run file. Answers 0, or the number of the refusal and 256 times its line.
 #[no_mangle]
@@ -116,4 +119,33 @@ pub extern "C" fn kelbraut_step(
         }
         Stepped::Refused(number) => number,
     }
+}
+
+// Gives `turns` turns of `each` events to the stores of a part. Answers the number of the refusal, 0 where there is none. Puts the turns given,
+// the events of each of eight stores, and which stores are stopped, bit i for store i.
+#[no_mangle]
+pub extern "C" fn kelbraut_dispatch(
+    stores: &mut [u8],
+    each: u64,
+    turns: u64,
+    given: &mut u64,
+    events: &mut [u64; 8],
+    stopped: &mut u64,
+) -> u64
+    ensures { λ r. ⌜ r ≡ dispatch (now (stores .entry)) each turns .answer .number ⌝ }
+    ensures { λ _. ⌜ now (given .exit) ≡ dispatchTurns (dispatch (now (stores .entry)) each turns .answer) (now (given .entry)) ⌝ }
+    ensures { λ _. ⌜ now (events .exit) ≡ dispatchEvents (dispatch (now (stores .entry)) each turns .answer) (now (events .entry)) ⌝ }
+    ensures { λ _. ⌜ now (stopped .exit) ≡ dispatchStopped (dispatch (now (stores .entry)) each turns .answer) (now (stopped .entry)) ⌝ }
+    ensures { λ _. ⌜ now (stores .exit) ≡ dispatch (now (stores .entry)) each turns .part ⌝ }
+{
+    let answer = dispatcher::dispatch(stores, each, turns);
+    let number = answer.number;
+    if number != ACCEPTED {
+        return number;
+    }
+    let done = answer.events;
+    *given = answer.turns;
+    *events = done;
+    *stopped = answer.stopped;
+    0
 }

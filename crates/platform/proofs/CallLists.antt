@@ -45,6 +45,12 @@ module _ (p : Plan) (good : planTest p ≡ true) where
   unfolding after
   called-after c e = let w = called-steps p c (after p e) in (e + w .0, w .1 ∙ sym (steps-add p e (w .0) (start p)))
 
+  -- so one call on a store that the file leads to leaves such a store
+  pub call-leads : (c : Call) (e : ℕ) → (k : ℕ) × (storeAfter c (encode p (after p e)) ≡ encode p (after p k))
+  call-leads c e =
+      let w = called-after (sized c) e in
+      (w .0, call-store p (after p e) (after-holds e) (after-small e) c ∙ ap (encode p) (w .1))
+
   -- any list of calls leaves the encoding of what the model's calls do to the state
   calls-store : (cs : List Call) (e : ℕ) → storeAfterAll cs (encode p (after p e)) ≡ encode p (calls p (map sized cs) (after p e))
   unfolding storeAfterAll calls
@@ -59,10 +65,8 @@ module _ (p : Plan) (good : planTest p ≡ true) where
   unfolding NoneAnswers
   none-seven [] e = tt
   none-seven (c ∷ cs) e =
-      let w = called-after (sized c) e in
-      let one : storeAfter c (encode p (after p e)) ≡ encode p (called p (sized c) (after p e)) =
-      call-store p (after p e) (after-holds e) (after-small e) c in
-      (call-not-7 p (after p e) (after-holds e) (after-small e) c, subst (NoneAnswers badStore cs) (sym (one ∙ ap (encode p) (w .1))) (none-seven cs (w .0)))
+      let w = call-leads c e in
+      (call-not-7 p (after p e) (after-holds e) (after-small e) c, subst (NoneAnswers badStore cs) (sym (w .1)) (none-seven cs (w .0)))
 
   pub opened-at : start p ≡ after p 0
   unfolding after steps

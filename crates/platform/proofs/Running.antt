@@ -7,7 +7,7 @@ use Prim.Native.Nat.{ℕ, zero, suc, _+_, _-_, _≤_, _<_}
 use native.Mathlib.Omega.{arith}
 use Rattle.plans.specs.Plan.{Plan}
 use Rattle.model.specs.Platform.{State, Event, crash, message, watch, heartbeat, Entry, Outcome, did, ended, refused, nextEvent, try, left, steps}
-use Rattle.model.specs.Platform.{eventCount, spent, finished, overfull, runAnswer}
+use Rattle.model.specs.Platform.{eventCount, runAnswer}
 use Rattle.model.proofs.Calls.{stuck, answer-try, count-try, answer-end}
 use Rattle.model.specs.declared.Deed.{Deed}
 use Rattle.store.specs.Store.{encode, planIn, stateIn}
@@ -117,7 +117,7 @@ module _ (p : Plan) (s : State) where
   refused-outcome refused h = refl
 
 -- and its answer of a search, of the next event
-nothing-left : (o : Option Entry) → Nothing ≡ nextOf o → o ≡ none
+pub nothing-left : (o : Option Entry) → Nothing ≡ nextOf o → o ≡ none
 unfolding nextOf nextAt
 nothing-left none h = refl
 nothing-left (some e) h = absurd (go (e .event) h)
@@ -128,7 +128,7 @@ nothing-left (some e) h = absurd (go (e .event) h)
     go (watch x) q = differ (cc q)
     go (heartbeat x) q = differ (cc q)
 
-event-left : (o : Option Entry) {r : Next} → r ≡ nextOf o → (r ≡ Nothing → ⊥) → (e : Entry) × (o ≡ some e)
+pub event-left : (o : Option Entry) {r : Next} → r ≡ nextOf o → (r ≡ Nothing → ⊥) → (e : Entry) × (o ≡ some e)
 unfolding nextOf
 event-left none h more = absurd (more h)
 event-left (some e) h more = (e, refl)

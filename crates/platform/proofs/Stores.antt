@@ -30,7 +30,7 @@ use Rattle.platform.specs.declared.Stepped.the-variants.{Refused as Unst
 use Rattle.platform.specs.declared.Wrote.the-variants.{Bytes}
 use Rattle.limits.specs.Refusals.{badStore, shortPart}
 use Rattle.platform.specs.Calls.{AfterStep, AfterRun, stepOutcome, step, ran, runState, run}
-use Rattle.platform.specs.Calls.{writeFile, stepRefusal, runRefusal}
+use Rattle.platform.specs.Calls.{writeFile, stepRefusal, runRefusal, eventsDone}
 use Rattle.platform.specs.CallLists.{Call, aStep, aRun, sized, storeAfter, refusal}
 use Rattle.platform.proofs.Encoded.{in-range-encode}
 
@@ -84,6 +84,19 @@ unfolding stepOutcome stepRefusal
 outcome-not-7 p s (did e s') b log = λ e. omega arith
 outcome-not-7 p s ended b log = λ e. omega arith
 outcome-not-7 p s refused b log = λ e. omega arith
+
+-- a run's answer has its events, and a number by its ending alone
+pub ran-done : (a : Ending) (k : ℕ) → eventsDone (ran a k) ≡ k
+unfolding ran eventsDone
+ran-done finished k = refl
+ran-done spent k = refl
+ran-done overfull k = refl
+
+pub ran-number : (a : Ending) (k l : ℕ) → runRefusal (ran a k) ≡ runRefusal (ran a l)
+unfolding ran runRefusal
+ran-number finished k l = refl
+ran-number spent k l = refl
+ran-number overfull k l = refl
 
 ran-not-7 : (a : Ending) (k : ℕ) → runRefusal (ran a k) ≢ badStore
 unfolding ran runRefusal

@@ -136,6 +136,12 @@ runRefusal (Finished n) = 0
 runRefusal (Spent n) = 0
 runRefusal (Unrun number n) = number
 
+-- the events that a run answers
+unfoldable pub eventsDone : Ran → ℕ
+eventsDone (Finished n) = n
+eventsDone (Spent n) = n
+eventsDone (Unrun number n) = n
+
 unfoldable pub writeRefusal : Wrote → ℕ
 writeRefusal (Bytes size) = 0
 writeRefusal (Unwritten number) = number

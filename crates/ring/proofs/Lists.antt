@@ -85,13 +85,13 @@ listed-none k = listed-beyond 0 0 k (omega arith) (omega arith)
 
 -- ---- two dead lists of n bits that list the same are one
 
-listed-half : (a k : ℕ) → listed a (suc k) ≡ listed (a / 2) k
+pub listed-half : (a k : ℕ) → listed a (suc k) ≡ listed (a / 2) k
 unfolding listed
 listed-half a k =
     let one : 1 + k ≡ suc k = omega arith in
     ap (λ (x : ℕ). eqb (x % 2) 1) (sym (shr-shr a 1 k ∙ ap (λ (e : ℕ). a / 2 ^ e) one))
 
-listed-last : (a : ℕ) → listed a 0 ≡ eqb (a % 2) 1
+pub listed-last : (a : ℕ) → listed a 0 ≡ eqb (a % 2) 1
 unfolding listed
 listed-last a = ap (λ (x : ℕ). eqb (x % 2) 1) (div-one a)
 

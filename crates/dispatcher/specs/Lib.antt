@@ -1,0 +1,5 @@
+-- In reading order.
+pub mod Dispatch
+pub mod Claims
+pub mod PartCalls
+pub mod Tally
