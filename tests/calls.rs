@@ -1,4 +1,5 @@
-//! The platform's calls, each in two ways: through the static library, and by the simulator on what a store holds.
+//! The platform's calls, each in two ways: through the static library, and by the simulator on what a store holds; and the dispatcher's
+//! call, with what it answers.
 #![allow(dead_code)]
 
 use simulator::limits::*;
@@ -44,9 +45,52 @@ pub fn opening(number: u8, line: u64) -> u64 {
     u64::from(number) + 256 * line
 }
 
+pub mod dispatcher {
+    //! What the dispatcher's call answers.
+    use simulator::dispatch::Given;
+    use simulator::limits::MAX_STORES;
+
+    /// The number of the refusal, 0 where accepted; then what stands behind the pointers after the call. A refused one leaves what stood before.
+    #[derive(Clone, Copy, PartialEq, Eq, Debug)]
+    pub struct Answer {
+        pub number: u64,
+        pub given: u64,
+        pub events: [u64; MAX_STORES],
+        /// Bit i stands for store i.
+        pub stopped: u64,
+        /// The numbers before and after the eight of the events, which no call may touch.
+        pub around: [u64; 2],
+    }
+
+    /// What stands behind the pointers before a call, all different.
+    pub const BEFORE: Answer = {
+        const FIRST: u64 = 9_000_000_000_000_000_001;
+        let events = [FIRST, FIRST + 1, FIRST + 2, FIRST + 3, FIRST + 4, FIRST + 5, FIRST + 6, FIRST + 7];
+        Answer { number: 0, given: FIRST + 8, events, stopped: FIRST + 9, around: [FIRST + 10, FIRST + 11] }
+    };
+
+    pub fn refused(number: u8) -> Answer {
+        Answer { number: u64::from(number), ..BEFORE }
+    }
+
+    pub fn accepted(given: u64, events: [u64; MAX_STORES], stopped: u64) -> Answer {
+        Answer { number: 0, given, events, stopped, around: BEFORE.around }
+    }
+
+    /// The answer to which the simulator comes.
+    pub fn answer_of(given: &Result<Given, u8>) -> Answer {
+        let bits = |stopped: &[bool]| (0..stopped.len()).filter(|index| stopped[*index]).fold(0, |bits, index| bits | 1 << index);
+        match given {
+            Ok(given) => accepted(given.turns.len() as u64, given.events, bits(&given.stopped)),
+            Err(number) => refused(*number),
+        }
+    }
+}
+
 pub mod proved {
     //! The calls of the static library. A slice goes over as its address and its length.
-    use super::{Answer, Call, BEFORE};
+    use super::{dispatcher, Answer, Call, BEFORE};
+    use simulator::limits::MAX_STORES;
 
     #[cfg_attr(not(mock), link(name = "planner", kind = "static"))]
     extern "C" {
@@ -64,6 +108,15 @@ pub mod proved {
         ) -> u64;
         fn kelbraut_run(store: *mut u8, store_size: usize, budget: u64, events: *mut u64, spent: *mut u64) -> u64;
         fn kelbraut_write(store: *const u8, store_size: usize, out: *mut u8, out_size: usize, size: *mut u64) -> u64;
+        fn kelbraut_dispatch(
+            stores: *mut u8,
+            stores_size: usize,
+            length: u64,
+            turns: u64,
+            given: *mut u64,
+            events: *mut u64,
+            stopped: *mut u64,
+        ) -> u64;
     }
 
     pub fn open(file: &[u8], store: &mut [u8]) -> u64 {
@@ -81,6 +134,19 @@ pub mod proved {
             }
         };
         [number, a, b, c, d, e]
+    }
+
+    pub fn dispatch(part: &mut [u8], length: u64, turns: u64) -> dispatcher::Answer {
+        let dispatcher::Answer { mut given, mut stopped, events, around, .. } = dispatcher::BEFORE;
+        let mut numbers = [0; MAX_STORES + 2];
+        (numbers[0], numbers[MAX_STORES + 1]) = (around[0], around[1]);
+        numbers[1..=MAX_STORES].copy_from_slice(&events);
+        let number = unsafe {
+            let events = numbers.as_mut_ptr().add(1);
+            kelbraut_dispatch(part.as_mut_ptr(), part.len(), length, turns, &mut given, events, &mut stopped)
+        };
+        let events = std::array::from_fn(|index| numbers[index + 1]);
+        dispatcher::Answer { number, given, events, stopped, around: [numbers[0], numbers[MAX_STORES + 1]] }
     }
 }
 

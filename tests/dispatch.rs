@@ -23,7 +23,8 @@ mod lent;
 mod mock;
 mod stores;
 
-use calls::{simulated, Call};
+use calls::dispatcher::{accepted, answer_of, refused, Answer};
+use calls::{proved, simulated, Call};
 use common::{count, ended, same, seed};
 use lent::Lent;
 use simulator::dispatch::{dispatch, Given};
@@ -49,76 +50,6 @@ const TURNS: u64 = 30;
 const LENGTHS: [u64; 8] = [1, 2, 11, 12, 13, 100, 999, 1_000];
 /// Turn lengths out of range, two of them in range where the upper bits are lost.
 const BAD_LENGTHS: [u64; 5] = [0, 1_001, 65_537, 1 << 32 | 1, u64::MAX];
-
-// ---- the call
-
-/// The number of the refusal, 0 where accepted; then what stands behind the pointers after the call. A refused one leaves what stood before.
-#[derive(Clone, Copy, PartialEq, Eq, Debug)]
-struct Answer {
-    number: u64,
-    given: u64,
-    events: [u64; MAX_STORES],
-    /// Bit i stands for store i.
-    stopped: u64,
-    /// The numbers before and after the eight of the events, which no call may touch.
-    around: [u64; 2],
-}
-
-/// What stands behind the pointers before a call, all different.
-const BEFORE: Answer = {
-    const FIRST: u64 = 9_000_000_000_000_000_001;
-    let events = [FIRST, FIRST + 1, FIRST + 2, FIRST + 3, FIRST + 4, FIRST + 5, FIRST + 6, FIRST + 7];
-    Answer { number: 0, given: FIRST + 8, events, stopped: FIRST + 9, around: [FIRST + 10, FIRST + 11] }
-};
-
-fn refused(number: u8) -> Answer {
-    Answer { number: u64::from(number), ..BEFORE }
-}
-
-fn accepted(given: u64, events: [u64; MAX_STORES], stopped: u64) -> Answer {
-    Answer { number: 0, given, events, stopped, around: BEFORE.around }
-}
-
-/// The answer to which the simulator comes.
-fn answer_of(given: &Result<Given, u8>) -> Answer {
-    let bits = |stopped: &[bool]| (0..stopped.len()).filter(|index| stopped[*index]).fold(0, |bits, index| bits | 1 << index);
-    match given {
-        Ok(given) => accepted(given.turns.len() as u64, given.events, bits(&given.stopped)),
-        Err(number) => refused(*number),
-    }
-}
-
-mod proved {
-    //! The call of the static library, and its other calls.
-    use super::{Answer, BEFORE, MAX_STORES};
-
-    pub use super::calls::proved::call;
-
-    extern "C" {
-        fn kelbraut_dispatch(
-            stores: *mut u8,
-            stores_size: usize,
-            length: u64,
-            turns: u64,
-            given: *mut u64,
-            events: *mut u64,
-            stopped: *mut u64,
-        ) -> u64;
-    }
-
-    pub fn dispatch(part: &mut [u8], length: u64, turns: u64) -> Answer {
-        let Answer { mut given, mut stopped, events, around, .. } = BEFORE;
-        let mut numbers = [0; MAX_STORES + 2];
-        (numbers[0], numbers[MAX_STORES + 1]) = (around[0], around[1]);
-        numbers[1..=MAX_STORES].copy_from_slice(&events);
-        let number = unsafe {
-            let events = numbers.as_mut_ptr().add(1);
-            kelbraut_dispatch(part.as_mut_ptr(), part.len(), length, turns, &mut given, events, &mut stopped)
-        };
-        let events = std::array::from_fn(|index| numbers[index + 1]);
-        Answer { number, given, events, stopped, around: [numbers[0], numbers[MAX_STORES + 1]] }
-    }
-}
 
 /// Where a part has the store of this index.
 fn place_of(index: usize) -> Range<usize> {

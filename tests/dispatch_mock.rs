@@ -1,6 +1,7 @@
 //! The dispatcher's call over the simulator and its store, with one mistake at a time: what tests/dispatch.rs has to find.
 
-use super::{place_of, Answer, BEFORE};
+use super::calls::dispatcher::{Answer, BEFORE};
+use super::place_of;
 use simulator::layout;
 use simulator::limits::*;
 use simulator::platform::{Ending, Run};

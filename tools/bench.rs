@@ -288,18 +288,6 @@ fn filling() -> Result<(), String> {
 
 // ---- the dispatcher
 
-extern "C" {
-    fn kelbraut_dispatch(
-        stores: *mut u8,
-        stores_size: usize,
-        length: u64,
-        turns: u64,
-        given: *mut u64,
-        events: *mut u64,
-        stopped: *mut u64,
-    ) -> u64;
-}
-
 /// What is done with the stores of a part: turns of all in one call, or a run of each, one after another.
 #[derive(Clone, Copy)]
 enum Way {
@@ -313,8 +301,9 @@ impl Way {
         let mut events = [0; MAX_STORES];
         let refused = match self {
             Way::Turns { length, turns } => {
-                let (at, size, mut given, mut stopped) = (part.as_mut_ptr(), part.len(), 0, 0);
-                unsafe { kelbraut_dispatch(at, size, length, turns, &mut given, events.as_mut_ptr(), &mut stopped) != 0 }
+                let answer = proved::dispatch(part, length, turns);
+                events = answer.events;
+                answer.number != 0
             }
             Way::Runs { budget } => part.chunks_mut(STORE_BYTES).zip(&mut events).any(|(store, events)| {
                 let [number, did, ..] = proved::call(Call::Run { budget }, store, &mut []);
