@@ -50,7 +50,8 @@ pub mod dispatcher {
     use simulator::dispatch::Given;
     use simulator::limits::MAX_STORES;
 
-    /// The number of the refusal, 0 where accepted; then what stands behind the pointers after the call. A refused one leaves what stood before.
+    /// The number of the refusal, 0 where accepted; then what stands behind the pointers after the call. A refused one leaves what stood
+    /// before.
     #[derive(Clone, Copy, PartialEq, Eq, Debug)]
     pub struct Answer {
         pub number: u64,

@@ -34,24 +34,49 @@ pub fn put(s: &mut [u8], at: usize, width: usize, x: u64)
     }
 }
 
-// Zeros from `from` up to `to`.
+// Zeros from `from` up to `to`: eight a round, then the rest singly.
 pub fn clear(s: &mut [u8], from: usize, to: usize)
     requires { ⌜ (from ≤ to) × (to ≤ length (now s)) ⌝ }
     ensures { λ _. ⌜ now (s .exit) ≡ cleared (now (s .entry)) from to ⌝ }
 {
-    let mut i = from;
-    while i < to {
-        s[i] = 0;
-        i += 1;
+    let mut at = from;
+    while at + 8 <= to {
+        s[at] = 0;
+        s[at + 1] = 0;
+        s[at + 2] = 0;
+        s[at + 3] = 0;
+        s[at + 4] = 0;
+        s[at + 5] = 0;
+        s[at + 6] = 0;
+        s[at + 7] = 0;
+        at += 8;
+    }
+    while at < to {
+        s[at] = 0;
+        at += 1;
     }
 }
 
-// Whether the bytes from `from` up to `to` are all zero.
+// Whether the bytes from `from` up to `to` are all zero: eight a round, then the rest singly.
 pub fn is_zero(s: &[u8], from: usize, to: usize) -> bool
     requires { ⌜ (from ≤ to) × (to ≤ length (now s)) ⌝ }
     ensures { λ r. ⌜ r ≡ zeros (slice from to (now (s .entry))) ⌝ }
 {
     let mut i = from;
+    while i + 8 <= to {
+        let bits = s[i]
+            | s[i + 1]
+            | s[i + 2]
+            | s[i + 3]
+            | s[i + 4]
+            | s[i + 5]
+            | s[i + 6]
+            | s[i + 7];
+        if bits != 0 {
+            return false;
+        }
+        i += 8;
+    }
     while i < to {
         if s[i] != 0 {
             return false;
