@@ -13,8 +13,8 @@ Looked at are words in backquotes, links, blocks of commands, and paths in plain
 - A name beside a file, as in "`law` in `FILE`", "`FILE`: `law`" or "`law` (`FILE`)", is defined in that file.
 - The public calls, which are those exported for C and those in the table of docs/THEOREMS.md, have no `requires`, and the table has each
   of the former.
-- A table whose first column is headed 'Crate' has a row for each crate. docs/README.md names every document, test and tool, and tests/run
-  every test.
+- A table whose first column is headed 'Crate' has a row for each crate. docs/README.md names every document, test and tool, tests/run
+  every test, and docs/THEOREMS.md every must-fail edit.
 
 Passed over by form: lines of run files and logs (a comma and no space), numbers, single letters, commands, C types (`.._t`),
 modules of the kit (`Rattle·..`). At each run the check first tries itself on wrong words, all of which it has to see, and on right ones."""
@@ -286,12 +286,14 @@ class Document:
 # ---- the index and the figures
 
 
-def index(repository, text, run):
-    """Complaints about docs/README.md: each document of the folder, each test and each tool is named in it; and each test in tests/run."""
+def index(repository, text, run, theorems):
+    """Complaints about docs/README.md: each document of the folder, each test and each tool is named in it; about tests/run, which names
+    each test; and about docs/THEOREMS.md, which names each edit."""
     wanted = sorted(f for f in repository.files if re.match(r"docs/\w+\.md$|tests/\w+\.sh$|tools/\w+\.(sh|py)$", f))
     complaints = [("docs/README.md", 1, f, "not named") for f in wanted if f != "docs/README.md" and os.path.basename(f) not in text]
     tests = [re.sub(r"tests/(\w+)\.sh", r"\1", f) for f in wanted if f.startswith("tests/") and f != "tests/common.sh"]
-    return complaints + [("tests/run", 1, test, "not run") for test in tests if not re.search(rf"^beside .*\b{test}\b", run, re.M)]
+    complaints += [("tests/run", 1, test, "not run") for test in tests if not re.search(rf"^beside .*\b{test}\b", run, re.M)]
+    return complaints + [("docs/THEOREMS.md", 1, e, "an edit that is not named") for e in sorted(repository.edits) if f"`{e}`" not in theorems]
 
 
 def figures(text, rows):
@@ -391,8 +393,13 @@ def self_test(repository, rows):
     for lines in (wrong_size, rows[:-1], wrong_count):
         if len(figures("\n".join(lines), rows)) != 1:
             failures.append("tests/docs.py: a wrong figure is not seen")
-    unnamed = index(repository, read("docs/README.md").replace("LAYOUTS.md", "").replace("bench.sh", ""), read("tests/run").replace("host", ""))
-    for path, word in (("docs/README.md", "docs/LAYOUTS.md"), ("docs/README.md", "tools/bench.sh"), ("tests/run", "host")):
+    lacking = {"docs/README.md": ["docs/LAYOUTS.md", "tools/bench.sh"], "tests/run": ["host"], "docs/THEOREMS.md": ["fields/rest_unseen"]}
+    without = {path: read(path) for path in lacking}
+    for path, words in lacking.items():
+        for word in words:
+            without[path] = without[path].replace(os.path.basename(word), "")
+    unnamed = index(repository, *without.values())
+    for path, word in ((path, word) for path, words in lacking.items() for word in words):
         if (path, 1, word) not in [complaint[:3] for complaint in unnamed]:
             failures.append(f"tests/docs.py: that {path} does not name {word} is not seen")
     of_calls, run = read("docs/THEOREMS.md"), "    ensures { λ r. ⌜ r ≡ run (now (store .entry)) budget .answer ⌝ }"
@@ -413,7 +420,7 @@ def shown(complaint):
 def main():
     repository, rows = Repository(), counted()
     failures = self_test(repository, rows)
-    complaints = index(repository, read("docs/README.md"), read("tests/run")) + figures(read(FIGURES), rows)
+    complaints = index(repository, read("docs/README.md"), read("tests/run"), read("docs/THEOREMS.md")) + figures(read(FIGURES), rows)
     complaints += public_calls(read("docs/THEOREMS.md"), sources())
     for path in DOCUMENTS:
         complaints += Document(repository, path, read(path)).check()

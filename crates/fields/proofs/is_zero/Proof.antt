@@ -1,6 +1,6 @@
 -- `fields::is_zero` meets its contract. Assumes nothing.
 use Prim.Native.Nat.{_-_, _≤_}
-use mathlib.Core.Path.{_≡_, sym, _∙_}
+use mathlib.Core.Path.{_≡_, refl, sym, _∙_}
 use lib.Seq.{slice}
 use Rattle.fields.specs.Fields.{zeros}
 use Rattle.fields.proofs.Zeros.{over, zero-passed, zero-missed, zero-end}
@@ -19,6 +19,9 @@ Inv-loop2 s from to i₀ i = (i ≤ to) × (zeros (slice from to s) ≡ zeros (s
 
 abbrev μ-loop2 : tie.MeasureT-loop2
 μ-loop2 s from to i₀ i = to - i
+
+loop-holds : tie.Need-loop-holds Inv-loop μ-loop Inv-loop2 μ-loop2
+loop-holds c = (search needs, refl)
 
 loop-again : tie.Need-loop-again Inv-loop μ-loop Inv-loop2 μ-loop2
 unfolding over
@@ -57,7 +60,7 @@ returns-3 c = let l = c .before .loop2 in sym (l .inv .1 ∙ zero-end _ _ _ (c .
 
 pub is-zero-spec : {M : Type 1} → statement M
 is-zero-spec =
-    tie.close (tie.spec Inv-loop μ-loop Inv-loop2 μ-loop2 (λ c. search needs) (λ c. search needs) (λ c. search needs) (λ c. search needs)
+    tie.close (tie.spec Inv-loop μ-loop Inv-loop2 μ-loop2 loop-holds (λ c. search needs) (λ c. search needs) (λ c. search needs)
     (λ c. search needs) (λ c. search needs) (λ c. search needs) (λ c. search needs) (λ c. search needs) (λ c. search needs) (λ c. search needs)
     (λ c. search needs) (λ c. search needs) (λ c. search needs) (λ c. search needs) (λ c. search needs) (λ c. search needs) returns
     (λ c. search needs) (λ c. search needs) loop-again (λ c. search needs) (λ c. search needs) returns-2 (λ c. search needs) (λ c. search needs)
