@@ -19,7 +19,7 @@ abbrev Inv-loop2 : tie.InvT-loop2
 Inv-loop2 s₀ from to at₀ s at = (at ≤ to) × (length s ≡ length s₀) × (cleared s₀ at₀ to ≡ cleared s at to)
 
 abbrev μ-loop2 : tie.MeasureT-loop2
-μ-loop2 s₀ from to at₀ s at = to - at
+μ-loop2 = μ-loop
 
 loop-holds : tie.Need-loop-holds Inv-loop μ-loop Inv-loop2 μ-loop2
 loop-holds c = (search needs, refl, refl)

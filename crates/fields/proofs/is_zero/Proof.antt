@@ -15,10 +15,10 @@ abbrev μ-loop : tie.MeasureT-loop
 μ-loop s from to i₀ i = to - i
 
 abbrev Inv-loop2 : tie.InvT-loop2
-Inv-loop2 s from to i₀ i = (i ≤ to) × (zeros (slice from to s) ≡ zeros (slice i to s))
+Inv-loop2 = Inv-loop
 
 abbrev μ-loop2 : tie.MeasureT-loop2
-μ-loop2 s from to i₀ i = to - i
+μ-loop2 = μ-loop
 
 loop-holds : tie.Need-loop-holds Inv-loop μ-loop Inv-loop2 μ-loop2
 loop-holds c = (search needs, refl)
