@@ -198,6 +198,7 @@ module _ (p : Params) (s s' : View) (i : Inv p s) where
         heartbeat≥ = e .leaves .least .heartbeat≥ x l;
         heartbeat≤ = λ o. omega (arith, moves-now, (i .timers x l) .heartbeat≤ o);
         to = (i .timers x l) .to;
+        lone = λ q. absurd (e .other q);
       }) (λ h. e .leaves .live);
       answered = moves-back;
       covered = moves-covered;
@@ -267,6 +268,7 @@ module _ (p : Params) (s s' : View) (i : Inv p s) where
         heartbeat≥ = λ o. absurd (live-not-dead o refl);
         heartbeat≤ = λ o. absurd (live-not-dead o refl);
         to = λ o. absurd (live-not-dead o refl);
+        lone = λ q. refl;
       }) (λ h. e .leaves .live);
       answered = alone-back;
       covered = alone-covered;

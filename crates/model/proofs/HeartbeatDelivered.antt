@@ -77,6 +77,7 @@ module _ (p : Params) (s s' : View) (i : Inv p s) where
         heartbeat≥ = e .least .heartbeat≥ (m .to) l;
         heartbeat≤ = λ o. omega (arith, beat-now, (i .timers (m .to) l) .heartbeat≤ o);
         to = (i .timers (m .to) l) .to;
+        lone = (i .timers (m .to) l) .lone;
       }) (λ h. e .live);
       answered =
           answered-map p s s' (i .answered) (beat-alike .alive) beat-em (λ j. beat-sames j .observer) (λ g h q. came0 (s .flight) g (e .frame .came g h));

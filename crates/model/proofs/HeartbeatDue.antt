@@ -88,6 +88,7 @@ module _ (p : Params) (s s' : View) (i : Inv p s) where
         heartbeat≥ = λ o. omega arith;
         heartbeat≤ = λ o. omega arith;
         to = λ o. (i .timers x l) .to (e .on);
+        lone = (i .timers x l) .lone;
       }) (λ h. e .live);
       answered = sends-back;
       covered = sends-covered;

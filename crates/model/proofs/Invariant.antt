@@ -75,6 +75,8 @@ module _ (p : Params) where
     pub heartbeat≤ : n .heartbeatOn ≡ true → n .heartbeat ≤ last + p .H
     -- a node whose heartbeat is on sends to another
     pub to : n .heartbeatOn ≡ true → n .observer ≢ j
+    -- a node that observes itself sends to itself
+    pub lone : n .emitter ≡ j → n .observer ≡ j
 
   -- THE INVARIANT
   pub record Inv (s : View) : Type 0 where

@@ -82,6 +82,7 @@ module _ (p : Params) where
         heartbeat≥ = λ q. omega (arith, o .last);
         heartbeat≤ = λ q. omega (arith, (o .heartbeat j n) .1, o .last);
         to = λ q r. n (rw r at (o .mutual-r j));
+        lone = λ q. absurd (n q);
       }
       tm j (yes q) = record {
         on = λ ne. absurd (ne q);
@@ -90,4 +91,5 @@ module _ (p : Params) where
         heartbeat≥ = λ x. absurd (live-not-dead x ((o .off j q) .1));
         heartbeat≤ = λ x. absurd (live-not-dead x ((o .off j q) .1));
         to = λ x. absurd (live-not-dead x ((o .off j q) .1));
+        lone = λ r. rw q at (o .mutual-l j);
       }

@@ -50,6 +50,7 @@ module _ (p : Params) (s s' : View) (i : Inv p s) where
         heartbeat≥ = le .heartbeat≥ (m .to) l;
         heartbeat≤ = λ o. omega (arith, i .base .m-due m has, (i .timers (m .to) l) .heartbeat≤ o);
         to = (i .timers (m .to) l) .to;
+        lone = (i .timers (m .to) l) .lone;
       }) (λ h. h);
       answered = answered-map p s s' (i .answered) (still-alike .alive) (λ j. rw (still-same j)) (λ j. rw (still-same j))
           (λ g h q. came0 (s .flight) g (f .came g h));

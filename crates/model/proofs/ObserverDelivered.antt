@@ -11,7 +11,7 @@ use Rattle.model.specs.Platform.{InFlight}
 use Rattle.model.proofs.Events.{Seen, View, Live, _∈_, Params, Watched, watching}
 use Rattle.model.proofs.Invariant.{Inv, Answered, Covered, byHeartbeat, byTimer, byObserver, byCrash}
 use Rattle.model.proofs.EveryEvent.{live-not-dead, Alike, base'}
-use Rattle.model.proofs.OneState.{one-observes, emitter-beats}
+use Rattle.model.proofs.OneState.{one-observes, none-asks, emitter-beats}
 use Rattle.model.proofs.OneNode.{OnEach, each, alike, timers}
 use Rattle.model.proofs.WatchKept.{stays, came0, other-kind, covered-map, same-node}
 
@@ -94,6 +94,7 @@ module _ (p : Params) (s s' : View) (i : Inv p s) where
         heartbeat≥ = λ o. omega arith;
         heartbeat≤ = λ o. omega arith;
         to = λ o. i .base .m-self m (e .has);
+        lone = λ q. absurd (none-asks p s (i .base) m (e .has) (e .kind) (e .live) q);
       }) (λ h. e .live);
       answered = observer-back;
       covered = observer-covered;

@@ -64,4 +64,5 @@ module _ (p : Params) where
       heartbeat≥ = le .heartbeat≥ j h;
       heartbeat≤ = λ o. omega (arith, (i .timers j h) .heartbeat≤ o);
       to = (i .timers j h) .to;
+      lone = (i .timers j h) .lone;
     }))

@@ -48,6 +48,24 @@ module _ (p : Params) (s : View) (b : Base p s) where
           last (inl l) = absurd (live-unlisted (m .from) j l lj)
           last (inr l) = absurd (gone-silent (m .from) (b .listed j (m .from) l) m h refl)
 
+  -- no O is on its way to a live node that is alone
+  pub none-asks : (m : InFlight) → m ∈ s .flight → m .kind ≡ O → Live s (m .to) → (s .node (m .to)) .emitter ≢ m .to
+  none-asks m h k lt alone = go (b .m-O m h k)
+    where
+      other : m .from ≢ m .to
+      other = b .m-self m h
+
+      go : Tied p s (m .from) (m .to) → ⊥
+      go (inr l) = live-unlisted (m .from) (m .to) l lt
+      go (inl e) = by (p .gap-cyc (m .from) (m .to) (m .to) (ring .0) (rw e at (ring .1)) other)
+        where
+          ring : (m .from < p .N) × ((s .node (m .from)) .emitter < p .N)
+          ring = b .inN (m .from) (λ q. other (sym q ∙ e))
+
+          by : (p .gap (m .to) (m .from) < p .gap (m .to) (m .to)) ⊎ (p .gap (m .from) (m .to) < p .gap (m .from) (m .to)) → ⊥
+          by (inl near) = gone-silent (m .from) (b .listed (m .to) (m .from) (b .between (m .to) (m .from) (rw alone near))) m h refl
+          by (inr far) = omega arith
+
   pub not-alone : (j i : ℕ) → Live s j → i ≢ j → j < p .N → i < p .N → (s .node i) .emitter ≢ i
   not-alone j i lj ne jN iN e = go (p .gap-cyc j i i jN iN (λ q. ne (sym q)))
     where

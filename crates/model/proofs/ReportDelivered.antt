@@ -81,6 +81,7 @@ module _ (p : Params) (s s' : View) (i : Inv p s) where
         heartbeat≥ = e .least .heartbeat≥ (m .to) l;
         heartbeat≤ = λ o. omega (arith, report-now, (i .timers (m .to) l) .heartbeat≤ o);
         to = (i .timers (m .to) l) .to;
+        lone = (i .timers (m .to) l) .lone;
       }) (λ h. e .live);
       answered =
           answered-map p s s' (i .answered) (report-alike .alive) report-em (λ j. report-sames j .observer) (λ g h q. report-old g q (e .frame .came g h));
