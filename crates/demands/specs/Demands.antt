@@ -1,5 +1,5 @@
--- THE THREE DEMANDS of the customer's terms, and what request 104 of document 02 claims, each as a record of what holds of the calls' definitions,
--- which the calls' contracts promise for every input. proofs/Theorems.antt proves them. Assumes nothing.
+-- THE THREE DEMANDS of the customer's terms, and what requests 104 and 106 of document 02 claim, each as a record of what holds of the calls'
+-- definitions, which the calls' contracts promise for every input. proofs/Theorems.antt proves them. Assumes nothing.
 use mathlib.Core.Path.{_≡_}
 use mathlib.Core.Logic.{_≢_, _⊎_}
 use mathlib.Core.Bool.{Bool, true, false, cond, not, _&&_}
@@ -23,7 +23,7 @@ use Rattle.logline.specs.declared.Written.the-variants.{Bytes as LineBytes, Ref
 use Rattle.logline.specs.Line.{Ranges, upTo, unknown, ranges, within, readOf, fields as columnsOf, lineText, writtenOf, outOf}
 use Rattle.model.specs.Platform.{State, Entry, nextEvent, apply, Outcome, did, ended, refused, try, steps, eventCount, runAnswer, firstEvents, after}
 use Rattle.model.specs.Lines.{lineOf, eventLines, lastLine, linesText, linesFrom}
-use Rattle.model.specs.Claims.{CrashedAre, Safe, LogRoundedUp, K, Settles}
+use Rattle.model.specs.Claims.{CrashedAre, Safe, LogRoundedUp, K, Settles, Joins}
 use Rattle.host.specs.Record.{decode, openable, sound}
 use Rattle.host.specs.Call.{tickTaken, messageTaken, openAnswer, openLeaves, deliverAnswer, deliverLeaves, deliverSends}
 use Rattle.host.specs.Call.{timersAnswer, timersLeaves, timersSends}
@@ -285,6 +285,9 @@ pub record AfterCalls (p : Plan) (cs : List Call) (store : List ℕ) : Type 0 wh
   -- where each crash done came at least S ticks after the one before, and S ticks have passed since the last, every survivor lists
   -- exactly the crashed nodes, emits to the next survivor and observes the one before
   pub settles : Settles p (stateIn store)
+  -- REQUEST 106: however close the crashes done came, the last of the f at tick c, where no event due by tick c + 2 × W × f + D is left every
+  -- survivor's emitter and observer are the neighbouring survivors
+  pub joins : Joins p (stateIn store)
   -- it is in range, the cap on the next number included
   pub inRange : storeInRange store ≡ true
 

@@ -61,6 +61,8 @@ pub record Params : Type 0 where
   pub c : ℕ → ℕ
   pub planned-N : (k : ℕ) → planned k ≡ true → k < N
   pub gap : ℕ → ℕ → ℕ
+  pub gap≥1 : (j k : ℕ) → j < N → k < N → 1 ≤ gap j k
+  pub gap≤N : (j k : ℕ) → j < N → k < N → gap j k ≤ N
   pub gap-inj : (j k l : ℕ) → j < N → gap j k ≡ gap j l → k ≡ l
   pub gap-cyc : (j l i : ℕ) → j < N → l < N → j ≢ l → (gap l j < gap l i) ⊎ (gap j l < gap j i)
   pub gap-add : (j i k : ℕ) → j < N → i < N → k < N → gap j i < gap j k → gap j k ≡ gap j i + gap i k

@@ -44,6 +44,10 @@ pub mod WatchExpires
 pub mod ReportRounds
 -- a whole run
 pub mod SpacedRuns
+-- ---- crashes however close together
+
+-- the wait for each crashed emitter, and once it is over the neighbours
+pub mod CloseCrashes
 -- ---- the platform's definitions: the next event and the ranges
 
 -- nothing is left before the next event

@@ -1,20 +1,27 @@
 -- Every state that the events of an accepted file lead to has the invariant; where its crashes are spaced it is settled once S ticks
--- have passed since the last. Assumes nothing.
+-- have passed since the last; and however close they came, its survivors are joined once what is due by c + 2 × W × f + D is done. Assumes nothing.
 use mathlib.Core.Path.{_≡_, sym, ap, _∙_, subst}
 use mathlib.Core.Bool.{true}
-use Prim.Native.Nat.{ℕ, zero, suc, _+_, _≤_, _<_}
+use mathlib.Core.List.{List}
+use Prim.Native.Nat.{ℕ, zero, suc, _+_, _*_, _≤_, _<_}
 use native.Mathlib.Omega.{arith}
-use Rattle.plans.specs.Plan.{Plan}
-use Rattle.model.specs.Platform.{State, alive, survivors, start, apply, Outcome, try, left, steps, after}
+use borrow.Author.Tests.{not-false}
+use lib.ListN.{length, take, length-take}
+use Rattle.ring.proofs.Gaps.{back-many}
+use Rattle.node.specs.Node.{due}
+use Rattle.plans.specs.Plan.{Crash, Plan, nodesOf, hits}
+use Rattle.plans.proofs.Rows.{length-nodes}
+use Rattle.model.specs.Platform.{State, alive, survivors, nodeOf, start, apply, Outcome, try, left, steps, after}
 use Rattle.plans.specs.Plain.{rowAt, Plain}
 use Rattle.model.specs.Range.{Accepted, NotBefore, Sound}
-use Rattle.model.specs.Claims.{Spaced, S, settledBy}
+use Rattle.model.specs.Claims.{Spaced, S, settledBy, joinedBy}
 use Rattle.model.proofs.Invariant.{Inv}
 use Rattle.model.proofs.InvariantKept.{opened-inv, step-inv}
 use Rattle.model.proofs.Phases.{span}
-use Rattle.model.proofs.SpacedRuns.{Run, opened, run-inv, settles, SettledIn, Passed, next as nextRun}
+use Rattle.model.proofs.SpacedRuns.{Run, opened, run-inv, settles, JoinedIn, SettledIn, Passed, next as nextRun}
+use Rattle.model.proofs.CloseCrashes.{Near, SinceLast, InARow, step-since, joined as joins}
 use Rattle.model.proofs.RangesKept.{start-range, Tried, happened, none-left, too-many, try-ok, left-range, after-range}
-use Rattle.model.proofs.Viewed.{P, view, least}
+use Rattle.model.proofs.Viewed.{P, tickOf, view, least}
 use Rattle.model.proofs.EventSteps.{lastOf, survivors-cnt, Does, event-does}
 use Rattle.model.proofs.Opened.{start-opened}
 
@@ -99,3 +106,57 @@ module _ (p : Plan) (ac : Accepted p) where
       settles (P p ac) (subst (λ n. Run (P p ac) (view p (after p e)) (lastOf p n)) d (after-run e (rw d sp)))
       (subst (λ m. Passed (P p ac) (view p (after p e)) ((rowAt p i) .tick + span (P p ac) m)) (sym (survivors-cnt p ac (after p e) ∙ ap (survivors p) d))
       (passed (after p e) (settledBy p i) (after-range p pl e) nb)) j (jN, l)
+
+  -- ---- crashes however close
+
+  near : (s : State) → Sound p s → Inv (P p ac) (view p s) → Near (P p ac) (view p s)
+  near s r i = record {
+    watch = λ j l ne. at-most ((nodeOf s j) .watch) (s .last + 2 * p .w) ((r .fields j (i .base .inN j ne .0)) .watch);
+    flight = λ m h. let f = r .flying m h in (f .from, f .to, f .due);
+  }
+    where
+      at-most : (v t : ℕ) → v ≤ due t → tickOf v ≤ t
+      at-most zero t h = omega arith
+      at-most (suc v) t h = omega arith
+
+  -- crashed nodes in a row are no more than the C lines done
+  in-a-row : (s : State) → InARow (P p ac) (view p s) (s .done)
+  unfolding alive hits
+  in-a-row s j g jN gN dead =
+      let rows : List Crash = take (s .done) (p .crashes) in
+      let few : g ≤ length (nodesOf rows) = back-many (p .n) (pl .order) (nodesOf rows) j g jN gN (λ k h. not-false _ (dead k h)) in
+      omega (arith, length-nodes rows, length-take (s .done) (p .crashes))
+
+  one-since : (s : State) → Sound p s → Inv (P p ac) (view p s) → SinceLast (P p ac) (view p s) (lastOf p (s .done)) → (q : Outcome) → Tried p pl s q
+      → SinceLast (P p ac) (view p (left s q)) (lastOf p ((left s q) .done))
+  unfolding left
+  one-since s r i w q (happened e b a ch f) =
+      let s' : State = apply p s (e .tick) (e .event) in
+      let d : Does p ac s r i s' = event-does p ac s r i (e .tick) (e .event) ch a b in
+      subst (SinceLast (P p ac) (view p s')) (d .last)
+      (step-since (P p ac) (view p s) (view p s') i (near s r i) (step-inv (P p ac) (view p s) (view p s') i (d .step)) (lastOf p (s .done)) (d .step) w)
+  one-since s r i w q (none-left h) = w
+  one-since s r i w q (too-many e ch h) = w
+
+  steps-since : (k : ℕ) (s : State) → Sound p s → Inv (P p ac) (view p s) → SinceLast (P p ac) (view p s) (lastOf p (s .done))
+      → SinceLast (P p ac) (view p (steps p k s)) (lastOf p ((steps p k s) .done))
+  unfolding steps
+  steps-since zero s r i w = w
+  steps-since (suc k) s r i w =
+      let q = try-ok p pl s r in
+      steps-since k (left s (try p s)) (left-range p pl s r (try p s) q) (one-inv s r i (try p s) q) (one-since s r i w (try p s) q)
+
+  after-since : (e : ℕ) → SinceLast (P p ac) (view p (after p e)) (lastOf p ((after p e) .done))
+  unfolding after start
+  after-since e = steps-since e (start p) (start-range p pl) (opened-inv (P p ac) (view p (start p)) (start-opened p ac)) tt
+
+  -- where i + 1 crashes are done and nothing is left by c + 2 × W × f + D, every survivor is joined
+  pub joined : (e i : ℕ) → (after p e) .done ≡ suc i
+      → NotBefore p (after p e) (suc (joinedBy p i)) (suc (joinedBy p i)) (suc (joinedBy p i))
+      → (j : ℕ) → j < p .n → alive p ((after p e) .done) j ≡ true → JoinedIn (P p ac) (view p (after p e)) j
+  unfolding joinedBy
+  joined e i d nb j jN l =
+      let s : State = after p e in
+      joins (P p ac) (view p s) ((rowAt p i) .tick) (suc i) (suc (joinedBy p i)) (after-inv e)
+      (subst (λ n. SinceLast (P p ac) (view p s) (lastOf p n)) d (after-since e)) (subst (InARow (P p ac) (view p s)) d (in-a-row s)) (omega arith)
+      (passed s (suc (joinedBy p i)) (after-range p pl e) nb) j (jN, l)

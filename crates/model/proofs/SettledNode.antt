@@ -1,5 +1,5 @@
--- A settled node in the words of Claims: its list is the number of the crashed nodes, its neighbours are the nearest survivors.
--- Assumes nothing.
+-- A joined node in the words of Claims: its neighbours are the nearest survivors; and a settled one, whose list is also the number of the
+-- crashed nodes. Assumes nothing.
 use mathlib.Core.Path.{_≡_, refl, sym, ap, _∙_}
 use mathlib.Core.Logic.{_≢_}
 use mathlib.Core.Bool.{Bool, true, false, not, true≢false, Bool·not-not}
@@ -19,9 +19,9 @@ use Rattle.plans.specs.Plan.{Plan, hits, orderOf}
 use Rattle.model.specs.Platform.{State, alive, nextSurvivor, survivorBefore, crashedList, nodeOf}
 use Rattle.plans.specs.Plain.{noCrash}
 use Rattle.model.specs.Range.{Accepted, Sound}
-use Rattle.model.specs.Claims.{SettledAt}
+use Rattle.model.specs.Claims.{JoinedAt, SettledAt}
 use Rattle.model.proofs.Phases.{crashedIn}
-use Rattle.model.proofs.SpacedRuns.{SettledIn}
+use Rattle.model.proofs.SpacedRuns.{JoinedIn, SettledIn}
 use Rattle.model.proofs.Viewed.{P, view}
 
 module _ (p : Plan) (ac : Accepted p) where
@@ -43,7 +43,7 @@ module _ (p : Plan) (ac : Accepted p) where
           let b : i < length (p .crashes) = omega (arith, length-take n (p .crashes)) in
           rw (getD-take n (p .crashes) i noCrash a) ((ac .plain) .node i b)
 
-  module _ (s : State) (r : Sound p s) (j : ℕ) (jN : j < p .n) (l : alive p (s .done) j ≡ true) (st : SettledIn (P p ac) (view p s) j) where
+  module _ (s : State) (j : ℕ) (jN : j < p .n) (l : alive p (s .done) j ≡ true) where
     abbrev dead : ℕ → Bool
     dead = crashedIn (view p s)
 
@@ -64,8 +64,27 @@ module _ (p : Plan) (ac : Accepted p) where
     unfolding nextSurvivor nextBy
     after-is = ap (λ (xs : List ℕ). getD xs 0 none) (kept (round (orderOf p) (suc (place (orderOf p) j))))
 
-    pub settled-at : SettledAt p s j
-    settled-at = record { list = lst; emitter = em; observer = ob }
+    pub joined-at : JoinedIn (P p ac) (view p s) j → JoinedAt p s j
+    joined-at in-ring = record { emitter = em; observer = ob }
+      where
+        em : (nodeOf s j) .emitter ≡ survivorBefore p (s .done) j
+        em =
+            backBy-only (p .n) io' dead j jN some-live ((nodeOf s j) .emitter) (up-is _ (in-ring .observes .1)) (λ k h. ap not (in-ring .before k h))
+            ∙ before-is
+
+        -- j is the survivor before its observer
+        ob : (nodeOf s j) .observer ≡ nextSurvivor p (s .done) j
+        ob =
+            let o : ℕ = (nodeOf s j) .observer in
+            let u : dead o ≡ false = up-is o (in-ring .emits .1) in
+            let e : j ≡ backBy (orderOf p) dead (place (orderOf p) o) =
+            backBy-only (p .n) io' dead o (in-ring .emits .0) some-live j (up-is j l) (λ k h. ap not (in-ring .ahead k h)) in
+            sym (nextBy-back (p .n) dead (orderOf p) io' o (in-ring .emits .0) u)
+            ∙ ap (λ (z : ℕ). nextBy (orderOf p) dead (place (orderOf p) z)) (sym e)
+            ∙ after-is
+
+    pub settled-at : Sound p s → SettledIn (P p ac) (view p s) j → SettledAt p s j
+    settled-at r st = record { list = lst; emitter = joined-at (st .joined) .emitter; observer = joined-at (st .joined) .observer }
       where
         lst : (nodeOf s j) .list ≡ crashedList p (s .done)
         lst =
@@ -78,19 +97,3 @@ module _ (p : Plan) (ac : Accepted p) where
             each k true e false g = rw (e, g)
             each k false e true g = rw (e, g)
             each k false e false g = absurd (true≢false (sym (st .full k g) ∙ e))
-
-        em : (nodeOf s j) .emitter ≡ survivorBefore p (s .done) j
-        em =
-            backBy-only (p .n) io' dead j jN some-live ((nodeOf s j) .emitter) (up-is _ (st .observes .1)) (λ k h. ap not (st .before k h))
-            ∙ before-is
-
-        -- j is the survivor before its observer
-        ob : (nodeOf s j) .observer ≡ nextSurvivor p (s .done) j
-        ob =
-            let o : ℕ = (nodeOf s j) .observer in
-            let u : dead o ≡ false = up-is o (st .emits .1) in
-            let e : j ≡ backBy (orderOf p) dead (place (orderOf p) o) =
-            backBy-only (p .n) io' dead o (st .emits .0) some-live j (up-is j l) (λ k h. ap not (st .ahead k h)) in
-            sym (nextBy-back (p .n) dead (orderOf p) io' o (st .emits .0) u)
-            ∙ ap (λ (z : ℕ). nextBy (orderOf p) dead (place (orderOf p) z)) (sym e)
-            ∙ after-is

@@ -133,14 +133,28 @@ module _ (p : Params) where
   run-phase (opened {s = s} o) = calm (opened-calm s o)
   run-phase (next {s = s} {s' = s'} {l = l} r e sp) = step-phase s s' (run-inv r) l e sp (run-phase r)
 
-  -- j lists exactly the crashed nodes, observes the survivor before it and emits to the one after
-  pub record SettledIn (s : View) (j : ℕ) : Type 0 where
-    pub sound : (k : ℕ) → Lists s j k → Dead s k
-    pub full : (k : ℕ) → Dead s k → Lists s j k
+  -- j observes the survivor before it and emits to the one after
+  pub record JoinedIn (s : View) (j : ℕ) : Type 0 where
     pub observes : Up p s ((s .node j) .emitter)
     pub before : (k : ℕ) → p .gap j k < p .gap j ((s .node j) .emitter) → Dead s k
     pub emits : Up p s ((s .node j) .observer)
     pub ahead : (k : ℕ) → p .gap ((s .node j) .observer) k < p .gap ((s .node j) .observer) j → Dead s k
+
+  -- where both are survivors and the observer observes j: what lies between a node and its emitter is listed, so has crashed
+  pub joined-in : (s : View) → Inv p s → (j : ℕ) → Up p s ((s .node j) .emitter) → Up p s ((s .node j) .observer)
+      → (s .node ((s .node j) .observer)) .emitter ≡ j → JoinedIn s j
+  joined-in s i j em ob answers = record {
+    observes = em;
+    before = λ k h. (i .base .listed j k (i .base .between j k h)) .dead;
+    emits = ob;
+    ahead = λ k h. (i .base .listed _ k (i .base .between ((s .node j) .observer) k (rw answers h))) .dead;
+  }
+
+  -- and lists exactly the crashed nodes
+  pub record SettledIn (s : View) (j : ℕ) : Type 0 where
+    pub sound : (k : ℕ) → Lists s j k → Dead s k
+    pub full : (k : ℕ) → Dead s k → Lists s j k
+    pub joined : JoinedIn s j
 
   -- nothing is left before u
   pub record Passed (s : View) (u : ℕ) : Type 0 where
@@ -152,10 +166,7 @@ module _ (p : Params) where
   settles {s} {c} r ps j u = record {
     sound = λ k h. (i .base .listed j k h) .dead;
     full = λ k d. cm .lists j k u d;
-    observes = cm .emitter j u;
-    before = λ k h. (i .base .listed j k (i .base .between j k h)) .dead;
-    emits = (cm .observer j u) .0;
-    ahead = λ k h. (i .base .listed _ k (i .base .between ((s .node j) .observer) k (rw ((cm .observer j u) .1) h))) .dead;
+    joined = joined-in s i j (cm .emitter j u) ((cm .observer j u) .0) ((cm .observer j u) .1);
   }
     where
       i : Inv p s

@@ -1,18 +1,18 @@
--- THE THEOREMS: what demand 3 claims, and the ranges, of every state that a file leads to, for any ring order. Each statement stands in
--- specs/Claims.antt. Assumes nothing.
+-- THE THEOREMS: what demand 3 and request 106 claim, and the ranges, of every state that a file leads to, for any ring order. Each statement
+-- stands in specs/Claims.antt. Assumes nothing.
 use Prim.Native.Nat.{ℕ}
 use Rattle.ring.proofs.Counts.{jumps-covers, jumps-le}
 use Rattle.plans.specs.Plan.{Plan}
 use Rattle.model.specs.Platform.{firstEvents, after}
 use Rattle.plans.specs.Plain.{Plain}
 use Rattle.model.specs.Range.{Accepted}
-use Rattle.model.specs.Claims.{CrashedAre, Safe, LogRoundedUp, K, Settles, NeverOutOfRange}
+use Rattle.model.specs.Claims.{CrashedAre, Safe, LogRoundedUp, K, Settles, NoneLeftBy, Joins, NeverOutOfRange}
 use Rattle.model.proofs.NextEvent.{by-parts}
 use Rattle.model.proofs.RangesKept.{steps-range, after-range}
 use Rattle.model.proofs.NextNumber.{next-small}
 use Rattle.model.proofs.Crashed.{crashed-are}
-use Rattle.model.proofs.Reached.{after-inv, settled}
-use Rattle.model.proofs.SettledNode.{settled-at}
+use Rattle.model.proofs.Reached.{after-inv, settled, joined}
+use Rattle.model.proofs.SettledNode.{joined-at, settled-at}
 
 -- K is the base-two logarithm, rounded up
 pub logarithm : (m : ℕ) → LogRoundedUp m (K m)
@@ -30,8 +30,17 @@ safety p ac e = record { unlisted = λ j k h. ((after-inv p ac e) .base .listed 
 pub settling : (p : Plan) → Accepted p → (e : ℕ) → Settles p (after p e)
 settling p ac e =
     record {
-      settled = λ i d sp nl j jN l. settled-at p ac (after p e) (after-range p (ac .plain) e) j jN l
+      settled = λ i d sp nl j jN l. settled-at p ac (after p e) j jN l (after-range p (ac .plain) e)
           (settled p ac e i d sp (by-parts p (ac .plain) (after p e) _ nl) j jN l);
+    }
+
+-- after any number of events, however close the crashes came, where no event due by c + 2 × W × f + D is left every survivor's emitter and
+-- observer are the neighbouring survivors
+pub joining : (p : Plan) → Accepted p → (e : ℕ) → Joins p (after p e)
+unfolding NoneLeftBy
+joining p ac e =
+    record {
+      joined = λ i d nl j jN l. joined-at p ac (after p e) j jN l (joined p ac e i d (by-parts p (ac .plain) (after p e) _ nl) j jN l);
     }
 
 -- whatever W, every state that a file leads to is in range, and events keep every range but the cap from any state

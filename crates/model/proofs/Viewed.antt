@@ -23,7 +23,7 @@ use Rattle.model.specs.Range.{Accepted, NotBefore, Sound}
 use Rattle.ring.proofs.Unlisted.{countBy, aheadBy}
 use Rattle.ring.proofs.GoingBack.{hops, ahead-iter}
 use Rattle.ring.proofs.Lists.{listing-keeps, listing-lists, listing-only}
-use Rattle.ring.proofs.Gaps.{gap, gap-inj, gap-cyc, gap-add}
+use Rattle.ring.proofs.Gaps.{gap, gap≥1, gap≤n, gap-inj, gap-cyc, gap-add}
 use Rattle.model.proofs.Events.{View, Params, Frame, Least, Sent, Reports, Adds, crash, sends, Seen}
 use Rattle.model.proofs.NextEvent.{undone}
 use Rattle.plans.proofs.Rows.{hit-where}
@@ -64,6 +64,8 @@ module _ (p : Plan) (ac : Accepted p) where
     c = tickIn (p .crashes);
     planned-N = planned-N;
     gap = gap (p .n) o;
+    gap≥1 = gap≥1 (p .n) o;
+    gap≤N = gap≤n (p .n) o;
     gap-inj = gap-inj (p .n) o;
     gap-cyc = gap-cyc (p .n) o;
     gap-add = gap-add (p .n) o;

@@ -1,26 +1,29 @@
--- A file with a crash, in number order and shuffled, whose settled state is computed and meets every hypothesis of `settling`; one in which
--- a node leaves its emitter by report; and the S of document 01's edge. Assumes nothing.
-use mathlib.Core.Path.{_≡_, refl, sym, subst}
+-- A file with a crash, in number order and shuffled, whose settled state is computed and meets every hypothesis of `settling`; one with three
+-- crashes at one tick, likewise for `joining`; one in which a node leaves its emitter by report; and the S of document 01's edge. Assumes nothing.
+use mathlib.Core.Path.{_≡_, refl, sym, ap, subst}
 use mathlib.Core.Bool.{true}
 use mathlib.Core.List.{List, [], _∷_, map}
 use mathlib.Core.Option.{none, some}
 use Prim.Native.Nat.{ℕ, _<_}
 use native.Mathlib.Omega.{arith}
+use lib.ListN.{getD}
 use Rattle.ring.specs.Ring.{keep, numbers, among, eachOnce, listed, listing, unlisted, passing, round, place, ahead}
 use Rattle.ring.specs.Ring.{firstUnlisted, back, next, count, powers, jumps, targets}
 use Rattle.node.specs.declared.Node.{Node}
 use Rattle.node.specs.Node.{due, R, reports, opening, onHeartbeat, onObserver, onReport, onHeartbeatDue, onMessage, leaving}
 use Rattle.logline.specs.Line.{letterR, letterK}
 use Rattle.model.specs.Platform.{alive, survivors, start, crashEntries, messageEntries, timerEntry, timerEntries, pending, earlier, first, upTo}
-use Rattle.model.specs.Platform.{InFlight, State, message, messageAt}
+use Rattle.model.specs.Platform.{InFlight, State, message, messageAt, nextSurvivor}
 use Rattle.model.specs.Platform.{nextEvent, delayIn, delayOf, numbered, nodeOf, taken, without, received, apply, fits, tried, try, left, steps, after}
 use Rattle.plans.specs.Plan.{Crash, Plan, within, startRanges, longEnough, crashRange, risingFrom, rising, later, hits, noneTwice, crashOrder}
 use Rattle.plans.specs.Plan.{ringOrder, orderOf, ringTest, ringCount, ringRange, delayOrder, fewDelays, every, startTest, crashTest, delayTest, planTest}
+use Rattle.plans.specs.Plain.{Plain}
 use Rattle.model.specs.Range.{Accepted, NotBefore}
 use Rattle.model.specs.Lines.{line, otherOf, moves, messageDeed, deedOf, deedLines, eventLines}
-use Rattle.model.specs.Claims.{S, settledBy, Spaced, NoneLeftBefore, SettledAt}
+use Rattle.model.specs.Claims.{S, settledBy, Spaced, NoneLeftBefore, SettledAt, joinedBy, NoneLeftBy, JoinedAt}
 use Rattle.model.proofs.NextEvent.{Best, best}
-use Rattle.model.proofs.Theorems.{settling}
+use Rattle.model.proofs.RangesKept.{after-range}
+use Rattle.model.proofs.Theorems.{settling, joining}
 use Rattle.model.proofs.Plans.{plan-accepted}
 use Rattle.model.proofs.Search.{none-left-before}
 
@@ -92,6 +95,89 @@ pub four-settles : (j : ℕ) → j < 4
     × (alive (four shuffled) ((after (four shuffled) 200) .done) j ≡ true → SettledAt (four shuffled) (after (four shuffled) 200) j)
 four-settles j h =
     (settles [] _ (four-accepted .0) (four-ends .0) j h, settles shuffled _ (four-accepted .1) (four-ends .1) j h)
+
+-- ---- a file in which three neighbours crash at one tick: P,6,1,2,1,14 and C,1,1, C,1,2, C,1,3. With f = 3, c + 2 × W × f + D is
+-- 1 + 2 × 2 × 3 + 1 = 14, and all that is due by then is done
+
+-- with these numbers as its Q line, none where it has none
+unfoldable pub trip : List ℕ → Plan
+trip ring =
+    let at-one : ℕ → Crash = λ node. record { tick = 1; node = node } in
+    record { n = 6; h = 1; w = 2; d = 1; end = 14; ring = ring; crashes = at-one 1 ∷ at-one 2 ∷ at-one 3 ∷ []; delays = [] }
+
+-- nodes 1, 3 and 2 stand in a row, between 4 and 5
+abbrev mixed : List ℕ
+mixed = 0 ∷ 4 ∷ 1 ∷ 3 ∷ 2 ∷ 5 ∷ []
+
+-- emitter and observer of node k after some events
+unfoldable pub neighbours : List ℕ → ℕ → ℕ → List ℕ
+neighbours ring events k = let a : Node = nodeOf (after (trip ring) events) k in a .emitter ∷ a .observer ∷ []
+
+-- the survivors' neighbours after some events, at tick 11, when a crashed node is still among them, and after all
+pub record Rejoins (ring : List ℕ) (events : ℕ) (early late : List (List ℕ)) : Type 0 where
+  pub not-yet : map (neighbours ring events) (0 ∷ 4 ∷ 5 ∷ []) ≡ early
+  pub tick : (after (trip ring) events) .last ≡ 11
+  pub nodes : map (neighbours ring 200) (0 ∷ 4 ∷ 5 ∷ []) ≡ late
+  pub done : (after (trip ring) 200) .done ≡ 3
+  pub by : joinedBy (trip ring) 2 ≡ 14
+  pub end : nextEvent (trip ring) (after (trip ring) 200) ≡ none
+
+-- node 4, in the mixed ring node 5, has come to observe the survivor before it, whose observer is still a crashed node; then all three are
+-- neighbours in the ring 0, 4, 5
+pub trip-ends : Rejoins [] 81 ((5 ∷ 1 ∷ []) ∷ (0 ∷ 5 ∷ []) ∷ (4 ∷ 0 ∷ []) ∷ []) ((5 ∷ 4 ∷ []) ∷ (0 ∷ 5 ∷ []) ∷ (4 ∷ 0 ∷ []) ∷ [])
+    × Rejoins mixed 82 ((5 ∷ 4 ∷ []) ∷ (0 ∷ 1 ∷ []) ∷ (4 ∷ 0 ∷ []) ∷ []) ((5 ∷ 4 ∷ []) ∷ (0 ∷ 5 ∷ []) ∷ (4 ∷ 0 ∷ []) ∷ [])
+unfolding trip neighbours keep numbers listed listing unlisted passing round place ahead firstUnlisted back next count powers jumps targets reports opening
+    onHeartbeat onObserver onReport onHeartbeatDue leaving onMessage ringOrder orderOf hits among alive start crashEntries messageEntries
+    timerEntry timerEntries pending earlier first upTo nextEvent delayIn delayOf numbered taken without received apply fits tried try left
+    steps after joinedBy
+trip-ends = (
+  record { not-yet = refl; tick = refl; nodes = refl; done = refl; by = refl; end = refl },
+  record { not-yet = refl; tick = refl; nodes = refl; done = refl; by = refl; end = refl },
+)
+
+pub trip-accepted : Accepted (trip []) × Accepted (trip mixed)
+unfolding trip planTest startTest startRanges within longEnough ringTest ringCount ringRange crashTest every crashRange crashOrder rising
+    risingFrom later noneTwice eachOnce hits among delayTest delayOrder fewDelays
+trip-accepted = (plan-accepted (trip []) refl, plan-accepted (trip mixed) refl)
+
+-- the same by the theorem: its hypotheses are met
+module _ (ring : List ℕ) (events : ℕ) (early late : List (List ℕ)) (accepted : Accepted (trip ring)) (ends : Rejoins ring events early late) where
+  abbrev pt : Plan
+  pt = trip ring
+
+  none-by : NotBefore pt (after pt 200) 15 15 15
+  unfolding Best trip
+  none-by = subst (Best pt (accepted .plain) (after pt 200)) (ends .end) (best pt (accepted .plain) (after pt 200))
+
+  joins : (j : ℕ) → j < 6 → alive pt ((after pt 200) .done) j ≡ true → JoinedAt pt (after pt 200) j
+  unfolding trip NoneLeftBy
+  joins j h l =
+      let left = none-left-before pt (accepted .plain) (after pt 200) 15 none-by in
+      (joining pt accepted 200) .joined 2 (ends .done) (subst (NoneLeftBy pt (after pt 200)) (sym (ends .by)) left) j h l
+
+pub trip-joins : (j : ℕ) → j < 6
+    → (alive (trip []) ((after (trip []) 200) .done) j ≡ true → JoinedAt (trip []) (after (trip []) 200) j)
+    × (alive (trip mixed) ((after (trip mixed) 200) .done) j ≡ true → JoinedAt (trip mixed) (after (trip mixed) 200) j)
+trip-joins j h =
+    (joins [] _ _ _ (trip-accepted .0) (trip-ends .0) j h, joins mixed _ _ _ (trip-accepted .1) (trip-ends .1) j h)
+
+-- neither 2 × W × (f - 1) + D, which makes 10 here, nor W × f + D, which makes 8, would do: no event due by 10 is left after those 81, and
+-- node 0 still sends to node 1
+still-1 : (neighbours [] 81 0 ≡ 5 ∷ 1 ∷ []) × (nextSurvivor (trip []) ((after (trip []) 81) .done) 0 ≡ 4)
+unfolding trip neighbours keep numbers listed listing unlisted passing round place ahead firstUnlisted back next count powers jumps targets reports opening
+    onHeartbeat onObserver onReport onHeartbeatDue leaving onMessage ringOrder orderOf hits among alive nextSurvivor start crashEntries messageEntries
+    timerEntry timerEntries pending earlier first upTo nextEvent delayIn delayOf numbered taken without received apply fits tried try left
+    steps after
+still-1 = (refl, refl)
+
+pub too-soon : NoneLeftBy (trip []) (after (trip []) 81) 10 × (JoinedAt (trip []) (after (trip []) 81) 0 → ⊥)
+unfolding NoneLeftBy neighbours
+too-soon =
+    let pl : Plain (trip []) = trip-accepted .0 .plain in
+    let s : State = after (trip []) 81 in
+    let now : NotBefore (trip []) s 11 11 11 = subst (λ t. NotBefore (trip []) s t t t) (trip-ends .0 .tick) (after-range (trip []) pl 81 .past) in
+    let observer : (nodeOf s 0) .observer ≡ 1 = ap (λ (l : List ℕ). getD l 1 0) (still-1 .0) in
+    (none-left-before (trip []) pl s 11 now, λ joined. omega (arith, joined .observer, observer, still-1 .1))
 
 -- ---- a file in which a node leaves its emitter by report: P,9,3,10,7,47 with six crashes. Node 6 takes node 2 at tick 46, by its expired
 -- watch; the 167th event, at tick 47, is a report of node 2

@@ -1,6 +1,6 @@
 -- What demand 3 claims of one state, in the words of the customer's terms and of document 01's 'The platform': which nodes have crashed,
--- that no live node is listed, that every survivor is settled; and the ranges. proofs/Theorems.antt proves it of every state that a file
--- leads to. Assumes nothing.
+-- that no live node is listed, that every survivor is settled; what request 106 of document 02 claims of crashes close together; and the
+-- ranges. proofs/Theorems.antt proves it of every state that a file leads to. Assumes nothing.
 use mathlib.Core.Path.{_≡_}
 use mathlib.Core.Bool.{true, false}
 use mathlib.Core.List.{List, List·Memᴰ}
@@ -69,6 +69,27 @@ pub record SettledAt (p : Plan) (s : State) (j : ℕ) : Type 0 where
 pub record Settles (p : Plan) (s : State) : Type 0 where
   pub settled : (i : ℕ) → s .done ≡ suc i → Spaced p (suc i) → NoneLeftBefore p s (settledBy p i)
       → (j : ℕ) → j < p .n → alive p (s .done) j ≡ true → SettledAt p s j
+
+-- ---- request 106: 'many deaths close together', however close
+
+-- c + 2 × W × f + D, where C line i is the last one done: c is its tick, and f, 'nodes crashed in all', is i + 1
+unfoldable pub joinedBy : Plan → ℕ → ℕ
+joinedBy p i = (rowAt p i) .tick + 2 * p .w * suc i + p .d
+
+-- No event due by u is left, as from the end of tick u on.
+unfoldable pub NoneLeftBy : Plan → State → ℕ → Type 0
+NoneLeftBy p s u = NoneLeftBefore p s (suc u)
+
+-- node j's 'emitter and observer are the neighbouring survivors'
+pub record JoinedAt (p : Plan) (s : State) (j : ℕ) : Type 0 where
+  pub emitter : (nodeOf s j) .emitter ≡ survivorBefore p (s .done) j
+  pub observer : (nodeOf s j) .observer ≡ nextSurvivor p (s .done) j
+
+-- Where i + 1 crashes are done, whenever they came, and no event due by that tick is left, every survivor's emitter and observer are
+-- the neighbouring survivors.
+pub record Joins (p : Plan) (s : State) : Type 0 where
+  pub joined : (i : ℕ) → s .done ≡ suc i → NoneLeftBy p s (joinedBy p i)
+      → (j : ℕ) → j < p .n → alive p (s .done) j ≡ true → JoinedAt p s j
 
 -- ---- nothing that the rules lead to is out of range, whatever W
 

@@ -2,13 +2,15 @@
 -- a node are 1, 2 and so on steps back from it. Assumes nothing.
 use mathlib.Core.Path.{_≡_, sym, ap, _∙_}
 use mathlib.Core.Logic.{_⊎_, inl, inr, _≢_, ite, if-pos, if-neg}
-use mathlib.Core.List.{List, reverse}
+use mathlib.Core.Bool.{true}
+use mathlib.Core.List.{List, map, reverse}
 use Prim.Native.Nat.{ℕ, suc, _+_, _-_, _≤_, _<_}
 use native.Mathlib.Omega.{arith}
 use native.Mathlib.Decide.{decLt}
-use lib.ListN.{length, getD}
-use Rattle.ring.specs.Ring.{place, round, InOrder}
+use lib.ListN.{length, getD, length-map}
+use Rattle.ring.specs.Ring.{among, place, round, InOrder}
 use Rattle.ring.proofs.Laws.{length-round, round-near, round-far}
+use Rattle.ring.proofs.Once.{all-many, among-map}
 use Rattle.ring.proofs.Unlisted.{getD-reverse}
 
 module _ (n : ℕ) where
@@ -181,3 +183,13 @@ module _ (n : ℕ) {order : List ℕ} (o : InOrder n order) where
       here : gap j (getD order q 0) ≡ suc i
       here =
           steps-one n (place order j) q (o .placed j jN) qN _ _ (rw (o .once q qN) at (gap-steps j (getD order q 0) jN (o .below q qN))) (w .3)
+
+  -- nodes among which all are that stand up to g steps back from j are at least g
+  pub back-many : (xs : List ℕ) (j g : ℕ) → j < n → g ≤ n → ((k : ℕ) → gap j k ≤ g → among xs k ≡ true) → g ≤ length xs
+  back-many xs j g jN gN all = rw length-map at (all-many g (map (λ k. gap j k - 1) xs) at-step)
+    where
+      at-step : (i : ℕ) → i < g → among (map (λ k. gap j k - 1) xs) i ≡ true
+      at-step i h =
+          let k : ℕ = getD (reverse (round order (place order j))) i 0 in
+          let there : gap j k ≡ suc i = gap-back j i jN (omega arith) in
+          among-map (λ k. gap j k - 1) xs k i (omega arith) (all k (omega arith))

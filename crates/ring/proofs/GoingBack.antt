@@ -26,7 +26,7 @@ pub iter-add : (f : ℕ → ℕ) (a b y : ℕ) → iter f (a + b) y ≡ iter f b
 iter-add f zero b y = rw zero-add
 iter-add f (suc a) b y = rw suc-add (iter-add f a b (f y))
 
-iter-out : (f : ℕ → ℕ) (d y : ℕ) → iter f (suc d) y ≡ f (iter f d y)
+pub iter-out : (f : ℕ → ℕ) (d y : ℕ) → iter f (suc d) y ≡ f (iter f d y)
 iter-out f zero y = refl
 iter-out f (suc d) y = iter-out f d (f y)
 

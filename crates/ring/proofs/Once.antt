@@ -1,9 +1,9 @@
--- Numbers of which none stands twice: below n there are at most n, and n of them are an order of the ring; the same numbers as a dead
--- list. Assumes nothing.
+-- Numbers of which none stands twice: below n there are at most n, and n of them are an order of the ring; numbers among which all below n are;
+-- the same numbers as a dead list. Assumes nothing.
 use mathlib.Core.Path.{_≡_, refl, sym, ap, _∙_}
 use mathlib.Core.Logic.{_≢_}
-use mathlib.Core.Bool.{Bool, true, false, cond, not, _&&_, _||_, or-false, or-assoc, true≢false, and-eq-true-iff}
-use mathlib.Core.List.{List, [], _∷_, _++_}
+use mathlib.Core.Bool.{Bool, true, false, cond, not, _&&_, _||_, or-false, or-true, or-assoc, true≢false, and-eq-true-iff}
+use mathlib.Core.List.{List, [], _∷_, _++_, map}
 use Prim.Native.Nat.{ℕ, zero, suc, _≤_, _<_, _^_, zero-le}
 use native.Mathlib.Omega.{arith}
 use native.Mathlib.Decide.{ℕ-discrete}
@@ -12,6 +12,7 @@ use lib.Dec.{eqb}
 use lib.ListN.{length, getD}
 use Rattle.ring.specs.Ring.{keep, among, eachOnce, listed, listing, listingAll, place, InOrder}
 use Rattle.ring.proofs.Lists.{listed-listing, listing-lt, listed-none}
+use Rattle.ring.proofs.Counts.{length-keep}
 use Rattle.ring.proofs.Orders.{Kept, kept-at}
 
 -- the parts of `eachOnce`, of a first number and others
@@ -206,6 +207,49 @@ once-in-order n xs size below h =
       has = λ k l. at k l .there;
       once = λ q l. once-place xs h q (omega arith);
     }
+
+-- ---- where all below n are among them, they are at least n
+
+-- without k there are fewer
+others-fewer : (k : ℕ) (xs : List ℕ) → among xs k ≡ true → length (keep (other k) xs) < length xs
+unfolding keep among
+others-fewer k [] h = absurd (true≢false (sym h))
+others-fewer k (x ∷ xs) h = by (eqb x k) h (others-fewer k xs)
+  where
+    by : (t : Bool) → (t || among xs k) ≡ true → (among xs k ≡ true → length (keep (other k) xs) < length xs)
+        → length (cond (not t) (x ∷ keep (other k) xs) (keep (other k) xs)) < suc (length xs)
+    by true h ih = omega (arith, length-keep (other k) xs)
+    by false h ih = omega (arith, ih h)
+
+-- and every other number is still there
+others-have : (k m : ℕ) (xs : List ℕ) → m ≢ k → among xs m ≡ true → among (keep (other k) xs) m ≡ true
+unfolding keep among
+others-have k m [] ne h = h
+others-have k m (x ∷ xs) ne h = by (eqb x k) refl (eqb x m) refl h (others-have k m xs ne)
+  where
+    by : (a : Bool) → eqb x k ≡ a → (b : Bool) → eqb x m ≡ b → (b || among xs m) ≡ true → (among xs m ≡ true → among (keep (other k) xs) m ≡ true)
+        → among (cond (not a) (x ∷ keep (other k) xs) (keep (other k) xs)) m ≡ true
+    by true p true q h ih = absurd (ne (sym (eqb-true x m q) ∙ eqb-true x k p))
+    by true p false q h ih = ih h
+    by false p true q h ih = rw q
+    by false p false q h ih = rw q (ih h)
+
+pub all-many : (n : ℕ) (xs : List ℕ) → ((k : ℕ) → k < n → among xs k ≡ true) → n ≤ length xs
+all-many zero xs h = zero-le
+all-many (suc n) xs h =
+    let rest = all-many n (keep (other n) xs) (λ k l. others-have n k xs (λ e. omega arith) (h k (omega arith))) in
+    omega (arith, rest, others-fewer n xs (h n (omega arith)))
+
+-- what is among them is, by its value, among their values
+pub among-map : (f : ℕ → ℕ) (xs : List ℕ) (k i : ℕ) → f k ≡ i → among xs k ≡ true → among (map f xs) i ≡ true
+unfolding among
+among-map f [] k i e h = h
+among-map f (x ∷ xs) k i e h = by (eqb x k) refl h (among-map f xs k i e)
+  where
+    by : (t : Bool) → eqb x k ≡ t → (t || among xs k) ≡ true → (among xs k ≡ true → among (map f xs) i ≡ true)
+        → (eqb (f x) i || among (map f xs) i) ≡ true
+    by true q h ih = rw (eq-eqb (f x) i (ap f (eqb-true x k q) ∙ e))
+    by false q h ih = rw (ih h) (or-true (eqb (f x) i))
 
 -- ---- as a dead list
 
