@@ -1,4 +1,5 @@
-//! Demand 3's words: no live node is listed; S; crashes that are spaced; the settled ring.
+//! Demand 3's words: no live node is listed; S; crashes that are spaced; the settled ring. And request 106's, for crashes however close:
+//! the tick from whose end on the survivors are joined; the joined ring, of whose lists nothing is said.
 
 use super::node::{crashed, Node};
 use super::plan::Plan;
@@ -44,19 +45,184 @@ pub fn settling_time_passed(platform: &mut Platform) -> bool {
     platform.earliest_due().is_none_or(|due| u64::from(due) >= settled)
 }
 
-/// "every survivor lists exactly the crashed nodes, emits to the next survivor and observes the one
-/// before; a lone survivor is both to itself". Who these are goes by the ring's order.
-pub fn settled(ring: &Ring, nodes: &[Node]) -> bool {
+/// "every survivor's emitter and observer are the neighbouring survivors": it emits to the next survivor and observes the one
+/// before; "a lone survivor is both to itself". Who these are goes by the ring's order.
+pub fn joined(ring: &Ring, nodes: &[Node]) -> bool {
     let crashed = crashed(nodes);
     nodes.iter().filter(|node| node.alive).all(|node| {
-        node.dead_list == crashed
-            && node.observer == ring.first_unlisted_ahead(crashed, node.number)
+        node.observer == ring.first_unlisted_ahead(crashed, node.number)
             && node.emitter == ring.first_unlisted_back(crashed, node.number).node
     })
+}
+
+/// "every survivor lists exactly the crashed nodes, emits to the next survivor and observes the one
+/// before".
+pub fn settled(ring: &Ring, nodes: &[Node]) -> bool {
+    let crashed = crashed(nodes);
+    nodes.iter().all(|node| !node.alive || node.dead_list == crashed) && joined(ring, nodes)
 }
 
 /// What demand 3 claims of the platform as it stands.
 pub fn demand_3(platform: &mut Platform) -> bool {
     let owed = crashes_spaced(platform) && settling_time_passed(platform);
     no_live_node_listed(platform.nodes()) && (!owed || settled(platform.ring(), platform.nodes()))
+}
+
+/// 2 × W × f + D, in ticks, after the last of f crashes.
+pub fn joining_time(timeout: u32, delay: u32, crashes: usize) -> u64 {
+    2 * u64::from(timeout) * crashes as u64 + u64::from(delay)
+}
+
+/// The tick of the last crash done; nothing where none is.
+pub fn last_crash(platform: &Platform) -> Option<u32> {
+    let row = platform.crashes_done().checked_sub(1)?;
+    Some(platform.plan().crashes[row].tick)
+}
+
+/// c + 2 × W × f + D, c being the tick of the last crash done and f the number of crashes done; nothing where none is.
+pub fn joining_tick(platform: &Platform) -> Option<u64> {
+    let Plan { timeout, delay, .. } = platform.plan();
+    Some(u64::from(last_crash(platform)?) + joining_time(*timeout, *delay, platform.crashes_done()))
+}
+
+/// "no event due by c + 2 × W × f + D is left, those beyond the end tick counted. A refused event is one that is left", and so is a
+/// crash still planned. False where no crash is done. It goes by what is left alone, so that between two events nothing changes.
+pub fn joining_tick_passed(platform: &mut Platform) -> bool {
+    let Some(tick) = joining_tick(platform) else { return false };
+    platform.earliest_due().is_none_or(|due| u64::from(due) > tick)
+}
+
+/// What request 106 claims of the platform as it stands.
+pub fn request_106(platform: &mut Platform) -> bool {
+    !joining_tick_passed(platform) || joined(platform.ring(), platform.nodes())
+}
+
+#[cfg(test)]
+mod tests {
+    use super::super::plan;
+    use super::*;
+
+    /// The platform after so many events of the file, or after all that there are.
+    fn after(events: u64, file: &str) -> Platform {
+        let mut platform = Platform::open(plan::read(file.as_bytes()).expect("the file is accepted"));
+        platform.run(events);
+        platform
+    }
+
+    /// The platform after all events up to this end tick, two neighbours of five having crashed at tick 2: H 1, W 3, D 2, every delay 2.
+    ///
+    /// - Each node sends at tick 1, and these heartbeats arrive at tick 3: the watch of 3 is due at 6, on 2. It moves to 1, which is dead
+    ///   too, and expires on it at 12. Its O comes to 0 at tick 14, and the survivors 0, 3 and 4 are joined.
+    /// - The tick of request 106 is 2 + 2 × 3 × 2 + 2 = 16.
+    fn up_to(end: u32) -> Platform {
+        after(u64::MAX, &format!("P,5,1,3,2,{end}\nC,2,1\nC,2,2\n"))
+    }
+
+    /// Whether the claim is owed, whether the survivors are joined, and whether the claim holds.
+    fn told(mut platform: Platform) -> (bool, bool, bool) {
+        let joined = joined(platform.ring(), platform.nodes());
+        (joining_tick_passed(&mut platform), joined, request_106(&mut platform))
+    }
+
+    /// The claim is owed or not, the survivors are joined or not, and the claim holds.
+    fn holding((owed, joined): (bool, bool)) -> (bool, bool, bool) {
+        (owed, joined, true)
+    }
+
+    /// Before the first crash, which is the sixth event, after it, and after the second.
+    #[test]
+    fn the_tick_goes_by_the_crashes_done() {
+        let at = |events| joining_tick(&after(events, "P,5,1,3,2,16\nC,2,1\nC,2,2\n"));
+        assert_eq!([5, 6, 7, 112].map(at), [None, Some(2 + 6 + 2), Some(2 + 12 + 2), Some(16)]);
+        assert_eq!(joining_tick(&after(u64::MAX, "P,48,100,120,20,40\nC,7,3\nC,40,4\n")), Some(40 + 2 * 120 * 2 + 20));
+        assert_eq!(joining_time(65_535, 255, 64), 8_388_735);
+    }
+
+    /// The ring opens joined, and nothing is claimed of it.
+    #[test]
+    fn no_claim_of_joining_before_a_crash() {
+        assert_eq!(told(after(0, "P,3,3,4,1,8\nC,0,1\n")), (false, true, true));
+        assert_eq!(told(after(u64::MAX, "P,1,3,4,1,8\n")), (false, true, true));
+    }
+
+    /// Each tick has events, so that the claim is owed once those of tick 16 are done, and not one tick before.
+    #[test]
+    fn survivors_are_joined_from_the_end_of_the_tick_on() {
+        let told_at = |end| told(up_to(end));
+        assert_eq!([2, 13, 14, 15, 16].map(told_at), [(false, false), (false, false), (false, true), (false, true), (true, true)].map(holding));
+        let last = after(111, "P,5,1,3,2,16\nC,2,1\nC,2,2\n");
+        assert_eq!((last.last_tick(), told(last)), (16, (false, true, true)));
+    }
+
+    /// One survivor that observes the dead node 2, or sends to it: the survivors are not joined, and the claim, which is owed, is false.
+    #[test]
+    fn one_wrong_neighbour_breaks_the_claim() {
+        let stands = up_to(16);
+        let neighbours = |node: &Node| (node.number, node.emitter, node.observer);
+        let live: Vec<(u8, u8, u8)> = stands.nodes().iter().filter(|node| node.alive).map(neighbours).collect();
+        assert_eq!(live, [(0, 4, 3), (3, 0, 4), (4, 3, 0)]);
+        for (node, observes) in [(0, true), (0, false), (3, true), (3, false), (4, true), (4, false)] {
+            let mut nodes = stands.nodes().to_vec();
+            let changed = if observes { &mut nodes[node].emitter } else { &mut nodes[node].observer };
+            *changed = 2;
+            let wrong = Platform::resume(stands.plan().clone(), nodes, stands.messages(), stands.next_number(), 2, 16);
+            assert_eq!(told(wrong), (true, false, false), "node {node}");
+        }
+    }
+
+    /// H 5, W 6, D 1, and node 0 crashes at tick 1: the tick is 1 + 12 + 1 = 14. Node 1 expires on 0 at tick 6, and 2 gets its O at 7. So
+    /// node 1 sends at 5, 10 and 15, node 2 at 7, 12 and 17. What arrives at 13 is still left where the end tick is 12; where it is 13
+    /// nothing due by 14 is left.
+    #[test]
+    fn what_is_left_counts_beyond_the_end_tick() {
+        let up_to = |end| told(after(u64::MAX, &format!("P,3,5,6,1,{end}\nC,1,0\n")));
+        assert_eq!([6, 7, 12, 13, 14].map(up_to), [(false, false), (false, true), (false, true), (true, true), (true, true)].map(holding));
+    }
+
+    /// The worked log of 01: node 0 is alone from tick 6 on, its last event, and nothing is left. The tick is 3 + 6 + 1 = 10, so that a crash
+    /// of node 0 planned for tick 10 is an event that is left, and one for tick 11 is not.
+    #[test]
+    fn a_lone_survivor_is_both_neighbours_to_itself() {
+        assert_eq!(told(after(7, "P,2,2,3,1,6\nC,3,1\n")), (false, false, true));
+        assert_eq!(told(after(8, "P,2,2,3,1,6\nC,3,1\n")), (true, true, true));
+        assert_eq!(told(after(8, "P,2,2,3,1,20\nC,3,1\nC,10,0\n")), (false, true, true));
+        assert_eq!(told(after(8, "P,2,2,3,1,20\nC,3,1\nC,11,0\n")), (true, true, true));
+        assert_eq!(told(after(1, "P,1,2,3,1,6\nC,3,0\n")), (true, true, true));
+    }
+
+    /// All crash at tick 3, while the heartbeats of tick 2 are in flight; these are dropped at 3. The next crash ends what is owed.
+    #[test]
+    fn no_survivor_is_left_unjoined() {
+        assert_eq!(told(after(5, "P,2,2,3,1,6\nC,3,0\nC,3,1\n")), (false, true, true));
+        assert_eq!(told(after(6, "P,2,2,3,1,6\nC,3,0\nC,3,1\n")), (true, true, true));
+        let file = "P,5,1,3,2,30\nC,2,1\nC,2,2\nC,20,3\n";
+        let third = after(u64::MAX, "P,5,1,3,2,19\nC,2,1\nC,2,2\n").events_done() + 1;
+        assert_eq!(told(after(third - 1, file)), (true, true, true));
+        assert_eq!((told(after(third, file)), joining_tick(&after(third, file))), ((false, false, true), Some(20 + 18 + 2)));
+    }
+
+    /// The event that is refused is left, and so is everything after it: nothing is owed of a run that stops there.
+    #[test]
+    fn a_refused_event_is_left() {
+        let mut platform = after(u64::MAX, "P,64,1,34,33,200\nC,0,5\n");
+        let refused = platform.earliest_due().expect("it stopped before an event");
+        assert!(platform.last_tick() <= refused && u64::from(refused) < joining_tick(&platform).expect("a crash is done"));
+        assert_eq!(told(platform), (false, false, true));
+    }
+
+    /// A list that stays short does not keep the survivors from being joined, but from being settled.
+    #[test]
+    fn nothing_is_said_of_lists() {
+        let platform = after(u64::MAX, "P,5,3,5,2,92\nC,4,1\nC,5,3\nC,5,4\n");
+        assert!(!settled(platform.ring(), platform.nodes()));
+        assert_eq!(told(platform), (true, true, true));
+    }
+
+    /// The neighbours are those in the ring's order: in number order those of the same nodes are others.
+    #[test]
+    fn neighbours_go_by_the_order_of_the_ring() {
+        let platform = after(u64::MAX, "P,8,2,3,1,60\nQ,0,4,2,6,1,5,3,7\nC,5,1\nC,5,6\n");
+        assert!(!joined(&Ring::of(8), platform.nodes()));
+        assert_eq!(told(platform), (true, true, true));
+    }
 }
