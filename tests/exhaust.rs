@@ -1,4 +1,4 @@
-//! Demand 3 over all runs of small rings, by the simulator's search: every delay of every message, every crash at every tick.
+//! Demand 3 and request 106 over all runs of small rings, by the simulator's search: every delay of every message, every crash at every tick.
 //! Nothing may be found with W = H + D or more; with W = H + D − 1, and by wrong rules, something has to be. At each move the number passed
 //! has to be the count of the listed nodes from the one left back to the new emitter. Most rings are in the order of their numbers, some in
 //! another. There too a tick goes by number, so that what it does is not what it does to the nodes renamed.
@@ -11,6 +11,7 @@
 //!                                     found, as a run file
 
 use simulator::exhaust::{Finding, Found, Outcome, Rules, Search};
+use simulator::plan::Plan;
 use simulator::platform::{Platform, Step};
 use simulator::settle;
 use std::process::ExitCode;
@@ -79,7 +80,7 @@ const REPORTED: [(u8, &[u8], u32, u32, &[u8]); 6] = [
 ];
 
 /// Searches by a wrong rule, and what has to be found.
-const WRONG: [(Rules, (u8, u32, u32, u32), Finding); 8] = [
+const WRONG: [(Rules, (u8, u32, u32, u32), Finding); 12] = [
     (Rules::ShortWatch, (3, 1, 3, 2), Finding::LiveNodeListed),
     (Rules::TimersFirst, (2, 1, 2, 1), Finding::LiveNodeListed),
     (Rules::TimersFirst, (4, 2, 4, 2), Finding::LiveNodeListed),
@@ -88,6 +89,22 @@ const WRONG: [(Rules, (u8, u32, u32, u32), Finding); 8] = [
     (Rules::LeftNotCounted, (2, 1, 2, 1), Finding::Miscounted),
     (Rules::AllCounted, (3, 1, 3, 2), Finding::Miscounted),
     (Rules::AllCounted, (5, 1, 2, 1), Finding::Miscounted),
+    (Rules::LongWatch, (4, 1, 2, 1), Finding::Unjoined),
+    (Rules::LongWatch, (6, 2, 3, 1), Finding::Unjoined),
+    (Rules::LateWatch, (3, 1, 3, 2), Finding::Unjoined),
+    (Rules::LateWatch, (5, 3, 4, 1), Finding::Unjoined),
+];
+
+/// Claims shorter than request 106's, and N, H, W and D of the searches in which they are found wrong.
+const SHORTER: [(Rules, (u8, u32, u32, u32)); 8] = [
+    (Rules::ShortJoining, (2, 1, 2, 1)),
+    (Rules::ShortJoining, (3, 3, 5, 2)),
+    (Rules::ShortJoining, (6, 1, 2, 1)),
+    (Rules::SingleJoining, (3, 1, 2, 1)),
+    (Rules::SingleJoining, (3, 1, 4, 2)),
+    (Rules::SingleJoining, (4, 2, 3, 1)),
+    (Rules::SingleJoining, (5, 3, 4, 1)),
+    (Rules::SingleJoining, (7, 1, 2, 1)),
 ];
 
 fn search((nodes, period, timeout, delay): (u8, u32, u32, u32)) -> Search {
@@ -125,8 +142,16 @@ fn searched(search: &Search) -> Outcome {
     let numbers = format!("{nodes:>2} {period:>2} {timeout:>2} {delay:>2}");
     let most = most_passed(&outcome);
     let counts = format!("{states:>8} {events:>9} {moves_by_report:>6} {most:>6} {runs:>8} {closed:>6}");
-    println!("{rules:<14} {numbers} {order:<17} {mortal:<11} {counts}  {found}");
+    let late = late_by_crashes(search, &outcome);
+    println!("{}", format!("{rules:<14} {numbers} {order:<17} {mortal:<11} {counts}  {found}  {late}").trim_end());
     outcome
+}
+
+/// For one crash done, for two and so on, how late survivors are not joined beside 2 × W × f + D; `-` where they always are.
+fn late_by_crashes(search: &Search, outcome: &Outcome) -> String {
+    let last = outcome.late.iter().rposition(Option::is_some).unwrap_or(0);
+    let one = |crashes: usize| outcome.late[crashes].map_or("-".to_string(), |late| format!("{late}/{}", search.joining_time(crashes)));
+    (1..=last).map(one).collect::<Vec<_>>().join(" ")
 }
 
 /// The greatest number passed at a move.
@@ -135,14 +160,19 @@ fn most_passed(outcome: &Outcome) -> usize {
 }
 
 fn heading(what: &str) {
-    println!("\n{what}\nrules           N  H  W  D order             crash         states    events  moves passed     runs closed  found");
+    println!("\n{what}\nrules           N  H  W  D order             crash         states    events  moves passed     runs closed  found    late");
 }
 
-/// Nothing is found, whatever the end tick. Where all nodes may crash, there are moves that pass one node, two and so on to all others.
+/// Nothing is found, whatever the end tick. Survivors of any number of crashes are late to be joined, if only by some ticks. Where all nodes
+/// may crash, there are moves that pass one node, two and so on to all others.
 fn kept(search: &Search) -> Result<Outcome, String> {
     let outcome = searched(search);
     if outcome.found.is_some() || outcome.closed.is_none() {
         return Err(format!("something is found, or may be later, in {search:?}"));
+    }
+    let mortal = (0..search.nodes).filter(|node| search.mortal >> node & 1 == 1).count();
+    if outcome.late[1..=mortal.min(usize::from(search.nodes) - 1)].contains(&None) {
+        return Err(format!("survivors are always joined in {search:?}: {:?}", outcome.late));
     }
     if search.mortal == u64::MAX && outcome.passed[1..usize::from(search.nodes)].contains(&0) {
         return Err(format!("no move passes so many nodes in {search:?}: {:?}", outcome.passed));
@@ -166,6 +196,24 @@ fn listed(search: &Search) -> Result<(), String> {
     match searched(search).found {
         Some(found) if found.finding == Finding::LiveNodeListed && lists_a_live_node(&found) => Ok(()),
         _ => Err(format!("no live node is listed in {search:?}")),
+    }
+}
+
+/// By the run that was found, done by the platform's events to the end of that tick, nothing is left that is due by the tick that the search
+/// claims, and the survivors are not joined.
+fn leaves_unjoined(search: &Search, found: &Found) -> bool {
+    let mut platform = Platform::open(Plan { end: found.tick, ..found.plan.clone() });
+    platform.run(u64::MAX);
+    let Some(crash) = settle::last_crash(&platform) else { return false };
+    let claimed = crash + search.joining_time(platform.crashes_done());
+    platform.earliest_due().is_none_or(|due| due > claimed) && !settle::joined(platform.ring(), platform.nodes())
+}
+
+/// Survivors are not joined where the claim is shorter than request 106's.
+fn unjoined(search: &Search) -> Result<(), String> {
+    match searched(search).found {
+        Some(found) if found.finding == Finding::Unjoined && leaves_unjoined(search, &found) => Ok(()),
+        _ => Err(format!("survivors are joined in {search:?}")),
     }
 }
 
@@ -205,9 +253,14 @@ fn table() -> Result<(), String> {
             return Err(format!("no report moves a node, or no move passes more than one, in {:?}", reported(numbers)));
         }
     }
-    heading("Wrong rules: W for 2 x W after moving, timers before deliveries, S shorter by 2 x D; passed without the one left, or all listed:");
+    heading("Wrong rules: W for 2 x W after moving, timers before deliveries, S shorter by 2 x D; passed without the one left, or all listed;\n\
+        3 x W after moving, or no watch until the new emitter is heard:");
     for (rules, numbers, finding) in WRONG {
         finds(&Search { rules, ..search(numbers) }, finding)?;
+    }
+    heading("Claims shorter than 2 x W x f + D: with f - 1 for f, and with W for 2 x W:");
+    for (rules, numbers) in SHORTER {
+        unjoined(&Search { rules, ..search(numbers) })?;
     }
     heading("W for 2 x W after a move by report:");
     for numbers in &REPORTED[..3] {
@@ -245,7 +298,9 @@ fn main() -> ExitCode {
     let began = Instant::now();
     println!("exhaust: states at the start of a tick; all runs up to the end tick, {END} in the table, {LATE_END} in larger rings;");
     println!("exhaust: moves are the reports that move a node, passed is the greatest number of nodes passed at a move;");
-    println!("exhaust: closed is the tick after which no new state comes up, so that the answer holds for every end tick");
+    println!("exhaust: closed is the tick after which no new state comes up, so that the answer holds for every end tick;");
+    println!("exhaust: late is, for one crash done, for two and so on, the most ticks after the last one at whose end survivors are not joined,");
+    println!("exhaust: beside 2 x W x f + D, from which on they are");
     let done = match words {
         Ok(words) if words.is_empty() => table(),
         Ok(words) => one(&words),

@@ -1,11 +1,15 @@
 //! All runs of a small ring, in number order or another: every delay from 1 to D of every message, every crash at
-//! every tick, up to an end tick. It asks demand 3's words of the state after each event, and at each move that the number passed
-//! is right. For a larger ring the choices may be fewer: longer delays alone, and crashes of some nodes alone.
+//! every tick, up to an end tick. It asks demand 3's words of the state after each event, and request 106's, and at each move that the
+//! number passed is right. For a larger ring the choices may be fewer: longer delays alone, and crashes of some nodes alone.
 //!
 //! The search goes from tick to tick. Ticks are counted from the state's own, and what can no longer matter
 //! is left out, so that states which go on alike are one and are met once; where no new state comes up, the
 //! answer holds for every end tick. A run in which something is found comes back as a plan.
+//!
+//! What request 106 claims goes by the ticks since the last crash, which a state leaves out where crashes are close. So it is asked when
+//! all states are met, of each with the most ticks that can have passed (`ages`).
 
+use super::ages::Graph;
 use super::node::{self, Content, Effect, Node, Sends, Settings, Timer};
 use super::plan::{Crash, Delay, Plan};
 use super::ring;
@@ -28,6 +32,14 @@ pub enum Rules {
     LeftNotCounted,
     /// The number passed as all nodes that are listed.
     AllCounted,
+    /// 3 × W for 2 × W after moving.
+    LongWatch,
+    /// The watch is off after moving until the first heartbeat of the new emitter.
+    LateWatch,
+    /// Not a rule but a claim: request 106 with the last crash not counted, 2 × W × (f − 1) + D.
+    ShortJoining,
+    /// The same with W for 2 × W: W × f + D.
+    SingleJoining,
 }
 
 /// What is searched: N, the ring's order, H, W, D, the end tick and the rules. W may be below H + D.
@@ -55,7 +67,13 @@ pub enum Finding {
     Unsettled,
     /// The number passed at a move is not the count of the listed nodes from the one left back to the new emitter.
     Miscounted,
+    /// No event due up to 2 × W × f + D ticks after the last of f crashes is left, but the survivors are not joined.
+    Unjoined,
 }
+
+/// For each number of crashes done the most ticks after the last of them at whose end the survivors are not joined; nothing where
+/// they are at the end of every tick.
+pub type Late = [Option<u32>; 17];
 
 /// What is found, at which tick, and a run that leads to it.
 #[derive(Clone, PartialEq, Eq, Debug)]
@@ -78,6 +96,8 @@ pub struct Outcome {
     pub runs: f64,
     /// The ticks after which no new state came up; nothing where the end tick came first.
     pub closed: Option<u32>,
+    /// Where nothing is found.
+    pub late: Late,
     pub found: Option<Found>,
 }
 
@@ -134,6 +154,10 @@ impl State {
         } else {
             self.idle |= 1 << flight.due;
         }
+    }
+
+    fn crashes_done(&self) -> usize {
+        self.nodes.iter().filter(|node| !node.alive).count()
     }
 
     /// The next timer due at this tick, "by node, watch before heartbeat".
@@ -215,9 +239,19 @@ impl Search {
         }
     }
 
-    /// Searches to the end tick, or until something is found.
+    /// 2 × W × f + D after the last of f crashes.
+    pub fn joining_time(&self, crashes: usize) -> u32 {
+        let time = settle::joining_time(self.timeout, self.delay, crashes) as u32;
+        match self.rules {
+            Rules::ShortJoining => time - 2 * self.timeout,
+            Rules::SingleJoining => time - self.timeout * crashes as u32,
+            _ => time,
+        }
+    }
+
+    /// Searches to the end tick, or until something is found. Request 106 is asked at the end.
     pub fn explore(&self) -> Outcome {
-        assert!(self.nodes <= 16 && 2 * self.timeout < 250 && self.delay < 8, "the search is for small rings");
+        assert!(self.nodes <= 16 && 3 * self.timeout < 250 && self.delay < 8, "the search is for small rings");
         let mut tree = Tree::new(self);
         let mut layer = vec![0];
         let mut closed = None;
@@ -225,7 +259,7 @@ impl Search {
             let before = tree.states.len();
             for id in layer {
                 if let Some(finding) = tree.expand(id) {
-                    return tree.outcome(Some(tree.found(finding, id, tick)), None);
+                    return Outcome { found: Some(tree.found(finding, id, tick)), ..tree.outcome() };
                 }
             }
             layer = (before..tree.states.len()).collect();
@@ -234,7 +268,11 @@ impl Search {
                 break;
             }
         }
-        tree.outcome(None, closed)
+        let (outcome, ages) = (Outcome { closed, ..tree.outcome() }, tree.graph().ages());
+        match tree.breach(&ages) {
+            Some(breach) => Outcome { found: Some(tree.found_unjoined(&ages, breach)), ..outcome },
+            None => Outcome { runs: tree.runs(), late: tree.late(&ages), ..outcome },
+        }
     }
 }
 
@@ -243,6 +281,25 @@ impl Search {
 struct Choice {
     crashed: Vec<u8>,
     delays: Vec<u8>,
+}
+
+/// What is looked for where a state is gone on from once more, for the choice that leads to it.
+#[derive(Clone, Copy, PartialEq, Eq, Debug)]
+enum Sought {
+    Nothing,
+    /// This state one tick later.
+    State(usize),
+    /// An event that parts joined survivors.
+    Parting,
+}
+
+/// A state that breaks request 106 where the last crash is so many ticks ago or more.
+#[derive(Clone, Copy, PartialEq, Eq, Debug)]
+struct Breach {
+    id: usize,
+    age: u32,
+    /// Whether survivors that are joined when its tick starts are parted by an event of it. Else they are not joined at the start.
+    parting: bool,
 }
 
 /// The states met so far, each with the state and the choice that first led to it.
@@ -254,6 +311,8 @@ struct Tree<'search> {
     led_by: Vec<(usize, Choice)>,
     /// For each state that was gone on from, the states one tick later and in how many ways each is led to.
     ways: Vec<Vec<(usize, u32)>>,
+    /// For each of these, whether an event of a tick without a crash parts its joined survivors.
+    parted: Vec<bool>,
     events: u64,
     moves_by_report: u64,
     passed: [u64; 17],
@@ -261,6 +320,10 @@ struct Tree<'search> {
     chosen: Choice,
     leads: Vec<usize>,
     from: usize,
+    /// Whether a crash is done before it and its survivors are joined; whether an event of it parts them; what is looked for.
+    intact: bool,
+    parting: bool,
+    sought: Sought,
     key: Vec<u8>,
 }
 
@@ -273,12 +336,16 @@ impl<'search> Tree<'search> {
             states: Vec::new(),
             led_by: Vec::new(),
             ways: Vec::new(),
+            parted: Vec::new(),
             events: 0,
             moves_by_report: 0,
             passed: [0; 17],
             chosen: Choice::default(),
             leads: Vec::new(),
             from: 0,
+            intact: false,
+            parting: false,
+            sought: Sought::Nothing,
             key: Vec::new(),
         };
         tree.meet(State::open(&tree.settings));
@@ -300,14 +367,27 @@ impl<'search> Tree<'search> {
 
     /// Goes on from a state by one tick, in every way; states are gone on from in the order of their ids.
     fn expand(&mut self, id: usize) -> Option<Finding> {
-        self.from = id;
-        self.leads.clear();
-        self.chosen = Choice::default();
-        let finding = self.crash_from(self.states[id].clone(), 0);
+        let finding = self.go_on_from(id);
         self.leads.sort_unstable();
         let ways = self.leads.chunk_by(|one, other| one == other).map(|led| (led[0], led.len() as u32));
         self.ways.push(ways.collect());
+        self.parted.push(self.parting);
         finding
+    }
+
+    /// The same, possibly once more.
+    fn go_on_from(&mut self, id: usize) -> Option<Finding> {
+        let state = self.states[id].clone();
+        self.from = id;
+        self.leads.clear();
+        self.chosen = Choice::default();
+        self.intact = state.crashes_done() > 0 && self.joined(&state);
+        self.parting = false;
+        self.crash_from(state, 0)
+    }
+
+    fn joined(&self, state: &State) -> bool {
+        settle::joined(&self.settings.ring, &state.nodes)
     }
 
     /// Crashes of this tick, by node: each live node from `number` on crashes or does not.
@@ -382,10 +462,20 @@ impl<'search> Tree<'search> {
             Timer::Watch => node.expire_watch(&self.settings, 0),
             Timer::Heartbeat => node.send_heartbeat(&self.settings, 0),
         };
-        if self.search.rules == Rules::ShortWatch && timer == Timer::Watch {
-            node.watch = node.watch.map(|_| self.settings.timeout);
+        if timer == Timer::Watch {
+            node.watch = node.watch.and_then(|due| self.watch_after_moving(due));
         }
         self.counted(&before, node, passed).then_some(sends)
+    }
+
+    /// When the watch is due by the rules, where the papers' rule says when.
+    fn watch_after_moving(&self, due: u32) -> Option<u32> {
+        match self.search.rules {
+            Rules::ShortWatch => Some(self.settings.timeout),
+            Rules::LongWatch => Some(3 * self.settings.timeout),
+            Rules::LateWatch => None,
+            _ => Some(due),
+        }
     }
 
     /// Whether a number passed is told exactly where the emitter changes, and is the count of the listed nodes from the one left back to
@@ -433,14 +523,20 @@ impl<'search> Tree<'search> {
         }
         let id = self.meet(state.next_tick(self.search, &self.settings));
         self.leads.push(id);
-        None
+        (self.sought == Sought::State(id)).then_some(Finding::Unjoined)
     }
 
-    /// What demand 3 claims after each event.
+    /// What demand 3 claims after each event. Whether it parts survivors is kept for request 106, which may not claim anything yet.
     fn after_event(&mut self, state: &State) -> Option<Finding> {
         self.events += 1;
         if !settle::no_live_node_listed(&state.nodes) {
             return Some(Finding::LiveNodeListed);
+        }
+        if self.intact && self.chosen.crashed.is_empty() && !self.joined(state) {
+            self.parting = true;
+            if self.sought == Sought::Parting {
+                return Some(Finding::Unjoined);
+            }
         }
         self.unsettled(state)
     }
@@ -474,10 +570,18 @@ impl<'search> Tree<'search> {
         Found { finding, tick, plan: self.search.plan(&choices) }
     }
 
-    fn outcome(&self, found: Option<Found>, closed: Option<u32>) -> Outcome {
-        let runs = if found.is_none() { self.runs() } else { 0.0 };
-        let (events, moves_by_report, passed) = (self.events, self.moves_by_report, self.passed);
-        Outcome { states: self.states.len(), events, moves_by_report, passed, runs, closed, found }
+    /// What the search comes to so far.
+    fn outcome(&self) -> Outcome {
+        Outcome {
+            states: self.states.len(),
+            events: self.events,
+            moves_by_report: self.moves_by_report,
+            passed: self.passed,
+            runs: 0.0,
+            closed: None,
+            late: [None; 17],
+            found: None,
+        }
     }
 
     /// How many runs there are up to the end tick.
@@ -492,6 +596,77 @@ impl<'search> Tree<'search> {
             counts = next;
         }
         counts.iter().sum()
+    }
+}
+
+/// Request 106, asked of the states met, each with the most ticks that can have passed since the last crash.
+impl Tree<'_> {
+    fn graph(&self) -> Graph<'_> {
+        Graph::new(self.states.iter().map(|state| state.crashes_done() as u8).collect(), &self.ways)
+    }
+
+    /// The states after a crash whose survivors are not joined.
+    fn unjoined(&self) -> impl Iterator<Item = (usize, &State)> {
+        self.states.iter().enumerate().filter(|(_, state)| state.crashes_done() > 0 && !self.joined(state))
+    }
+
+    /// A state stands as it does at the end of the tick before.
+    fn late(&self, ages: &[u32]) -> Late {
+        let mut late = [None; 17];
+        for (id, state) in self.unjoined() {
+            let most = &mut late[state.crashes_done()];
+            *most = (*most).max(Some(ages[id] - 1));
+        }
+        late
+    }
+
+    /// The first state that breaks the claim. The crashes to come are those that the search has yet to choose, so that a run without
+    /// them is among those that go on from a state.
+    ///
+    /// - Unjoined at the start of a tick: where nothing is left that is due up to the bound.
+    /// - Parted by an event of the tick: where the tick is beyond the bound. Before that it is owed only where the event is the last
+    ///   of the tick, and then of the next state.
+    fn breach(&self, ages: &[u32]) -> Option<Breach> {
+        let unjoined = self.unjoined().map(|(id, state)| {
+            let bound = self.search.joining_time(state.crashes_done());
+            let age = state.earliest_due().map_or(1, |due| (bound + 1).saturating_sub(due).max(1));
+            Breach { id, age, parting: false }
+        });
+        let parted = (0..self.parted.len()).filter(|id| self.parted[*id]).map(|id| {
+            let age = self.search.joining_time(self.states[id].crashes_done()) + 1;
+            Breach { id, age, parting: true }
+        });
+        unjoined.chain(parted).find(|breach| ages[breach.id] >= breach.age)
+    }
+
+    /// Choices that lead to a state so many ticks or more after the last crash: to one that comes as many ticks before it, which is one
+    /// tick after a crash or more, then without a crash.
+    fn choices_at(&mut self, ages: &[u32], id: usize, age: u32) -> Vec<Choice> {
+        let path = self.graph().path(ages, id, age);
+        let mut choices = self.choices(path[0]);
+        for pair in path.windows(2) {
+            choices.push(self.choice(pair[0], Sought::State(pair[1])));
+        }
+        choices
+    }
+
+    fn found_unjoined(&mut self, ages: &[u32], breach: Breach) -> Found {
+        let mut choices = self.choices_at(ages, breach.id, breach.age);
+        if breach.parting {
+            choices.push(self.choice(breach.id, Sought::Parting));
+        }
+        let tick = choices.len() as u32 - 1;
+        let plan = Plan { end: self.search.end.max(tick), ..self.search.plan(&choices) };
+        Found { finding: Finding::Unjoined, tick, plan }
+    }
+
+    /// A choice that leads from the state to what is sought.
+    fn choice(&mut self, id: usize, sought: Sought) -> Choice {
+        self.sought = sought;
+        let finding = self.go_on_from(id);
+        assert_eq!(finding, Some(Finding::Unjoined), "what is sought was met before");
+        self.sought = Sought::Nothing;
+        std::mem::take(&mut self.chosen)
     }
 }
 
@@ -673,5 +848,126 @@ mod tests {
         assert_eq!(finding(Rules::LeftNotCounted, SMALL), Some(Finding::Miscounted));
         assert_eq!(finding(Rules::AllCounted, SMALL), Some(Finding::Miscounted));
         assert_eq!(finding(Rules::LeftNotCounted, shuffled()), Some(Finding::Miscounted));
+        assert_eq!(finding(Rules::LateWatch, SMALL), Some(Finding::Unjoined));
+        assert_eq!(finding(Rules::LongWatch, Search { delay: 1, timeout: 2, ..shuffled() }), Some(Finding::Unjoined));
+    }
+
+    /// The tree with all states of a search.
+    fn grown(search: &Search) -> Tree<'_> {
+        let mut tree = Tree::new(search);
+        let mut id = 0;
+        while id < tree.states.len() {
+            assert_eq!(tree.expand(id), None);
+            id += 1;
+        }
+        tree
+    }
+
+    /// The ages are those of a walk that tells states apart by the ticks since the last crash, up to 30.
+    #[test]
+    fn ages_are_those_of_a_plain_walk() {
+        for search in [SMALL, Search { delay: 1, timeout: 2, ..shuffled() }] {
+            let tree = grown(&search);
+            let (ages, most) = (tree.graph().ages(), 30);
+            let mut seen = vec![[false; 31]; tree.states.len()];
+            let mut walk = vec![(0, 0)];
+            while let Some((id, age)) = walk.pop() {
+                if std::mem::replace(&mut seen[id][age], true) {
+                    continue;
+                }
+                let crashes = tree.states[id].crashes_done();
+                let older = if age == 0 { 0 } else { most.min(age + 1) };
+                walk.extend(tree.ways[id].iter().map(|(to, _)| (*to, if tree.states[*to].crashes_done() > crashes { 1 } else { older })));
+            }
+            for (id, seen) in seen.iter().enumerate() {
+                assert_eq!(seen.iter().rposition(|seen| *seen), Some(most.min(ages[id] as usize)), "state {id}");
+            }
+            let endless = ages.iter().filter(|age| **age > 1_000).count();
+            assert!(endless > 5 && endless * 2 < ages.len(), "{endless} of {} states can be any age", ages.len());
+        }
+    }
+
+    #[test]
+    fn the_platform_comes_to_the_ages() {
+        compare_ages(&SMALL, 60);
+        compare_ages(&Search { delay: 1, timeout: 2, ..shuffled() }, 1);
+    }
+
+    /// The platform comes to one state in so many by a run in which the last crash is the most ticks ago, or 20; and what request 106 asks
+    /// of the state is what it asks of the platform.
+    fn compare_ages(search: &Search, one_in: usize) {
+        let mut tree = grown(search);
+        let ages = tree.graph().ages();
+        for id in (0..tree.states.len()).step_by(one_in).filter(|id| ages[*id] > 0) {
+            let age = ages[id].min(20);
+            let choices = tree.choices_at(&ages, id, age);
+            let tick = choices.len() as u32;
+            let mut platform = Platform::open(Plan { end: tick - 1, ..search.plan(&choices) });
+            platform.run(u64::MAX);
+            let state = &tree.states[id];
+            let live: Vec<Node> = state.nodes.iter().filter(|node| node.alive).copied().collect();
+            assert_eq!((live, state.flights.clone()), common(&platform, tick), "{choices:?}");
+            let since = tick - settle::last_crash(&platform).expect("a crash is done");
+            assert!(since == ages[id] || since >= age && ages[id] > age, "{since} ticks, not {age}");
+            assert_eq!(state.earliest_due(), platform.earliest_due().map(|due| due - tick));
+            assert_eq!(tree.joined(state), settle::joined(platform.ring(), platform.nodes()));
+        }
+    }
+
+    /// The last heartbeat of a node that crashes at tick c is sent at c − 1 and arrives at c − 1 + D at the latest. So the node after it
+    /// expires by c − 1 + D + W and comes to each dead node before that 2 × W later, to a survivor at c − 1 + D + W + 2 × W × (f − 1). Its
+    /// O takes D ticks more: at the end of the tick before that arrives survivors are not joined. A lone survivor sends no O.
+    #[test]
+    fn survivors_are_as_late_as_worked_by_hand() {
+        for (search, most) in [(SMALL, 2), (reported(), 4)] {
+            let Search { timeout, delay, nodes, .. } = search;
+            let late = search.explore().late;
+            for crashes in 1..=most {
+                let alone = crashes == usize::from(nodes) - 1;
+                let expired = delay + timeout + 2 * timeout * (crashes as u32 - 1) - 1;
+                assert_eq!(late[crashes], Some(expired + if alone { 0 } else { delay } - 1), "{crashes} crashes");
+            }
+            assert_eq!((late[0], late[most + 1]), (None, None));
+        }
+    }
+
+    /// Each run that breaks a shorter claim, done by the platform's events up to the end of that tick, leaves survivors unjoined, and
+    /// nothing due by the tick that is claimed.
+    #[test]
+    fn shorter_claims_are_broken_by_the_platform() {
+        for rules in [Rules::ShortJoining, Rules::SingleJoining] {
+            for search in [SMALL, Search { delay: 1, timeout: 2, ..shuffled() }, reported()] {
+                let search = Search { rules, ..search };
+                let found = search.explore().found.expect("survivors are not joined");
+                assert_eq!(found.finding, Finding::Unjoined);
+                let mut platform = Platform::open(Plan { end: found.tick, ..found.plan });
+                platform.run(u64::MAX);
+                let claimed = settle::last_crash(&platform).expect("a crash is done") + search.joining_time(platform.crashes_done());
+                assert!(platform.earliest_due().is_none_or(|due| due > claimed));
+                assert!(!settle::joined(platform.ring(), platform.nodes()) && settle::request_106(&mut platform));
+            }
+        }
+    }
+
+    /// A state that no run leads to: node 3 of four is dead, and two O are due that make node 2 send to 1 and then, as before, to 0. The
+    /// first parts the survivors, so that the claim is broken in a tick beyond the bound, 5 ticks after the crash, and not before.
+    #[test]
+    fn survivors_parted_within_a_tick_are_found() {
+        let search = Search { nodes: 4, timeout: 2, delay: 1, mortal: 0, ..SMALL };
+        let mut tree = Tree::new(&search);
+        let node = |number: u8| Node { emitter: (number + 2) % 3, observer: (number + 1) % 3, dead_list: 0b1000, ..tree.states[0].nodes[0] };
+        let mut nodes: Vec<Node> = (0..3).map(|number| Node { number, ..node(number) }).collect();
+        nodes.push(Node { alive: false, ..tree.states[0].nodes[3] });
+        let new_observer = |sender| Flight { due: 0, sender, receiver: 2, content: Content::NewObserver };
+        let flights = vec![new_observer(1), new_observer(0)];
+        tree.states[0] = State { nodes, flights, idle: 0, crashes: Crashes::Close };
+        assert!(tree.joined(&tree.states[0]));
+        assert_eq!(tree.expand(0), None);
+        assert!(tree.parted == [true] && tree.states.iter().all(|state| tree.joined(state)));
+        let breach = |age| tree.breach(&vec![age; tree.states.len()]);
+        assert_eq!((breach(5), breach(6)), (None, Some(Breach { id: 0, age: 6, parting: true })));
+        assert!(tree.choice(0, Sought::Parting).delays.is_empty());
+        tree.states[0].flights.remove(0);
+        assert!(tree.go_on_from(0).is_none() && !tree.parting);
     }
 }

@@ -16,11 +16,13 @@
 //! - `store`: the bytes of a platform, written, read and checked.
 //! - `dispatch`: turns of several stores in one part.
 //! - `exhaust`: all runs of a small ring.
+//! - `ages`: how long ago the last crash can be in each state of that search.
 //! - `log`: log lines, written, read and cut into columns.
 //! - `recount`: the lines K of a log, counted once more from the log alone.
 //! - `random`: seeded numbers.
 //! - `generator`: run files of a seed, good and damaged.
 
+pub mod ages;
 pub mod dispatch;
 pub mod exhaust;
 pub mod fields;
