@@ -52,6 +52,9 @@ commands() {
     sed 's/^K,27,4,1,/K,27,4,2,/' tests/reported-ten.log > "$out/miscounted.log"
     cp tests/reported-ten.run "$out/miscounted.run"
     ! "$out/simulate" recount "$out/miscounted.run" > "$out/miscounted.out" 2>&1 || fail 'a wrong number in a line K is not found'
+    printf 'P,5,1,3,2,20\nC,2,1\nC,2,2\n' > "$out/joined.run"
+    answers joined '' '2 26 11 14\n' "joined tests/worked.run $out/joined.run tests/worked.log"
+    answers joined-none '' '0 0 0 0\n' 'joined tests/worked.log'
 }
 
 # recounted FILE..: every line K of the files' logs is right and none is missing. Enough of them come up, also with more than one node passed.
@@ -60,6 +63,15 @@ recounted() {
     set -- $passed
     echo "simulator: $1 lines K in the generated files, $2 with more than one node passed, at most $3"
     [ "$1" -ge "$count" ] && [ "$2" -ge $((count / 10)) ] || fail 'too few lines K'
+}
+
+# joined FILE..: survivors are joined wherever request 106 owes it, and it owes it often enough.
+joined() {
+    told=$("$out/simulate" joined "$@") || fail 'survivors are not joined'
+    set -- $told
+    echo "simulator: $1 generated files with a crash, survivors joined after all $2 events at which they have to be;"
+    echo "simulator: nearest to its bound they were not yet joined $3 ticks after a last crash, of $4"
+    [ "$1" -ge $((count / 3)) ] && [ "$2" -ge $((50 * count)) ] && [ "$3" -gt 0 ] || fail 'too few survivors have to be joined'
 }
 
 echo "simulator: seed $seed, $count generated files"
@@ -72,6 +84,7 @@ mkdir -p "$files"
 each_generated '' "$count" "$files" ends
 echo "simulator: $("$out/simulate" moves "$files"/*.run) moves by report in the generated files"
 recounted "$files"/*.run
+joined "$files"/*.run
 rm -r "$files"
 printf 'P,64,10,265,255,1000000\n' > "$out/speed.run"
 "$out/simulate" time "$out/speed.run"

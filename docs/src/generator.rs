@@ -1,7 +1,8 @@
 //! A seeded generator of run files, good and damaged. A file depends on its seed and index alone.
 //!
 //! `file(seed, index, size)` gives the bytes of one file, `plan(seed, index)` an undamaged one, `spaced_plan(seed, index)` one whose
-//! crashes are all spaced by S, `reported_plan(seed, index, size)` one in which a report of the emitter may well move a node;
+//! crashes are all spaced by S, `reported_plan(seed, index, size)` one in which a report of the emitter may well move a node,
+//! `tripped_plan(seed, index, size)` one in which many nodes crash close together and the survivors come to be joined;
 //! `crowd(order)` is a plan that brings 2,048 messages into flight, due in that order; `some_order` is an order of a ring's nodes, or none.
 
 use super::limits::{FILE_BYTES, MAX_DELAY_ROWS};
@@ -103,6 +104,11 @@ pub fn reported_plan(seed: u64, index: u64, size: Size) -> Vec<u8> {
     reported_draft(&mut Random::new(seed, index), size).bytes()
 }
 
+/// One file of a power trip.
+pub fn tripped_plan(seed: u64, index: u64, size: Size) -> Vec<u8> {
+    tripped_draft(&mut Random::new(seed, index), size).bytes()
+}
+
 /// How the due ticks of messages go with their numbers.
 #[derive(Clone, Copy, PartialEq, Eq, Debug)]
 pub enum Order {
@@ -145,6 +151,9 @@ fn draft(random: &mut Random, size: Size) -> Draft {
     }
     if random.chance(6) {
         return reported_draft(random, size);
+    }
+    if random.chance(6) {
+        return tripped_draft(random, size);
     }
     let mut draft = open_draft(random, size);
     match random.range(0, 6) {
@@ -258,6 +267,41 @@ fn reported_draft(random: &mut Random, size: Size) -> Draft {
         put_delays(random, &mut draft);
     }
     draft
+}
+
+/// A power trip. One group of nodes crashes or several, each at one tick or within a few, and the run goes on to the tick from whose end on
+/// the survivors are joined or beyond it. Heartbeats are slow against delays in larger rings, as a survivor may wait 2 × W for each of
+/// the dead.
+fn tripped_draft(random: &mut Random, size: Size) -> Draft {
+    let nodes = if size.crowded { random.pick(&[2, 5, 8, 16, 24, 48, 62]) + random.range(0, 2) } else { random.range(2, 9) };
+    let most_period = random.pick(&[1, 3, 12, 100]);
+    let period = random.range(1, most_period);
+    let most_delay = if nodes > 18 { period.div_ceil(2) } else { 2 * period };
+    let delay = random.range(1, most_delay);
+    let timeout = period + delay + random.pick(&[0, 0, 0, 1, period / 2]);
+    let order = some_order(random, nodes);
+    let mut draft = Draft { nodes, period, timeout, delay, end: u64::MAX, order, crashes: Vec::new(), delays: Vec::new() };
+    crash_groups(random, &mut draft);
+    let joined = draft.crashes[draft.crashes.len() - 1].0 + 2 * timeout * draft.crashes.len() as u64 + delay;
+    draft.end = joined + random.pick(&[0, 1, timeout, 3 * timeout]);
+    put_delays(random, &mut draft);
+    draft
+}
+
+/// Up to three groups, each a row of nodes that may share some with another: mostly a few, sometimes all nodes or all but one.
+fn crash_groups(random: &mut Random, draft: &mut Draft) {
+    let mut tick = random.range(0, 2 * draft.timeout);
+    let mut rows = Vec::new();
+    for _ in 0..random.pick(&[1, 1, 1, 2, 2, 3]) {
+        let few = random.range(1, draft.nodes.div_ceil(2).min(8));
+        let count = if random.chance(8) { random.pick(&[draft.nodes - 1, draft.nodes]) } else { few };
+        let within = random.pick(&[0, 0, 0, 1, 3]);
+        let row = in_a_row(random, draft);
+        rows.extend(row[..count as usize].iter().map(|node| (tick + random.range(0, within), *node)));
+        let apart = random.pick(&[1, 3, draft.delay, draft.timeout, 2 * draft.timeout]);
+        tick += random.range(0, apart);
+    }
+    put_crashes(draft, rows);
 }
 
 /// Keeps the rows that a file may hold: up to the end tick, rising, no node twice.
@@ -564,6 +608,7 @@ fn damage_fields(random: &mut Random, fields: &mut Vec<String>, nodes: u64) {
 mod tests {
     use super::super::plan;
     use super::super::platform::Platform;
+    use super::super::settle;
     use super::*;
 
     /// About half of the good files have a Q line. Among rings of more than four nodes, each kind of order comes up, and most
@@ -613,6 +658,30 @@ mod tests {
         }
         let moving = moving((0..600).map(|index| plan(102, index)));
         assert!(moving > 15, "{moving} of 600 files");
+    }
+
+    /// Every power trip has an end tick by which survivors have to be joined. In many of them neighbours in the ring crash at one tick, in some
+    /// all nodes crash or all but one, in rings with a Q line and without, and of all good files one in ten is such.
+    #[test]
+    fn power_trips_come_up_in_every_way() {
+        for size in [USUAL, SMALL] {
+            let (mut together, mut apart, mut all, mut but_one, mut ordered) = (0, 0, 0, 0, 0);
+            for index in 0..400 {
+                let plan = plan::read(&tripped_plan(103, index, size)).expect("the file is accepted");
+                let (ring, crashes, survivors) = (plan.ring(), &plan.crashes, usize::from(plan.nodes) - plan.crashes.len());
+                let row = |crash: &&plan::Crash| crashes.contains(&plan::Crash { node: ring.after(crash.node), ..**crash });
+                together += usize::from(crashes.iter().filter(row).count() > 0);
+                apart += usize::from(crashes.len() > 1 && crashes[0].tick < crashes[crashes.len() - 1].tick);
+                all += usize::from(survivors == 0);
+                but_one += usize::from(survivors == 1);
+                ordered += usize::from(!plan.order.is_empty());
+                let mut platform = Platform::open(plan);
+                platform.run(u64::MAX);
+                assert!(settle::joining_tick_passed(&mut platform), "index {index}");
+            }
+            let counts = [together, apart, all, but_one, ordered];
+            assert!(together > 150 && apart > 150 && all > 30 && but_one > 30 && (150..250).contains(&ordered), "{counts:?}");
+        }
     }
 
     /// Damaged files have bad Q lines in the second place, refused by each number that there is, and Q lines in others.

@@ -6,8 +6,10 @@
 //! - `simulate time FILE..`: does the events of each file without a log and prints the time.
 //! - `simulate moves FILE..`: prints how many moves by report the files lead to, all together.
 //! - `simulate recount FILE..`: counts the lines K of the log that stands beside each file once more.
+//! - `simulate joined FILE..`: asks request 106 after each event of the files and prints how late survivors were not joined.
 
 use simulator::fields;
+use simulator::joining::{self, Joining};
 use simulator::limits::*;
 use simulator::log::{self, Line};
 use simulator::plan::{self, Refusal};
@@ -29,7 +31,8 @@ fn main() -> ExitCode {
         (Some("time"), _) => arguments[1..].iter().try_for_each(|path| time(&mut out, path)),
         (Some("moves"), _) => moves(&mut out, &arguments[1..]),
         (Some("recount"), _) => recount(&mut out, &arguments[1..]),
-        _ => Err(io::Error::other("usage: simulate [table | lines | time FILE.. | moves FILE.. | recount FILE..]")),
+        (Some("joined"), _) => joined(&mut out, &arguments[1..]),
+        _ => Err(io::Error::other("usage: simulate [table | lines | time FILE.. | moves FILE.. | recount FILE.. | joined FILE..]")),
     };
     match answer.and_then(|()| out.flush()) {
         Ok(()) => ExitCode::SUCCESS,
@@ -146,4 +149,19 @@ fn moves(out: &mut impl Write, paths: &[std::ffi::OsString]) -> io::Result<()> {
         }
     }
     writeln!(out, "{moves}")
+}
+
+/// Prints how many files have a crash, after how many events request 106 is owed, and the tick at whose end survivors were not joined that
+/// comes nearest to its bound in proportion: the ticks after the last crash done, and 2 × W × f + D. Fails where the claim is false. A
+/// refused file has no crash.
+fn joined(out: &mut impl Write, paths: &[std::ffi::OsString]) -> io::Result<()> {
+    let mut all = Joining::NONE;
+    for path in paths {
+        if let Ok(plan) = plan::read(&read_run_file(std::fs::File::open(path)?)?) {
+            let told = |error: String| io::Error::other(format!("{}: {error}", path.to_string_lossy()));
+            all.add(&joining::of_run(&mut Platform::open(plan)).map_err(told)?);
+        }
+    }
+    let (ticks, bound) = all.nearest.map_or((0, 0), |late| (late.ticks, late.bound));
+    writeln!(out, "{} {} {ticks} {bound}", all.crashed, all.owed)
 }

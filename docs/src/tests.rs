@@ -1,8 +1,9 @@
-//! Whole runs: the worked logs, the edges of 01 that concern the platform, rings in another order, demand 3's words on generated
-//! plans; and the turns of the dispatcher.
+//! Whole runs: the worked logs, the edges of 01 that concern the platform, rings in another order, the words of demand 3 and of request
+//! 106 on generated plans; and the turns of the dispatcher.
 
 use super::dispatch::{self, Given};
 use super::generator;
+use super::joining::{self, Joining, Late};
 use super::layout;
 use super::limits::*;
 use super::log::{self, Line};
@@ -567,6 +568,111 @@ fn unsettled_rings_are_told_from_settled_ones() {
     });
     assert!(unsettled > 0);
     assert!(settle::settled(platform.ring(), platform.nodes()) && settle::no_live_node_listed(platform.nodes()));
+}
+
+/// Request 106 after each event of generated plans, half of them power trips, of which it is owed at the end. How often it is owed, and how
+/// late survivors were not joined, is what `joining` tells.
+#[test]
+fn request_106_on_generated_plans() {
+    let (mut all, mut owed) = (Joining::NONE, 0);
+    for index in 0..400 {
+        let file = match index % 6 {
+            0 => generator::plan(SEED + 9, index),
+            1 => generator::spaced_plan(SEED + 9, index),
+            2 => generator::reported_plan(SEED + 9, index, generator::USUAL),
+            3 => generator::tripped_plan(SEED + 9, index, generator::SMALL),
+            _ => generator::tripped_plan(SEED + 9, index, generator::USUAL),
+        };
+        let plan = plan::read(&file).unwrap_or_else(|refusal| panic!("index {index}: {refusal:?}"));
+        let mut platform = Platform::open(plan.clone());
+        for_each_event(&mut platform, |platform| {
+            assert!(settle::request_106(platform), "index {index}, after {} events", platform.events_done());
+            owed += u64::from(settle::joining_tick_passed(platform));
+        });
+        assert!(index % 6 < 3 || settle::joining_tick_passed(&mut platform), "index {index}");
+        let joining = joining::of_run(&mut Platform::open(plan.clone())).unwrap_or_else(|error| panic!("index {index}: {error}"));
+        if index % 6 == 3 {
+            assert_eq!(joining.nearest.map(proportion), nearest_by_ticks(plan), "index {index}");
+        }
+        all.add(&joining);
+    }
+    let Late { ticks, bound } = all.nearest.expect("survivors are late");
+    assert!(owed == all.owed && owed > 50_000, "owed after {owed} events, {} told", all.owed);
+    assert!(all.crashed > 300 && ticks * 10 > bound * 9, "{all:?}");
+}
+
+fn proportion(late: Late) -> f64 {
+    late.ticks as f64 / late.bound as f64
+}
+
+/// How near to its bound survivors were not joined, from tick to tick.
+fn nearest_by_ticks(plan: Plan) -> Option<f64> {
+    let mut platform = Platform::open(plan);
+    let mut nearest = None;
+    for tick in 0..=platform.plan().end {
+        while platform.next_event().is_some_and(|pending| pending.tick == tick) {
+            assert!(matches!(platform.step(), Step::Event(_)));
+        }
+        if let Some(crash) = settle::last_crash(&platform).filter(|_| !settle::joined(platform.ring(), platform.nodes())) {
+            let bound = settle::joining_tick(&platform).expect("a crash is done") - u64::from(crash);
+            let late = proportion(Late { ticks: u64::from(tick - crash), bound });
+            nearest = Some(late.max(nearest.unwrap_or(0.0)));
+        }
+    }
+    nearest
+}
+
+/// Eight nodes of 48 crash at one tick, in each of 100 phases of the heartbeats; H 100, D 20, every delay 20. For each W the fewest ticks after
+/// the crash at whose end the survivors are joined, and the most.
+///
+/// All send at tick 100 and 200. Of a crash at tick 200 the last heartbeat was sent at 100 and arrived at 120, so that the first watch is due
+/// at 120 + W. The node after eight dead neighbours comes to each of the next seven 2 × W later, and then to a survivor, to which its O
+/// takes 20 ticks. Of a crash from 201 to 299 the last heartbeat was sent at 200. In the dealt order no two of the eight are neighbours.
+#[test]
+fn eight_of_48_at_one_tick() {
+    let dealt: Vec<String> = (0..48).map(|place| (place % 6 * 8 + place / 6).to_string()).collect();
+    let dealt = format!("Q,{}\n", dealt.join(","));
+    assert!(dealt.starts_with("Q,0,8,16,24,32,40,1,9,17,") && dealt.ends_with(",39,47\n"));
+    let range = |timeout: u64, order: &str| {
+        let joined_after = |crash: u64| {
+            let crashes: String = (8..16).map(|node| format!("C,{crash},{node}\n")).collect();
+            let bound = 16 * timeout + 20;
+            let mut platform = open(&format!("P,48,100,{timeout},20,{}\n{order}{crashes}", crash + bound));
+            let joining = joining::of_run(&mut platform).expect("survivors are joined");
+            assert!(settle::joining_tick_passed(&mut platform) && joining.nearest.is_some_and(|late| late.bound == bound));
+            joining.nearest.map_or(0, |late| late.ticks + 1)
+        };
+        let after: Vec<u64> = (200..300).map(joined_after).collect();
+        (after.iter().copied().min(), after.iter().copied().max())
+    };
+    for timeout in [120, 220, 320] {
+        let first = 120 + timeout - 200;
+        assert_eq!(range(timeout, ""), (Some(first + 14 * timeout + 20), Some(first + 14 * timeout + 119)), "W {timeout}");
+        assert_eq!(range(timeout, &dealt), (Some(first + 20), Some(first + 119)), "W {timeout}, dealt");
+    }
+    assert_eq!(range(120, ""), (Some(1_740), Some(1_839)));
+    assert_eq!(range(120, &dealt), (Some(60), Some(159)));
+}
+
+/// Three neighbours of five crash at tick 3; H 2, W 5, D 3, every delay 3. Their heartbeats of tick 2 arrive at 5, so that the watch of 4 is
+/// due at 10: it leaves 3 for 2, leaves that at 20 for 1 and that at 30 for 0, which gets its O at 33. The bound is 3 + 30 + 3 = 36.
+#[test]
+fn three_neighbours_of_five_at_one_tick() {
+    let file = |end: u32| format!("P,5,2,5,3,{end}\nC,3,1\nC,3,2\nC,3,3\n");
+    let moves = ["W,10,4,3,0000000000000008", "W,20,4,2,000000000000000c", "W,30,4,1,000000000000000e"];
+    assert_eq!(moves_of(&file(36)).into_iter().step_by(2).collect::<Vec<String>>(), moves);
+    let up_to = |end| {
+        let mut platform = open(&file(end));
+        platform.run(u64::MAX);
+        let [first, last] = [0, 4].map(|node: usize| (platform.nodes()[node].emitter, platform.nodes()[node].observer));
+        (platform.events_done(), first, last, settle::joining_tick_passed(&mut platform))
+    };
+    assert_eq!(up_to(32), (82, (4, 1), (0, 0), false));
+    assert_eq!(up_to(33), (87, (4, 4), (0, 0), false));
+    assert_eq!(up_to(35), (91, (4, 4), (0, 0), false));
+    assert_eq!(up_to(36), (94, (4, 4), (0, 0), true));
+    let late = Some(Late { ticks: 29, bound: 33 });
+    assert_eq!(joining::of_run(&mut open(&file(36))), Ok(Joining { crashed: 1, owed: 1, nearest: late }));
 }
 
 /// The next event by a plain search, as the paper lists the three classes.
