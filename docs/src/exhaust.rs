@@ -949,6 +949,17 @@ mod tests {
         }
     }
 
+    /// A claim of D ticks after the first crash is owed before these have passed where nothing is due in them: a crash at tick 0 is followed by
+    /// the heartbeats of tick 3, so that with D = 2 it is owed, and false, at the end of tick 0. With D = 3 it is not before the end of tick 3.
+    #[test]
+    fn what_is_left_decides_when_a_claim_is_owed() {
+        let tick = |delay| {
+            let search = Search { period: 3, timeout: 3 + delay, delay, mortal: 0b100, rules: Rules::ShortJoining, end: 6, ..SMALL };
+            search.explore().found.map(|found| found.tick)
+        };
+        assert_eq!([2, 3].map(tick), [Some(0), Some(3)]);
+    }
+
     /// A state that no run leads to: node 3 of four is dead, and two O are due that make node 2 send to 1 and then, as before, to 0. The
     /// first parts the survivors, so that the claim is broken in a tick beyond the bound, 5 ticks after the crash, and not before.
     #[test]

@@ -660,8 +660,16 @@ mod tests {
         assert!(moving > 15, "{moving} of 600 files");
     }
 
+    /// Several crashes, and an end tick soon after the one from whose end on survivors are joined.
+    fn ends_soon_after_joining(file: &[u8]) -> bool {
+        let plan = plan::read(file).expect("the file is accepted");
+        let last = plan.crashes.last().map_or(0, |crash| u64::from(crash.tick));
+        let joined = last + settle::joining_time(plan.timeout, plan.delay, plan.crashes.len());
+        plan.crashes.len() > 1 && (joined..=joined + 3 * u64::from(plan.timeout)).contains(&u64::from(plan.end))
+    }
+
     /// Every power trip has an end tick by which survivors have to be joined. In many of them neighbours in the ring crash at one tick, in some
-    /// all nodes crash or all but one, in rings with a Q line and without, and of all good files one in ten is such.
+    /// all nodes crash or all but one, in rings with a Q line and without; and of all good files one in ten is such.
     #[test]
     fn power_trips_come_up_in_every_way() {
         for size in [USUAL, SMALL] {
@@ -682,6 +690,8 @@ mod tests {
             let counts = [together, apart, all, but_one, ordered];
             assert!(together > 150 && apart > 150 && all > 30 && but_one > 30 && (150..250).contains(&ordered), "{counts:?}");
         }
+        let trips = (0..400).filter(|index| ends_soon_after_joining(&plan(103, *index))).count();
+        assert!(trips > 20, "{trips} of 400 files");
     }
 
     /// Damaged files have bad Q lines in the second place, refused by each number that there is, and Q lines in others.
