@@ -251,7 +251,8 @@ impl Search {
 
     /// Searches to the end tick, or until something is found. Request 106 is asked at the end.
     pub fn explore(&self) -> Outcome {
-        assert!(self.nodes <= 16 && 3 * self.timeout < 250 && self.delay < 8, "the search is for small rings");
+        let longest_watch = if self.rules == Rules::LongWatch { 3 } else { 2 } * self.timeout;
+        assert!(self.nodes <= 16 && longest_watch < 250 && self.delay < 8, "the search is for small rings");
         let mut tree = Tree::new(self);
         let mut layer = vec![0];
         let mut closed = None;
