@@ -2,7 +2,8 @@
 //! Every call must give the same answer and leave the same lent bytes and the same numbers behind its pointers: on files good and
 //! damaged, on steps and runs mixed at random, on runs of any budget from any place of a file, on stores of which every single byte is
 //! changed in turn, those of the ring's order in more ways, on lent stores that no file leads to, and on 01's edges and 02's of a Q line,
-//! of reported emitters and of the number of nodes passed. The lines K of every step are also counted once more, from its lines alone.
+//! of reported emitters and of the number of nodes passed. The lines K of every step are also counted once more, from its lines alone, and of
+//! what a store holds that a file led to the words of request 106 are asked.
 //!
 //! Usage: platform [SEED [COUNT]]. A difference prints its seed and index, the call and the file, and the program fails.
 //!
@@ -61,13 +62,15 @@ struct Seen {
     alone: u64,
     /// Moves by steps, whose lines K are counted once more.
     moves: Moves,
+    /// Calls after which request 106 says that survivors are joined.
+    joined: u64,
     met: runs::Met,
 }
 
 impl Seen {
     fn new() -> Seen {
         let met = runs::Met::default();
-        Seen { opened: 0, calls: 0, numbers: [0; 14], spent: 0, done: 0, reported: 0, alone: 0, moves: Moves::NONE, met }
+        Seen { opened: 0, calls: 0, numbers: [0; 14], spent: 0, done: 0, reported: 0, alone: 0, moves: Moves::NONE, joined: 0, met }
     }
 
     /// Counts the lines K of an accepted step once more, from its lines and whom the nodes observed before it.
@@ -79,6 +82,19 @@ impl Seen {
         before.end()?;
         self.moves.add(&before.moves);
         Ok(())
+    }
+
+    /// What the bytes of a store hold that a file led to: no live node is listed, and survivors are joined where request 106 says so.
+    fn claims(&mut self, store: &Lent) -> Result<Platform, String> {
+        let mut platform = store::decode(store.part()).ok_or("the store is out of range")?.platform;
+        self.joined += u64::from(settle::joining_tick_passed(&mut platform));
+        if !settle::no_live_node_listed(platform.nodes()) {
+            return Err(format!("a live node is listed at tick {}", platform.last_tick()));
+        }
+        if !settle::request_106(&mut platform) {
+            return Err(format!("survivors are not joined at tick {}", platform.last_tick()));
+        }
+        Ok(platform)
     }
 
     fn count(&mut self, number: u64) {
@@ -167,6 +183,7 @@ fn sequence(seen: &mut Seen, file: &[u8], random: &mut Random) -> Result<(), Str
         if held.is_none() {
             return Err(format!("call {place}: {call:?} leaves a store out of range"));
         }
+        seen.claims(&store).map_err(|error| format!("call {place}: {error}"))?;
     }
     let mut other = Lent::new(&[store.part(), &[0; 2]].concat()[..some_room(random).min(STORE_BYTES + 1)]);
     let (call, room) = some_call(random);
@@ -659,6 +676,37 @@ fn settles(seen: &mut Seen, file: &str) -> Result<(), String> {
     Ok(())
 }
 
+/// Eight nodes of 48 crash at one tick, H 100, W 120, D 20: 2 × W × f + D is 1,940. As neighbours in the ring they keep the survivors apart for
+/// 1,839 ticks, dealt out by a Q line for 159. All but one of five crash, and all of five.
+fn joining(seen: &mut Seen) -> Result<(), String> {
+    let dealt: String = (0..48).map(|place| format!(",{}", place % 6 * 8 + place / 6)).collect();
+    let eight: String = (8..16).map(|node| format!("C,301,{node}\n")).collect();
+    for (order, ticks) in [(String::new(), 1_839), (format!("Q{dealt}\n"), 159)] {
+        same("joined after", joins(seen, &format!("P,48,100,120,20,2300\n{order}{eight}"), 301 + 1_940)?, 301 + ticks)?;
+    }
+    let four: String = (0..4).map(|node| format!("C,7,{node}\n")).collect();
+    same("a lone survivor joined after", joins(seen, &format!("P,5,2,3,1,60\n{four}"), 7 + 25)?, 28)?;
+    same("no survivor joined after", joins(seen, &format!("P,5,2,3,1,60\n{four}C,7,4\n"), 7 + 31)?, 7).map(|_| ())
+}
+
+/// Does the file's events by steps and asks the claims after each. The tick from whose end on the survivors of all its crashes are joined; request
+/// 106 has to say it of the tick that is given, and of some event.
+fn joins(seen: &mut Seen, file: &str, by: u64) -> Result<u64, String> {
+    let (mut store, mut held) = opened(seen, file.as_bytes())?;
+    let crashes = platform_of(file.as_bytes()).plan().crashes.len();
+    let (mut since, mut owed) = (None, 0);
+    while seen.call(Call::Step, &mut store, &mut Lent::filled(LOG_BYTES), &mut held)?[1] != u64::from(b'E') {
+        let mut platform = seen.claims(&store)?;
+        let joined = platform.crashes_done() == crashes && settle::joined(platform.ring(), platform.nodes());
+        since = if joined { since.or(Some(u64::from(platform.last_tick()))) } else { None };
+        owed += u64::from(settle::joining_tick_passed(&mut platform));
+        if platform.crashes_done() == crashes {
+            same("the tick of request 106", settle::joining_tick(&platform), Some(by))?;
+        }
+    }
+    since.filter(|_| owed > 0).ok_or("the joined ring was not looked at".to_string())
+}
+
 /// An event on a lent store may bring the next number above its bound: it is done, and the next call gets 7.
 fn last_number(seen: &mut Seen) -> Result<(), String> {
     let mut bytes = reached(b"P,2,2,3,1,6\nC,3,1\n", 0);
@@ -683,6 +731,7 @@ fn edges(seen: &mut Seen) -> Result<(), String> {
     refused_moves(seen)?;
     full_flight(seen)?;
     settling(seen)?;
+    joining(seen)?;
     last_number(seen)
 }
 
@@ -699,7 +748,7 @@ fn all(seen: &mut Seen, seed: u64, count: u64) -> Result<(), String> {
 
 /// Every kind of answer has to come up.
 fn summary(seen: &Seen, count: u64) -> Result<(), String> {
-    let Seen { opened, calls, numbers, spent, done, reported, alone, moves, met } = seen;
+    let Seen { opened, calls, numbers, spent, done, reported, alone, moves, joined, met } = seen;
     let answered = NUMBERS.map(|number| (number, numbers[number]));
     println!("platform: {calls} calls agree, {opened} stores opened; answers by number: {answered:?}; {spent} runs spent, {done} done");
     println!("platform: {reported} moves by report, {alone} steps of them to be alone");
@@ -707,6 +756,10 @@ fn summary(seen: &Seen, count: u64) -> Result<(), String> {
     println!("platform: {lines} lines K counted once more, {more} with more than one node passed, at most {most}; {} after R", moves.by_report);
     if count > 0 && (lines < count || more < count / 3 || most < 63 || moves.by_report < count / 10) {
         return Err("too few lines K came up".to_string());
+    }
+    println!("platform: after {joined} calls on stores that a file led to, survivors are joined as request 106 says");
+    if count > 0 && *joined < 2 * count {
+        return Err("too few survivors had to be joined".to_string());
     }
     if count > 0 && (*reported < count || *alone == 0) {
         return Err("too few reports moved a node".to_string());
