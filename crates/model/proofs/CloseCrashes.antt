@@ -12,12 +12,13 @@ use native.Mathlib.Decide.{ℕ-discrete, decLt}
 use Rattle.node.specs.Node.{H, O}
 use Rattle.model.specs.Platform.{InFlight}
 use Rattle.ring.proofs.GoingBack.{iter, iter-out}
-use Rattle.model.proofs.Events.{View, Live, Dead, _∈_, Params, Crash, Watched, Report, Leaves, Moves, Alone, Step, crash, drop, idle, beat, watched}
-use Rattle.model.proofs.Events.{report, moves, alone, sends, crashed, left}
+use Rattle.model.proofs.Events.{Seen, View, Live, Dead, _∈_, Params, Crash, Watched, Report, Leaves, Moves, Alone, Step, crash, drop, idle, beat}
+use Rattle.model.proofs.Events.{watched, report, moves, alone, sends, crashed, left}
 use Rattle.model.proofs.Invariant.{Inv, Covered, byHeartbeat, byTimer, byObserver, byCrash}
 use Rattle.model.proofs.EveryEvent.{live-not-dead}
 use Rattle.model.proofs.OneNode.{OnEach, each}
 use Rattle.model.proofs.WatchKept.{came0}
+use Rattle.model.proofs.CrashDone.{crash-now}
 use Rattle.model.proofs.ObserverDelivered.{observer-all}
 use Rattle.model.proofs.ReportDelivered.{report-all}
 use Rattle.model.proofs.EmitterLeft.{leaves-late, moves-all, moves-sames}
@@ -29,27 +30,39 @@ use Rattle.model.proofs.SpacedRuns.{Last, none, at, after, Passed, Join
 module _ (p : Params) where
   -- ---- what is kept after the last crash
 
-  -- g times what a node is given at most
+  -- g times what an emitter is given at most
   abbrev pub waits : ℕ → ℕ
   waits g = 2 * p .W * g
 
   more : (a b : ℕ) → a ≤ b → waits a ≤ waits b
   more a b h = mul-le-mul-left (2 * p .W) h
 
+  one-at-least : (j k : ℕ) → j < p .N → k < p .N → waits 1 ≤ waits (p .gap j k)
+  one-at-least j k jN kN = more 1 (p .gap j k) (p .gap≥1 j k jN kN)
+
   -- of every state in range
   pub record Near (s : View) : Type 0 where
     pub watch : (j : ℕ) → Live s j → (s .node j) .emitter ≢ j → (s .node j) .watch ≤ s .last + 2 * p .W
     pub flight : (m : InFlight) → m ∈ s .flight → (m .from < p .N) × (m .to < p .N) × (m .due ≤ s .last + p .D)
 
+  -- node j, in the state n, leaves an emitter that stands g steps back by c + 2 × W × g
+  abbrev pub LeavesBy : ℕ → ℕ → Seen → Type 0
+  LeavesBy c j n = n .watch ≤ c + waits (p .gap j (n .emitter))
+
+  -- an O goes out when the emitter before is left, which is at least one step nearer
+  abbrev pub ArrivesBy : ℕ → InFlight → Type 0
+  ArrivesBy c m = m .due + 2 * p .W ≤ c + waits (p .gap (m .from) (m .to)) + p .D
+
+  -- a live node whose emitter has crashed
+  abbrev pub Waits : ℕ → View → ℕ → Seen → Type 0
+  Waits c s j n = n .alive ≡ true → n .emitter ≢ j → Dead s (n .emitter) → LeavesBy c j n
+
   -- after the last crash, at c
   pub record Since (c : ℕ) (s : View) : Type 0 where
     -- no crash was later
     pub dead : (k : ℕ) → Dead s k → p .c k ≤ c
-    -- a crashed emitter that stands g steps back is left by c + g × 2 × W
-    pub watch : (j : ℕ) → Live s j → (s .node j) .emitter ≢ j → Dead s ((s .node j) .emitter)
-        → (s .node j) .watch ≤ c + waits (p .gap j ((s .node j) .emitter))
-    -- an O goes out when the emitter before is left, and that one is nearer
-    pub observer : (m : InFlight) → m ∈ s .flight → m .kind ≡ O → m .due + 2 * p .W ≤ c + waits (p .gap (m .from) (m .to)) + p .D
+    pub watch : (j : ℕ) → Waits c s j (s .node j)
+    pub observer : (m : InFlight) → m ∈ s .flight → m .kind ≡ O → ArrivesBy c m
 
   -- ---- each kind of event
 
@@ -58,8 +71,7 @@ module _ (p : Params) where
     crash-since : (t k : ℕ) → Crash p s s' t k → Near s → Inv p s' → Since t s'
     crash-since t k e near i' = record {
       dead = λ a d. rw (e .frame .last') at ((i' .base .dead a d) .1);
-      watch = λ j l ne d. all (λ j n n'. n' .alive ≡ true → n' .emitter ≢ j → n' .watch ≤ t + waits (p .gap j (n' .emitter)))
-          (λ l. absurd (live-not-dead l refl)) old j l ne;
+      watch = all (λ j n n'. Waits t s' j n') (λ l. absurd (live-not-dead l refl)) (λ j l ne d. old j l ne);
       observer = λ m h k. on-its-way m (near .flight m (came0 (s .flight) m (e .frame .came m h)));
     }
       where
@@ -67,17 +79,13 @@ module _ (p : Params) where
         all = each p s s' t k _ [] [] (e .frame)
 
         now : s .last ≤ t
-        now = omega (arith, i .base .undone k (e .live) (e .plan), e .at)
+        now = crash-now p s s' i t k e
 
-        one : (j a : ℕ) → j < p .N → a < p .N → waits 1 ≤ waits (p .gap j a)
-        one j a jN aN = more 1 (p .gap j a) (p .gap≥1 j a jN aN)
+        old : (j : ℕ) → Live s j → (s .node j) .emitter ≢ j → LeavesBy t j (s .node j)
+        old j l ne = omega (arith, near .watch j l ne, now, one-at-least j _ (i .base .inN j ne .0) (i .base .inN j ne .1))
 
-        old : (j : ℕ) → Live s j → (s .node j) .emitter ≢ j → (s .node j) .watch ≤ t + waits (p .gap j ((s .node j) .emitter))
-        old j l ne = omega (arith, near .watch j l ne, now, one j _ (i .base .inN j ne .0) (i .base .inN j ne .1))
-
-        on-its-way : (m : InFlight) → (m .from < p .N) × (m .to < p .N) × (m .due ≤ s .last + p .D)
-            → m .due + 2 * p .W ≤ t + waits (p .gap (m .from) (m .to)) + p .D
-        on-its-way m (f, to, d) = omega (arith, now, one (m .from) (m .to) f to)
+        on-its-way : (m : InFlight) → (m .from < p .N) × (m .to < p .N) × (m .due ≤ s .last + p .D) → ArrivesBy t m
+        on-its-way m (f, to, d) = omega (arith, now, one-at-least (m .from) (m .to) f to)
 
     -- an event that moves no emitter: a watch stays, or is renewed by what the emitter sent before its crash
     record Unmoved (t : ℕ) : Type 0 where
@@ -130,12 +138,11 @@ module _ (p : Params) where
           by : (j : ℕ) → Live s j → (s .node j) .emitter ≢ j → Dead s ((s .node j) .emitter)
               → ((s' .node j) .watch ≡ (s .node j) .watch)
               ⊎ (((s' .node j) .watch ≡ t + p .W) × (p .planned ((s .node j) .emitter) ≡ true → t < p .c ((s .node j) .emitter) + p .D))
-              → (s' .node j) .watch ≤ c + waits (p .gap j ((s' .node j) .emitter))
+              → LeavesBy c j (s' .node j)
           by j l ne d (inl q) = rw (u .emitter j, q) (w .watch j l ne d)
           by j l ne d (inr (q, sent)) =
               let ring = i .base .inN j ne in
-              let one : waits 1 ≤ waits (p .gap j ((s .node j) .emitter)) = more 1 _ (p .gap≥1 j _ (ring .0) (ring .1)) in
-              rw (u .emitter j, q) (omega (arith, sent (i .base .dead _ d .0), w .dead _ d, p .W≥, one))
+              rw (u .emitter j, q) (omega (arith, sent (i .base .dead _ d .0), w .dead _ d, p .W≥, one-at-least j _ (ring .0) (ring .1)))
 
       -- an emitter that is left has crashed, and the watch on it was not due yet
       left-by : (t x : ℕ) (gone : List InFlight) (list' : ℕ → Bool) (y : ℕ) → Leaves p s t x gone list' y → t ≤ c + waits (p .gap x ((s .node x) .emitter))
@@ -147,9 +154,7 @@ module _ (p : Params) where
           → Moves p s s' t x gone list' y o out → Since c s'
       moves-since t x gone list' y o out e = record {
         dead = λ k d. w .dead k (sym (same k) ∙ d);
-        watch = λ j l ne d. moves-all p s s' i t x gone list' y o out e
-            (λ j n n'. n' .alive ≡ true → n' .emitter ≢ j → Dead s (n' .emitter) → n' .watch ≤ c + waits (p .gap j (n' .emitter)))
-            (λ l ne d. omega (arith, on)) (w .watch) j l ne (sym (same _) ∙ d);
+        watch = λ j l ne d. moves-all p s s' i t x gone list' y o out e (λ j n n'. Waits c s j n') (λ l ne d. on) (w .watch) j l ne (sym (same _) ∙ d);
         observer = λ m h k. by m k (e .frame .came m h);
       }
         where
@@ -162,19 +167,18 @@ module _ (p : Params) where
               let was : ℕ = p .gap x ((s .node x) .emitter) in
               omega (arith, left-by t x gone list' y (e .leaves), more (was + 1) (p .gap x y) (omega (arith, e .leaves .back .past)))
 
-          by : (m : InFlight) → m .kind ≡ O → (m ∈ s .flight) ⊎ (m ∈ (o ∷ out)) → m .due + 2 * p .W ≤ c + waits (p .gap (m .from) (m .to)) + p .D
+          by : (m : InFlight) → m .kind ≡ O → (m ∈ s .flight) ⊎ (m ∈ (o ∷ out)) → ArrivesBy c m
           by m k (inl h) = w .observer m h k
           by m k (inr h) = new (List·Memᴰ·cases-cons h)
             where
-              new : (m ≡ o) ⊎ (m ∈ out) → m .due + 2 * p .W ≤ c + waits (p .gap (m .from) (m .to)) + p .D
+              new : (m ≡ o) ⊎ (m ∈ out) → ArrivesBy c m
               new (inl q) = rw (q, e .o-by, e .o-to) (omega (arith, e .o-within, on))
               new (inr h) = absurd (omega (arith, e .rs .kinds m h))
 
       alone-since : (t x : ℕ) (list' : ℕ → Bool) → Alone p s s' t x list' → Since c s'
       alone-since t x list' e = record {
         dead = λ k d. w .dead k (sym (same k) ∙ d);
-        watch = λ j l ne d. all (λ j n n'. n' .alive ≡ true → n' .emitter ≢ j → Dead s (n' .emitter) → n' .watch ≤ c + waits (p .gap j (n' .emitter)))
-            (λ l ne. absurd (ne refl)) (w .watch) j l ne (sym (same _) ∙ d);
+        watch = λ j l ne d. all (λ j n n'. Waits c s j n') (λ l ne. absurd (ne refl)) (w .watch) j l ne (sym (same _) ∙ d);
         observer = λ m h k. w .observer m (came0 (s .flight) m (e .frame .came m h)) k;
       }
         where
@@ -190,24 +194,28 @@ module _ (p : Params) where
   SinceLast s none = Unit {0}
   SinceLast s (at c) = Since c s
 
-  pub step-since : (s s' : View) → Inv p s → Near s → Inv p s' → (l : Last) (e : Step p s s') → SinceLast s l → SinceLast s' (after p s s' e l)
-  step-since s s' i near i' l (crash t k e) w = crash-since s s' i t k e near i'
-  step-since s s' i near i' none (drop m e) w = tt
-  step-since s s' i near i' none (idle m e) w = tt
-  step-since s s' i near i' none (beat m e) w = tt
-  step-since s s' i near i' none (watched m e) w = tt
-  step-since s s' i near i' none (report m a o e) w = tt
-  step-since s s' i near i' none (moves t x g a y o r e) w = tt
-  step-since s s' i near i' none (alone t x a e) w = tt
-  step-since s s' i near i' none (sends t x m e) w = tt
-  step-since s s' i near i' (at c) (drop m e) w = unmoved-since s s' i c w _ (quiet-unmoved s s' i _ (drop-quiet p s s' i m e))
-  step-since s s' i near i' (at c) (idle m e) w = unmoved-since s s' i c w _ (quiet-unmoved s s' i _ (idle-quiet p s s' i m e))
-  step-since s s' i near i' (at c) (beat m e) w = unmoved-since s s' i c w _ (quiet-unmoved s s' i _ (beat-quiet p s s' i m e))
-  step-since s s' i near i' (at c) (sends t x m e) w = unmoved-since s s' i c w _ (quiet-unmoved s s' i _ (sends-quiet p s s' i t x m e))
-  step-since s s' i near i' (at c) (watched m e) w = unmoved-since s s' i c w _ (watched-unmoved s s' i m e)
-  step-since s s' i near i' (at c) (report m a o e) w = unmoved-since s s' i c w _ (report-unmoved s s' i m a o e)
-  step-since s s' i near i' (at c) (moves t x g a y o r e) w = moves-since s s' i c w t x g a y o r e
-  step-since s s' i near i' (at c) (alone t x a e) w = alone-since s s' i c w t x a e
+  -- an event that is no crash leaves the last one where it was
+  module _ (s s' : View) where
+    keeps : (l : Last) → ((c : ℕ) → Since c s → Since c s') → SinceLast s l → SinceLast s' l
+    keeps none f w = tt
+    keeps (at c) f w = f c w
+
+    unmoved : (i : Inv p s) (t : ℕ) → Unmoved s s' i t → (l : Last) → SinceLast s l → SinceLast s' l
+    unmoved i t u l = keeps l (λ c w. unmoved-since s s' i c w t u)
+
+    quiet : (i : Inv p s) (t : ℕ) → Quiet p s s' t → (l : Last) → SinceLast s l → SinceLast s' l
+    quiet i t q = unmoved i t (quiet-unmoved s s' i t q)
+
+    pub step-since : Inv p s → Near s → Inv p s' → (l : Last) (e : Step p s s') → SinceLast s l → SinceLast s' (after p s s' e l)
+    step-since i near i' l (crash t k e) w = crash-since s s' i t k e near i'
+    step-since i near i' l (drop m e) w = quiet i _ (drop-quiet p s s' i m e) l w
+    step-since i near i' l (idle m e) w = quiet i _ (idle-quiet p s s' i m e) l w
+    step-since i near i' l (beat m e) w = quiet i _ (beat-quiet p s s' i m e) l w
+    step-since i near i' l (sends t x m e) w = quiet i _ (sends-quiet p s s' i t x m e) l w
+    step-since i near i' l (watched m e) w = unmoved i _ (watched-unmoved s s' i m e) l w
+    step-since i near i' l (report m a o e) w = unmoved i _ (report-unmoved s s' i m a o e) l w
+    step-since i near i' l (moves t x g a y o r e) w = keeps l (λ c w. moves-since s s' i c w t x g a y o r e) w
+    step-since i near i' l (alone t x a e) w = keeps l (λ c w. alone-since s s' i c w t x a e) w
 
   -- ---- once all that is due by c + 2 × W × f + D is done
 

@@ -15,7 +15,7 @@ use Rattle.model.proofs.WatchKept.{stays0, came0, covered-map, answered
 
 module _ (p : Params) (s s' : View) (i : Inv p s) where
   module _ (t k : ℕ) (e : Crash p s s' t k) where
-    crash-now : s .last ≤ t
+    pub crash-now : s .last ≤ t
     crash-now = omega (arith, i .base .undone k (e .live) (e .plan), e .at)
 
     pub crash-alike : Alike p s s' t
