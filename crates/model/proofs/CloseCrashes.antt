@@ -145,7 +145,8 @@ module _ (p : Params) where
               rw (u .emitter j, q) (omega (arith, sent (i .base .dead _ d .0), w .dead _ d, p .W≥, one-at-least j _ (ring .0) (ring .1)))
 
       -- an emitter that is left has crashed, and the watch on it was not due yet
-      left-by : (t x : ℕ) (gone : List InFlight) (list' : ℕ → Bool) (y : ℕ) → Leaves p s t x gone list' y → t ≤ c + waits (p .gap x ((s .node x) .emitter))
+      left-by : (t x : ℕ) (gone : List InFlight) (list' : ℕ → Bool) (y : ℕ) → Leaves p s t x gone list' y
+          → t ≤ c + waits (p .gap x ((s .node x) .emitter))
       left-by t x gone list' y e =
           let on : (s .node x) .watchOn ≡ true = i .timers x (e .live) .on (e .apart) .0 in
           omega (arith, e .least .watch≥ x (e .live) on, w .watch x (e .live) (e .apart) (leaves-late p s s' i t x gone list' y e .dead))

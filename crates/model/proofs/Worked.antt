@@ -122,10 +122,13 @@ pub record Rejoins (ring : List ℕ) (events : ℕ) (early late : List (List ℕ
   pub by : joinedBy (trip ring) 2 ≡ 14
   pub end : nextEvent (trip ring) (after (trip ring) 200) ≡ none
 
--- node 4, in the mixed ring node 5, has come to observe the survivor before it, whose observer is still a crashed node; then all three are
--- neighbours in the ring 0, 4, 5
-pub trip-ends : Rejoins [] 81 ((5 ∷ 1 ∷ []) ∷ (0 ∷ 5 ∷ []) ∷ (4 ∷ 0 ∷ []) ∷ []) ((5 ∷ 4 ∷ []) ∷ (0 ∷ 5 ∷ []) ∷ (4 ∷ 0 ∷ []) ∷ [])
-    × Rejoins mixed 82 ((5 ∷ 4 ∷ []) ∷ (0 ∷ 1 ∷ []) ∷ (4 ∷ 0 ∷ []) ∷ []) ((5 ∷ 4 ∷ []) ∷ (0 ∷ 5 ∷ []) ∷ (4 ∷ 0 ∷ []) ∷ [])
+-- the neighbours of 0, 4 and 5 in the ring 0, 4, 5
+abbrev pub rejoined : List (List ℕ)
+rejoined = (5 ∷ 4 ∷ []) ∷ (0 ∷ 5 ∷ []) ∷ (4 ∷ 0 ∷ []) ∷ []
+
+-- node 4, in the mixed ring node 5, has come to observe the survivor before it, whose observer is still a crashed node; then all are joined
+pub trip-ends : Rejoins [] 81 ((5 ∷ 1 ∷ []) ∷ (0 ∷ 5 ∷ []) ∷ (4 ∷ 0 ∷ []) ∷ []) rejoined
+    × Rejoins mixed 82 ((5 ∷ 4 ∷ []) ∷ (0 ∷ 1 ∷ []) ∷ (4 ∷ 0 ∷ []) ∷ []) rejoined
 unfolding trip neighbours keep numbers listed listing unlisted passing round place ahead firstUnlisted back next count powers jumps targets reports opening
     onHeartbeat onObserver onReport onHeartbeatDue leaving onMessage ringOrder orderOf hits among alive start crashEntries messageEntries
     timerEntry timerEntries pending earlier first upTo nextEvent delayIn delayOf numbered taken without received apply fits tried try left

@@ -227,7 +227,8 @@ unfolding keep among
 others-have k m [] ne h = h
 others-have k m (x ∷ xs) ne h = by (eqb x k) refl (eqb x m) refl h (others-have k m xs ne)
   where
-    by : (a : Bool) → eqb x k ≡ a → (b : Bool) → eqb x m ≡ b → (b || among xs m) ≡ true → (among xs m ≡ true → among (keep (other k) xs) m ≡ true)
+    by : (a : Bool) → eqb x k ≡ a → (b : Bool) → eqb x m ≡ b → (b || among xs m) ≡ true
+        → (among xs m ≡ true → among (keep (other k) xs) m ≡ true)
         → among (cond (not a) (x ∷ keep (other k) xs) (keep (other k) xs)) m ≡ true
     by true p true q h ih = absurd (ne (sym (eqb-true x m q) ∙ eqb-true x k p))
     by true p false q h ih = ih h
