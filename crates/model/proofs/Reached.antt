@@ -6,11 +6,10 @@ use mathlib.Core.List.{List}
 use Prim.Native.Nat.{ℕ, zero, suc, _+_, _*_, _≤_, _<_}
 use native.Mathlib.Omega.{arith}
 use borrow.Author.Tests.{not-false}
-use lib.ListN.{length, take, length-take}
-use Rattle.ring.proofs.Gaps.{back-many}
+use lib.ListN.{take, length-take}
 use Rattle.node.specs.Node.{due}
-use Rattle.plans.specs.Plan.{Crash, Plan, nodesOf, hits}
-use Rattle.plans.proofs.Rows.{length-nodes}
+use Rattle.plans.specs.Plan.{Crash, Plan}
+use Rattle.plans.proofs.Rows.{hits-many}
 use Rattle.model.specs.Platform.{State, alive, survivors, nodeOf, start, apply, Outcome, try, left, steps, after}
 use Rattle.plans.specs.Plain.{rowAt, Plain}
 use Rattle.model.specs.Range.{Accepted, NotBefore, Sound}
@@ -121,11 +120,10 @@ module _ (p : Plan) (ac : Accepted p) where
 
   -- crashed nodes in a row are no more than the C lines done
   in-a-row : (s : State) → InARow (P p ac) (view p s) (s .done)
-  unfolding alive hits
+  unfolding alive
   in-a-row s j g jN gN dead =
       let rows : List Crash = take (s .done) (p .crashes) in
-      let few : g ≤ length (nodesOf rows) = back-many (p .n) (pl .order) (nodesOf rows) j g jN gN (λ k h. not-false _ (dead k h)) in
-      omega (arith, length-nodes rows, length-take (s .done) (p .crashes))
+      omega (arith, hits-many (p .n) (pl .order) rows j g jN gN (λ k h. not-false _ (dead k h)), length-take (s .done) (p .crashes))
 
   one-since : (s : State) → Sound p s → Inv (P p ac) (view p s) → SinceLast (P p ac) (view p s) (lastOf p (s .done)) → (q : Outcome) → Tried p pl s q
       → SinceLast (P p ac) (view p (left s q)) (lastOf p ((left s q) .done))

@@ -164,23 +164,23 @@ pub trip-joins : (j : ℕ) → j < 6
 trip-joins j h =
     (joins [] _ _ _ (trip-accepted .0) (trip-ends .0) j h, joins mixed _ _ _ (trip-accepted .1) (trip-ends .1) j h)
 
--- neither 2 × W × (f - 1) + D, which makes 10 here, nor W × f + D, which makes 8, would do: no event due by 10 is left after those 81, and
--- node 0 still sends to node 1
-still-1 : (neighbours [] 81 0 ≡ 5 ∷ 1 ∷ []) × (nextSurvivor (trip []) ((after (trip []) 81) .done) 0 ≡ 4)
-unfolding trip neighbours keep numbers listed listing unlisted passing round place ahead firstUnlisted back next count powers jumps targets reports opening
+next-is-4 : nextSurvivor (trip []) ((after (trip []) 81) .done) 0 ≡ 4
+unfolding trip keep numbers listed listing unlisted passing round place ahead firstUnlisted back next count powers jumps targets reports opening
     onHeartbeat onObserver onReport onHeartbeatDue leaving onMessage ringOrder orderOf hits among alive nextSurvivor start crashEntries messageEntries
     timerEntry timerEntries pending earlier first upTo nextEvent delayIn delayOf numbered taken without received apply fits tried try left
     steps after
-still-1 = (refl, refl)
+next-is-4 = refl
 
+-- neither 2 × W × (f - 1) + D, which makes 10 here, nor W × f + D, which makes 8, would do: no event due by 10 is left after those 81, and
+-- node 0 still sends to node 1
 pub too-soon : NoneLeftBy (trip []) (after (trip []) 81) 10 × (JoinedAt (trip []) (after (trip []) 81) 0 → ⊥)
 unfolding NoneLeftBy neighbours
 too-soon =
     let pl : Plain (trip []) = trip-accepted .0 .plain in
     let s : State = after (trip []) 81 in
     let now : NotBefore (trip []) s 11 11 11 = subst (λ t. NotBefore (trip []) s t t t) (trip-ends .0 .tick) (after-range (trip []) pl 81 .past) in
-    let observer : (nodeOf s 0) .observer ≡ 1 = ap (λ (l : List ℕ). getD l 1 0) (still-1 .0) in
-    (none-left-before (trip []) pl s 11 now, λ joined. omega (arith, joined .observer, observer, still-1 .1))
+    let observer : (nodeOf s 0) .observer ≡ 1 = ap (λ (l : List (List ℕ)). getD (getD l 0 []) 1 0) (trip-ends .0 .not-yet) in
+    (none-left-before (trip []) pl s 11 now, λ joined. omega (arith, joined .observer, observer, next-is-4))
 
 -- ---- a file in which a node leaves its emitter by report: P,9,3,10,7,47 with six crashes. Node 6 takes node 2 at tick 46, by its expired
 -- watch; the 167th event, at tick 47, is a report of node 2

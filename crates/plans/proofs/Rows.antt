@@ -12,8 +12,9 @@ use lib.ListN.{length, getD, length-append, length-map}
 use Rattle.limits.specs.Limits.{mostNumber, mostDelays}
 use Rattle.plans.specs.Plan.{Crash, Delay, Plan, within, crashRange, delayRange, risingFrom, rising, later, hits, noneTwice, crashOrder, above}
 use Rattle.plans.specs.Plan.{nodesOf, delayOrder, fewDelays, every}
-use Rattle.ring.specs.Ring.{place, among, eachOnce}
+use Rattle.ring.specs.Ring.{place, among, eachOnce, InOrder}
 use Rattle.ring.proofs.Once.{among-at, among-snoc, found, once-snoc, once-start, once-apart}
+use Rattle.ring.proofs.Gaps.{gap, back-many}
 
 -- ---- a test that every row passes
 
@@ -87,6 +88,12 @@ hit-where rows z k h =
     let f = found (nodesOf rows) k h in
     let inside : place (nodesOf rows) k < length rows = rw (← length-nodes rows) (f .inside) in
     (place (nodesOf rows) k, inside, sym (node-at rows z (place (nodesOf rows) k) inside) ∙ f .there)
+
+-- rows that hit all nodes up to g steps back from j are at least g
+pub hits-many : (n : ℕ) {order : List ℕ} (o : InOrder n order) (rows : List Crash) (j g : ℕ) → j < n → g ≤ n
+    → ((k : ℕ) → gap n o j k ≤ g → hits rows k ≡ true) → g ≤ length rows
+unfolding hits
+hits-many n o rows j g jN gN all = rw (length-nodes rows) at (back-many n o (nodesOf rows) j g jN gN all)
 
 pub hits-snoc : (rows : List Crash) (r : Crash) (k : ℕ) → hits (rows ++ (r ∷ [])) k ≡ (hits rows k || eqb (r .node) k)
 unfolding hits
