@@ -1,5 +1,5 @@
--- THE THREE DEMANDS of the customer's terms, and what requests 104 and 106 of document 02 claim, each as a record of what holds of the calls'
--- definitions, which the calls' contracts promise for every input. proofs/Theorems.antt proves them. Assumes nothing.
+-- THE THREE DEMANDS of the customer's terms, and what request 104 of document 02 claims, each as a record of what holds of the calls' definitions,
+-- which the calls' contracts promise for every input; what request 106 claims is a part of the third. proofs/Theorems.antt proves them. Assumes nothing.
 use mathlib.Core.Path.{_≡_}
 use mathlib.Core.Logic.{_≢_, _⊎_}
 use mathlib.Core.Bool.{Bool, true, false, cond, not, _&&_}

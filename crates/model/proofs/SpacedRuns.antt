@@ -150,7 +150,7 @@ module _ (p : Params) where
     ahead = λ k h. (i .base .listed _ k (i .base .between ((s .node j) .observer) k (rw answers h))) .dead;
   }
 
-  -- and lists exactly the crashed nodes
+  -- j is joined, and lists exactly the crashed nodes
   pub record SettledIn (s : View) (j : ℕ) : Type 0 where
     pub sound : (k : ℕ) → Lists s j k → Dead s k
     pub full : (k : ℕ) → Dead s k → Lists s j k
