@@ -1,5 +1,5 @@
 /*
- * Five nodes in one process. A message travels for 1 to 3 ticks, as the 8 bytes that a call wrote. Bytes that no node sent
+ * Five nodes in one process. A message travels for 1 to 3 ticks, as the 16 bytes that a call wrote. Bytes that no node sent
  * are dropped. Node 2 stops at tick 100. The program goes from one tick at which there is something to do to the next,
  * where a host with a clock would sleep. At the end each live node is printed.
  * Build: rt staticlib host && gcc -Iinclude include/host.c target/staticlib/libhost.a -o target/host
@@ -66,7 +66,7 @@ static void deliver(const uint8_t *m, uint64_t tick) {
         return;
     }
     uint64_t answer = kelbraut_node_deliver(nodes[to], KELBRAUT_RECORD, tick, kelbraut_kind(m), kelbraut_sender(m),
-                                            kelbraut_subject(m), sent, sizeof sent);
+                                            kelbraut_subject(m), kelbraut_list(m), sent, sizeof sent);
     if (answer == KELBRAUT_BAD_MESSAGE) {
         printf("tick %" PRIu64 ": bytes for node %d are dropped\n", tick, to);
         return;

@@ -6,8 +6,9 @@
  *
  * Up to 64 nodes stand in a ring. Each sends heartbeats to the node after it, its observer, and watches the node before
  * it, its emitter. A node that hears nothing from its emitter for the time-out puts it on its dead list, watches the next
- * node back, and tells the others by reports; one to which its emitter is reported does so at once. A node that is
- * rehearsed in a ring in number order does what a node in the field does. Time is counted in ticks.
+ * node back, and tells the others by reports; one to which its emitter is reported does so at once. A heartbeat carries its
+ * sender's list, from which the observer adds to its own. A node that is rehearsed in a ring in number order does what a
+ * node in the field does. Time is counted in ticks.
  *
  * The calls have no state of their own, allocate nothing and always return: all that they know stands in the bytes that
  * the program lends to each call. What a call may write must not overlap with anything else that is lent to it, and no
@@ -39,17 +40,18 @@ extern "C" {
 #define KELBRAUT_BAD_STORE 7      /* not 65,536 bytes, a field out of range, or an unused byte not zero; part of stores: no
                                      whole number of them, or one of them is out of range */
 #define KELBRAUT_OVERFULL 8       /* event: more than 2,048 messages would be in flight after it */
-#define KELBRAUT_SHORT_PART 9     /* message part under 56 bytes, log part under 80, file part under 65,536; also where
+#define KELBRAUT_SHORT_PART 9     /* message part under 112 bytes, log part under 80, file part under 65,536; also where
                                      less would do */
 #define KELBRAUT_BAD_RECORD 10    /* not 64 bytes, or a field out of range */
-#define KELBRAUT_BAD_MESSAGE 11   /* unknown kind, or the sender or a report's subject is no other node of the ring */
+#define KELBRAUT_BAD_MESSAGE 11   /* unknown kind, the sender or a report's subject is no other node of the ring, or the list
+                                     has a bit from N on, whatever the kind */
 #define KELBRAUT_BAD_TICK 12      /* before the record's last tick, or above 1,000,000 */
 #define KELBRAUT_BAD_RING 13      /* Q line: not each node once */
 #define KELBRAUT_BAD_PART 14      /* part of stores: empty, or longer than eight of them */
 #define KELBRAUT_BAD_TURN 15      /* length of a turn: outside 1 to 1,000 */
 
 /* Kinds of message. */
-#define KELBRAUT_HEARTBEAT 'H' /* the sender lives; goes to its observer */
+#define KELBRAUT_HEARTBEAT 'H' /* the sender lives, and the nodes of its list are dead; goes to its observer */
 #define KELBRAUT_OBSERVER 'O'  /* the sender is the receiver's new observer */
 #define KELBRAUT_REPORT 'R'    /* the subject is dead; where it is the receiver's emitter, the receiver leaves it */
 
@@ -68,7 +70,7 @@ extern "C" {
  *         uint64_t tick = sleep_until(kelbraut_next_due(node));
  *         while (receive(m)) {
  *             answer = kelbraut_node_deliver(node, sizeof node, tick, kelbraut_kind(m), kelbraut_sender(m),
- *                                            kelbraut_subject(m), sent, sizeof sent);
+ *                                            kelbraut_subject(m), kelbraut_list(m), sent, sizeof sent);
  *             if (answer == KELBRAUT_ACCEPTED) {
  *                 send_all(sent);
  *             } else if (answer != KELBRAUT_BAD_MESSAGE) {
@@ -95,15 +97,16 @@ extern "C" {
  * Threads: calls on different records may run at the same time, each with a message part of its own. Those on one record
  * come one after another.
  *
- * Wire: the 8 bytes of a message can be sent as they are. Each field is one byte, so there is no byte order and no padding.
+ * Wire: the 16 bytes of a message can be sent as they are. The list, in the last eight, has its lowest byte first, whatever
+ * the machine's own byte order; kelbraut_list reads it so. Each other field is one byte, and the bytes between are zero.
  *
  * Library: `rt staticlib host` proves it and builds target/staticlib/libhost.a, for x86-64 Linux, in about a minute.
  */
 
 /* Sizes in bytes: a record, a message, and the message part of a call, which has places for seven messages. */
 #define KELBRAUT_RECORD 64
-#define KELBRAUT_MESSAGE 8
-#define KELBRAUT_MESSAGES 56
+#define KELBRAUT_MESSAGE 16
+#define KELBRAUT_MESSAGES 112
 
 /*
  * The greatest tick; a call with a later one is refused by 12. So a ring runs for nearly 17 minutes with ticks of a
@@ -146,29 +149,36 @@ extern "C" {
 uint64_t kelbraut_node_open(uint8_t *record, size_t record_size, uint64_t number, uint64_t nodes, uint64_t h, uint64_t w);
 
 /*
- * Delivers a message that node `sender` sent to this record's node. On a heartbeat and on a new observer's message the
- * subject is not looked at. A report of the node's emitter does what its expired watch would do: the node watches the next
- * one back, for twice `w` at first, and sends it a new observer's message and then reports; or it is alone, both timers
- * off, and sends nothing. So look at kelbraut_next_due again after a delivery. Writes the record and the first 56 bytes of
- * the message part.
+ * Delivers a message that node `sender` sent to this record's node. Only a report's subject counts, and only a heartbeat's
+ * list: on another kind the subject may be any number, and the list any that has no bit from N on.
+ *
+ *   - A heartbeat of the node's emitter renews the watch, and the nodes of `list` are added to the node's own, but for the
+ *     node itself and the sender. One of another node does nothing. Neither sends anything.
+ *   - A new observer's message makes the sender the observer, with a heartbeat due at once.
+ *   - The first report of a subject lists it and is passed on, also where a heartbeat has brought it onto the list before;
+ *     later ones do nothing. A report of the node's emitter does what its expired watch would do: the node watches the next
+ *     one back, for twice `w` at first, and sends it a new observer's message and then reports; or it is alone, both timers
+ *     off, and sends nothing.
+ *
+ * So look at kelbraut_next_due again after a delivery. Writes the record and the first 112 bytes of the message part.
  * Answers 0, 10, 12, 11 or 9.
  */
 uint64_t kelbraut_node_deliver(uint8_t *record, size_t record_size, uint64_t tick, uint64_t kind, uint64_t sender,
-                               uint64_t subject, uint8_t *messages, size_t messages_size);
+                               uint64_t subject, uint64_t list, uint8_t *messages, size_t messages_size);
 
 /*
  * Does the watch if it is due by this tick, else the heartbeat if that is due, else nothing: at most one of them, so call
- * it until none is due (kelbraut_next_due) or it sends nothing. Writes the record and the first 56 bytes of the message
+ * it until none is due (kelbraut_next_due) or it sends nothing. Writes the record and the first 112 bytes of the message
  * part.
  * Answers 0, 10, 12 or 9.
  */
 uint64_t kelbraut_node_timers(uint8_t *record, size_t record_size, uint64_t tick, uint8_t *messages, size_t messages_size);
 
-/* The number in `size` bytes of a record from `place` on, the lowest byte first; docs/LAYOUTS.md has the places. */
-static inline uint64_t kelbraut_field(const uint8_t record[KELBRAUT_RECORD], int place, int size) {
+/* The number in `size` bytes of a record or a message from `place` on, the lowest first; docs/LAYOUTS.md has the places. */
+static inline uint64_t kelbraut_field(const uint8_t *bytes, int place, int size) {
     uint64_t number = 0;
     for (int i = size - 1; i >= 0; i--) {
-        number = number << 8 | record[place + i];
+        number = number << 8 | bytes[place + i];
     }
     return number;
 }
@@ -186,6 +196,14 @@ static inline uint8_t kelbraut_observer(const uint8_t record[KELBRAUT_RECORD]) {
 /* Its dead list: bit i stands for node i. */
 static inline uint64_t kelbraut_dead_list(const uint8_t record[KELBRAUT_RECORD]) {
     return kelbraut_field(record, 8, 8);
+}
+
+/*
+ * Its mark: the nodes on its list that were reported to it, or that it gave up itself. Of these it passes no report on any
+ * more; the others on its list it has from heartbeats alone.
+ */
+static inline uint64_t kelbraut_mark(const uint8_t record[KELBRAUT_RECORD]) {
+    return kelbraut_field(record, 32, 8);
 }
 
 /*
@@ -224,7 +242,7 @@ static inline uint64_t kelbraut_next_due(const uint8_t record[KELBRAUT_RECORD]) 
 }
 
 /*
- * The messages that an accepted call sends stand one after another from the start of the message part, 8 bytes each, in
+ * The messages that an accepted call sends stand one after another from the start of the message part, 16 bytes each, in
  * the order of sending. A place whose kind is 0 is unused, and so are those after it. The receiver's record, opened with
  * the same number of nodes, never refuses such a message by 11.
  */
@@ -243,6 +261,11 @@ static inline uint8_t kelbraut_sender(const uint8_t message[KELBRAUT_MESSAGE]) {
 /* 0 on a heartbeat and on a new observer's message. */
 static inline uint8_t kelbraut_subject(const uint8_t message[KELBRAUT_MESSAGE]) {
     return message[3];
+}
+
+/* On a heartbeat its sender's dead list, as it was when it was sent; 0 on the other kinds. */
+static inline uint64_t kelbraut_list(const uint8_t message[KELBRAUT_MESSAGE]) {
+    return kelbraut_field(message, 8, 8);
 }
 
 /*

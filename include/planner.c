@@ -4,13 +4,14 @@
  *
  * Heartbeats go out every H ticks, so that the answer moves with the tick of the crash, and the worst may come one tick
  * after the best. Each W is therefore rehearsed with all C lines shifted together by 0 to H - 1 ticks, a whole period. Its
- * row has the worst and the best of these, each with its shift.
+ * row has the worst and the best of these, each with its shift, and last the bound that is proved for any order of arrivals:
+ * with f nodes crashed in all and m left, 2 x W x f + D + (m - 1) x (H + D) ticks after the last crash.
  *
  *     planner [--each] [W ..] < RUN-FILE
  *
  * Without a W it takes H + D, then H more each time, and at last the file's own. With --each it prints a row for each
- * shift. In the place of ticks stands `not yet` where the end tick came first, `never` where a list stays short for good,
- * and `refused` where the shifted file or an event is refused. Exit status: 0 where all was rehearsed, else 1.
+ * shift. In the place of ticks stands `not yet` where the end tick came first and `refused` where the shifted file or an
+ * event is refused. Exit status: 0 where all was rehearsed, else 1.
  *
  * Build: rt staticlib planner
  *        gcc -std=c11 -O2 -Iinclude include/planner.c target/staticlib/libplanner.a -o target/planner
@@ -23,19 +24,19 @@
 #include "kelbraut.h"
 
 #define BUDGET 1024 /* events between two looks at the lists */
+#define MOST_W 65535
 
 /* What is read of a store: the first byte of each field, by docs/LAYOUTS.md. */
 enum {
-    N = 0, D = 1, H = 2, W = 4, ROWS = 6, ROWS_DONE = 7, END = 8, LAST_TICK = 12, IN_FLIGHT = 26,
-    EMITTERS = 128, LISTS = 768, ROW_TICKS = 1792, ROW_NODES = 2048, KINDS = 36928, RECEIVERS = 41024, SUBJECTS = 43072
+    N = 0, D = 1, H = 2, W = 4, ROWS = 6, ROWS_DONE = 7, END = 8, LAST_TICK = 12, LISTS = 768, ROW_TICKS = 1792, ROW_NODES = 2048
 };
 
-/* From good to bad. KNOWN: every survivor lists every crashed node. NEVER: some will not. NOT_YET: neither is so yet. */
-enum kind { KNOWN, NOT_YET, NEVER, REFUSED };
+/* From good to bad. KNOWN: every survivor lists every crashed node. */
+enum kind { KNOWN, NOT_YET, REFUSED };
 
 struct outcome {
     enum kind kind;
-    uint64_t ticks;  /* from the last crash until it was KNOWN or NEVER; on NOT_YET until the end tick */
+    uint64_t ticks;  /* from the last crash until it was KNOWN; on NOT_YET until the end tick */
     uint64_t shift;
     uint64_t answer; /* on REFUSED: of the refused call */
 };
@@ -63,20 +64,19 @@ static uint64_t lacking(unsigned node) {
     return has(crashed, node) ? 0 : crashed & ~number(store, LISTS + 8 * node, 8);
 }
 
-/*
- * How the lists stand. A list only grows: when the node's watch expires, or when a report arrives of a node that it lacks.
- * No watch on a live node expires, as no live node is ever listed. So once it is KNOWN or NEVER it stays so.
- */
+/* How the lists stand. A list only grows, so once it is KNOWN it stays so. */
 static enum kind standing(void) {
-    int complete = store[ROWS_DONE] == plan[ROWS], to_come = !complete;
+    uint64_t missing = 0;
     for (unsigned i = 0; i < plan[N]; i++) {
-        complete &= lacking(i) == 0;
-        to_come |= !has(crashed, i) && has(crashed, store[EMITTERS + i]);
+        missing |= lacking(i);
     }
-    for (unsigned i = 0; i < number(store, IN_FLIGHT, 2); i++) {
-        to_come |= store[KINDS + i] == KELBRAUT_REPORT && has(lacking(store[RECEIVERS + i]), store[SUBJECTS + i]);
-    }
-    return complete ? KNOWN : to_come ? NOT_YET : NEVER;
+    return store[ROWS_DONE] == plan[ROWS] && missing == 0 ? KNOWN : NOT_YET;
+}
+
+/* By how many ticks after the last crash it is proved to be KNOWN, where no event is refused. */
+static uint64_t bound(uint64_t w) {
+    uint64_t deaths = plan[ROWS], left = plan[N] - deaths;
+    return 2 * w * deaths + plan[D] + (left - 1) * (number(plan, H, 2) + plan[D]);
 }
 
 static const char *after_line(const char *line) {
@@ -102,7 +102,7 @@ static uint64_t open_shifted(uint64_t w, uint64_t shift) {
 }
 
 /*
- * Rehearses until it is KNOWN or NEVER, or to the end tick. A run is far quicker than as many steps. Where it is so after
+ * Rehearses until it is KNOWN, or to the end tick. A run is far quicker than as many steps. Where it is so after
  * a run, that run is taken back and done by halves, down to the single event after which it is so.
  */
 static struct outcome rehearse(uint64_t w, uint64_t shift) {
@@ -111,12 +111,12 @@ static struct outcome rehearse(uint64_t w, uint64_t shift) {
         memcpy(before, store, sizeof store);
         answer = kelbraut_run(store, sizeof store, budget, &events, &spent);
         enum kind kind = standing();
-        if (kind != NOT_YET && budget > 1) { /* also where a later event of this run was refused */
+        if (kind == KNOWN && budget > 1) { /* also where a later event of this run was refused */
             memcpy(store, before, sizeof store);
             budget /= 2;
             answer = KELBRAUT_ACCEPTED;
-        } else if (kind != NOT_YET || (answer == KELBRAUT_ACCEPTED && !spent)) {
-            uint64_t tick = number(store, kind == NOT_YET ? END : LAST_TICK, 4);
+        } else if (kind == KNOWN || (answer == KELBRAUT_ACCEPTED && !spent)) {
+            uint64_t tick = number(store, kind == KNOWN ? LAST_TICK : END, 4);
             return (struct outcome){kind, tick - number(store, ROW_TICKS + 4 * (plan[ROWS] - 1u), 4), shift, answer};
         }
     }
@@ -169,7 +169,7 @@ static void print_lacking(void) {
 }
 
 static void print_outcome(struct outcome o) {
-    static const char *const words[] = {[NOT_YET] = "not yet", [NEVER] = "never", [REFUSED] = "refused"};
+    static const char *const words[] = {[NOT_YET] = "not yet", [REFUSED] = "refused"};
     if (o.kind == KNOWN) {
         printf("%10" PRIu64 "%8" PRIu64, o.ticks, o.shift);
     } else {
@@ -184,12 +184,17 @@ static void print_row(uint64_t w, struct outcome first, const struct outcome *se
     if (second != NULL) {
         print_outcome(*second);
     }
+    if (w < number(plan, H, 2) + plan[D] || w > MOST_W) {
+        printf("%10s", "none");
+    } else {
+        printf("%10" PRIu64, bound(w));
+    }
     if (first.kind == REFUSED) {
         printf("  ");
         print_refusal(stdout, first.answer);
-    } else if (first.kind != KNOWN) {
+    } else if (first.kind == NOT_YET) {
         print_lacking();
-        printf(" %s, after %" PRIu64 " ticks", first.kind == NEVER ? "for good" : "at the end tick", first.ticks);
+        printf(" at the end tick, after %" PRIu64 " ticks", first.ticks);
     }
     printf("\n");
     fflush(stdout);
@@ -224,7 +229,7 @@ static int print_table(int each, char **time_outs) {
     printf("Ticks from the last crash until every survivor lists ");
     print_nodes(crashed);
     printf(", with the crashes shifted by 0 to %" PRIu64 " ticks\n", h - 1);
-    printf(each ? "     W     ticks   shift\n" : "     W     worst   shift      best   shift\n");
+    printf(each ? "     W     ticks   shift     bound\n" : "     W     worst   shift      best   shift     bound\n");
     for (char **w = time_outs; *w != NULL; w++) {
         refused |= try_time_out(strtoul(*w, NULL, 10), each);
     }

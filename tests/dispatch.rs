@@ -424,7 +424,8 @@ fn part_lengths(seen: &mut Seen) -> Result<(), String> {
     Ok(())
 }
 
-/// One store of a part is damaged, in its first or its last bytes: the whole call is refused, though that store would get no turn.
+/// One store of a part is damaged, in its first or its last bytes or in a mark, or a message of it carries a node from N on: the whole call is
+/// refused, though that store would get no turn.
 fn damaged(seen: &mut Seen) -> Result<(), String> {
     let good: Vec<Vec<u8>> = [SIX, ONE, NONE, EIGHT, ONE, EIGHT, NONE, SIX].map(opened).to_vec();
     let places = |stores: usize| (0..stores).map(move |index| (stores, index));
@@ -432,8 +433,10 @@ fn damaged(seen: &mut Seen) -> Result<(), String> {
         let store = &good[index];
         let mut last_byte = store.clone();
         last_byte[STORE_BYTES - 1] = 1;
-        let bounds = [(layout::NODES, 65), (layout::NEXT_NUMBER, MAX_NEXT_NUMBER + 1)].map(|(field, number)| changed(store, field, number));
-        for bytes in [last_byte, vec![0; STORE_BYTES]].into_iter().chain(bounds) {
+        let bounds = [(layout::NODES, 65), (layout::NEXT_NUMBER, MAX_NEXT_NUMBER + 1), (layout::MARK, 2)]
+            .map(|(field, number)| changed(store, field, number));
+        let carried = changed(&reached(EIGHT.as_bytes(), 2), layout::MESSAGE_LIST, 4);
+        for bytes in [last_byte, vec![0; STORE_BYTES], carried].into_iter().chain(bounds) {
             let mut part = good[..stores].to_vec();
             part[index] = bytes;
             for (length, turns, number) in [(1, 0, 7), (1_000, 1, 7), (2, u64::MAX, 7), (0, 1, 15)] {

@@ -18,7 +18,7 @@ macro_rules! mistakes {
             $($name,)*
         }
 
-        pub const MISTAKES: [Mistake; 79] = [$($name,)*];
+        pub const MISTAKES: [Mistake; 83] = [$($name,)*];
     };
 }
 
@@ -50,6 +50,8 @@ mistakes! {
     TestedAtEachTurn,
     TestedAfterTheCall,
     DamagedSkipped,
+    MarksNotTested,
+    CarriedNotTested,
     // What a refused call leaves.
     GivenOfRefusedCall,
     EventsOfRefusedCall,
@@ -92,6 +94,8 @@ mistakes! {
     RefusedWithoutEventsNotCounted,
     FinishedMovesTheTick,
     LastStoreNotKept,
+    MarksNotKept,
+    CarriedNotKept,
     // What is answered.
     GivenAsAsked,
     EventsOfNextStore,
@@ -159,6 +163,23 @@ fn bad_length(length: u64) -> bool {
     }
 }
 
+/// Whether a store is out of range, as far as the call looks at it.
+fn out_of_range(bytes: &[u8]) -> bool {
+    let mut seen = bytes.to_vec();
+    if is_made(MarksNotTested) {
+        forget(&mut seen, layout::MARK, 64);
+    }
+    if is_made(CarriedNotTested) {
+        forget(&mut seen, layout::MESSAGE_LIST, (layout::get(bytes, layout::MESSAGES, 0) as usize).min(MAX_IN_FLIGHT));
+    }
+    !store::check(&seen)
+}
+
+/// Puts the first places of a field to zero.
+fn forget(bytes: &mut [u8], field: layout::Field, places: usize) {
+    (0..places).for_each(|place| layout::put(bytes, field, place, 0));
+}
+
 /// Whether number 7 is given before any turn.
 fn bad_store(part: &[u8], turns: u64) -> bool {
     let stores = part.len() / STORE_BYTES;
@@ -172,7 +193,7 @@ fn bad_store(part: &[u8], turns: u64) -> bool {
             || is_made(DamagedSkipped))
     };
     let odd = part.len() % STORE_BYTES > 0 && !is_made(EndOfPartNotLookedAt) || part.is_empty() && is_made(EmptyGetsSeven);
-    odd || part.chunks_exact(STORE_BYTES).enumerate().any(|(index, bytes)| tested(index, bytes) && !store::check(bytes))
+    odd || part.chunks_exact(STORE_BYTES).enumerate().any(|(index, bytes)| tested(index, bytes) && out_of_range(bytes))
 }
 
 /// The number of the refusal before any turn, 0 where there is none.
@@ -408,6 +429,12 @@ fn keep(part: &mut [u8], call: &mut Turns) {
         bytes.copy_from_slice(&held.encode());
         if is_made(FinishedMovesTheTick) && call.events[index] > 0 && !call.event_left(index) {
             layout::put(bytes, layout::LAST_TICK, 0, layout::get(bytes, layout::END, 0));
+        }
+        if is_made(MarksNotKept) {
+            forget(bytes, layout::MARK, 64);
+        }
+        if is_made(CarriedNotKept) {
+            forget(bytes, layout::MESSAGE_LIST, MAX_IN_FLIGHT);
         }
     }
 }

@@ -1,19 +1,20 @@
-//! Demand 3 and request 106 over all runs of small rings, by the simulator's search: every delay of every message, every crash at every tick.
-//! Nothing may be found with W = H + D or more; with W = H + D − 1, and by wrong rules, something has to be. At each move the number passed
-//! has to be the count of the listed nodes from the one left back to the new emitter. Most rings are in the order of their numbers, some in
-//! another. There too a tick goes by number, so that what it does is not what it does to the nodes renamed.
+//! Demand 3 and requests 106 and 107 over all runs of small rings, by the simulator's search: every delay of every message, every crash at
+//! every tick. Nothing may be found with W = H + D or more; with W = H + D − 1, and by wrong rules, something has to be. At each move the
+//! number passed has to be the count of the listed nodes from the one left back to the new emitter, and every node reports a subject once.
+//! Most rings are in the order of their numbers, some in another. There too a tick goes by number, so that what it does is not what it does
+//! to the nodes renamed.
 //!
-//! In none of these rings a report of the emitter moves a node. That takes more nodes, and the search then has fewer choices: all messages
-//! take D ticks, and only the nodes that are named crash, at any tick.
+//! In none of these rings a report of the emitter moves a node, nor does a list go by heartbeats from node to node. That takes more nodes, and
+//! the search then has fewer choices: all messages take D ticks, and only the nodes that are named crash, at any tick.
 //!
 //! Usage: exhaust                      the table
 //!        exhaust N H W D END [NODE..] one search, in the order of the nodes named or of the numbers; writes a run in which something is
 //!                                     found, as a run file
 
-use simulator::exhaust::{Finding, Found, Outcome, Rules, Search};
+use simulator::exhaust::{Finding, Found, Late, Outcome, Rules, Search};
 use simulator::plan::Plan;
 use simulator::platform::{Platform, Step};
-use simulator::settle;
+use simulator::settle::{self, Claim};
 use std::process::ExitCode;
 use std::time::Instant;
 
@@ -79,8 +80,16 @@ const REPORTED: [(u8, &[u8], u32, u32, &[u8]); 6] = [
     (8, &[], 1, 5, &[0, 1, 2, 3, 5]),
 ];
 
+/// The same where the relays of a report may all die: 0 and the nodes one, two and four ahead of 1.
+const DYING: [(u8, &[u8], u32, u32, &[u8]); 4] = [
+    (9, &[], 4, 1, &[0, 2, 3, 5]),
+    (9, &[], 3, 3, &[0, 2, 3, 5]),
+    (9, &[], 1, 3, &[0, 2, 3, 5]),
+    (9, &STRIDING, 4, 1, &[0, 4, 6, 1]),
+];
+
 /// Searches by a wrong rule, and what has to be found.
-const WRONG: [(Rules, (u8, u32, u32, u32), Finding); 12] = [
+const WRONG: [(Rules, (u8, u32, u32, u32), Finding); 19] = [
     (Rules::ShortWatch, (3, 1, 3, 2), Finding::LiveNodeListed),
     (Rules::TimersFirst, (2, 1, 2, 1), Finding::LiveNodeListed),
     (Rules::TimersFirst, (4, 2, 4, 2), Finding::LiveNodeListed),
@@ -93,6 +102,13 @@ const WRONG: [(Rules, (u8, u32, u32, u32), Finding); 12] = [
     (Rules::LongWatch, (6, 2, 3, 1), Finding::Unjoined),
     (Rules::LateWatch, (3, 1, 3, 2), Finding::Unjoined),
     (Rules::LateWatch, (5, 3, 4, 1), Finding::Unjoined),
+    (Rules::NoList, (5, 1, 2, 1), Finding::Unlisted),
+    (Rules::NoList, (5, 3, 4, 1), Finding::Unlisted),
+    (Rules::NoList, (6, 2, 3, 1), Finding::Unlisted),
+    (Rules::NamedNotRelayed, (3, 1, 3, 2), Finding::Misreported),
+    (Rules::NamedNotRelayed, (4, 2, 4, 2), Finding::Misreported),
+    (Rules::LeftNotMarked, (3, 1, 2, 1), Finding::Misreported),
+    (Rules::LeftNotMarked, (6, 2, 3, 1), Finding::Misreported),
 ];
 
 /// Claims shorter than request 106's, and N, H, W and D of the searches in which they are found wrong.
@@ -105,6 +121,16 @@ const SHORTER: [(Rules, (u8, u32, u32, u32)); 8] = [
     (Rules::SingleJoining, (4, 2, 3, 1)),
     (Rules::SingleJoining, (5, 3, 4, 1)),
     (Rules::SingleJoining, (7, 1, 2, 1)),
+];
+
+/// Claims shorter than request 107's, and N, H, W and D of the searches in which they are found wrong.
+const SHORTER_LISTS: [(Rules, (u8, u32, u32, u32)); 6] = [
+    (Rules::ShortListing, (2, 1, 2, 1)),
+    (Rules::ShortListing, (3, 3, 5, 2)),
+    (Rules::ShortListing, (6, 2, 3, 1)),
+    (Rules::SingleListing, (3, 1, 2, 1)),
+    (Rules::SingleListing, (5, 3, 4, 1)),
+    (Rules::SingleListing, (7, 1, 2, 1)),
 ];
 
 fn search((nodes, period, timeout, delay): (u8, u32, u32, u32)) -> Search {
@@ -142,15 +168,16 @@ fn searched(search: &Search) -> Outcome {
     let numbers = format!("{nodes:>2} {period:>2} {timeout:>2} {delay:>2}");
     let most = most_passed(&outcome);
     let counts = format!("{states:>8} {events:>9} {moves_by_report:>6} {most:>6} {runs:>8} {closed:>6}");
-    let late = late_by_crashes(search, &outcome);
-    println!("{}", format!("{rules:<14} {numbers} {order:<17} {mortal:<11} {counts}  {found}  {late}").trim_end());
+    let late = late_by_crashes(&outcome.late, |crashes| search.joining_time(crashes));
+    let lists = late_by_crashes(&outcome.late_lists, |crashes| search.listing_time(crashes));
+    println!("{}", format!("{rules:<15} {numbers} {order:<17} {mortal:<11} {counts}  {found}  {late}  {lists}").trim_end());
     outcome
 }
 
-/// For one crash done, for two and so on, how late survivors are not joined beside 2 × W × f + D; `-` where they always are.
-fn late_by_crashes(search: &Search, outcome: &Outcome) -> String {
-    let last = outcome.late.iter().rposition(Option::is_some).unwrap_or(0);
-    let one = |crashes: usize| outcome.late[crashes].map_or("-".to_string(), |late| format!("{late}/{}", search.joining_time(crashes)));
+/// For one crash done, for two and so on, how late what is claimed does not hold beside its bound; `-` where it always does.
+fn late_by_crashes(late: &Late, bound: impl Fn(usize) -> u32) -> String {
+    let last = late.iter().rposition(Option::is_some).unwrap_or(0);
+    let one = |crashes: usize| late[crashes].map_or("-".to_string(), |late| format!("{late}/{}", bound(crashes)));
     (1..=last).map(one).collect::<Vec<_>>().join(" ")
 }
 
@@ -160,19 +187,35 @@ fn most_passed(outcome: &Outcome) -> usize {
 }
 
 fn heading(what: &str) {
-    println!("\n{what}\nrules           N  H  W  D order             crash         states    events  moves passed     runs closed  found    late");
+    println!("\n{what}\nrules            N  H  W  D order             crash         states    events  moves passed     runs closed  found    late    lists");
 }
 
-/// Nothing is found, whatever the end tick. Survivors of any number of crashes are late to be joined, if only by some ticks. Where all nodes
-/// may crash, there are moves that pass one node, two and so on to all others.
+/// The last tick after the last of so many crashes at whose end a list should be short: the node after the dead leaves the last of them
+/// 2 × W × f − W + D − 1 ticks after it, and each survivor names them to the next H + D − 1 ticks later.
+fn reckoned(search: &Search, crashes: usize) -> u32 {
+    let Search { period, timeout, delay, .. } = search;
+    let hops = u32::from(search.nodes) - crashes as u32 - 1;
+    timeout * (2 * crashes as u32 - 1) + delay + hops * (period + delay - 1) - 2
+}
+
+/// Nothing is found, whatever the end tick. Survivors of any number of crashes are late to be joined and to have full lists, if only by
+/// some ticks, and no list is short later than reckoned. Where all nodes may crash, there are moves that pass one node, two and so on to
+/// all others. Every heartbeat that comes to a live node is its emitter's, so that what one of another node does plays no part.
 fn kept(search: &Search) -> Result<Outcome, String> {
     let outcome = searched(search);
     if outcome.found.is_some() || outcome.closed.is_none() {
         return Err(format!("something is found, or may be later, in {search:?}"));
     }
     let mortal = (0..search.nodes).filter(|node| search.mortal >> node & 1 == 1).count();
-    if outcome.late[1..=mortal.min(usize::from(search.nodes) - 1)].contains(&None) {
-        return Err(format!("survivors are always joined in {search:?}: {:?}", outcome.late));
+    let most = mortal.min(usize::from(search.nodes) - 1);
+    if outcome.late[1..=most].contains(&None) || outcome.late_lists[1..=most].contains(&None) {
+        return Err(format!("survivors are always joined, or lists full, in {search:?}: {:?}, {:?}", outcome.late, outcome.late_lists));
+    }
+    if (1..=most).any(|crashes| outcome.late_lists[crashes] > Some(reckoned(search, crashes))) {
+        return Err(format!("lists are short later than reckoned in {search:?}: {:?}", outcome.late_lists));
+    }
+    if outcome.strange > 0 {
+        return Err(format!("a heartbeat comes from another than the emitter in {search:?}"));
     }
     if search.mortal == u64::MAX && outcome.passed[1..usize::from(search.nodes)].contains(&0) {
         return Err(format!("no move passes so many nodes in {search:?}: {:?}", outcome.passed));
@@ -200,20 +243,30 @@ fn listed(search: &Search) -> Result<(), String> {
 }
 
 /// By the run that was found, done by the platform's events to the end of that tick, nothing is left that is due by the tick that the search
-/// claims, and the survivors are not joined.
-fn leaves_unjoined(search: &Search, found: &Found) -> bool {
+/// claims, and what is claimed does not hold.
+fn breaks(claim: Claim, found: &Found, time: impl Fn(usize) -> u32) -> bool {
     let mut platform = Platform::open(Plan { end: found.tick, ..found.plan.clone() });
     platform.run(u64::MAX);
     let Some(crash) = settle::last_crash(&platform) else { return false };
-    let claimed = crash + search.joining_time(platform.crashes_done());
-    platform.earliest_due().is_none_or(|due| due > claimed) && !settle::joined(platform.ring(), platform.nodes())
+    let claimed = crash + time(platform.crashes_done());
+    platform.earliest_due().is_none_or(|due| due > claimed) && !claim.holds(platform.ring(), platform.nodes())
 }
 
 /// Survivors are not joined where the claim is shorter than request 106's.
 fn unjoined(search: &Search) -> Result<(), String> {
+    let time = |crashes| search.joining_time(crashes);
     match searched(search).found {
-        Some(found) if found.finding == Finding::Unjoined && leaves_unjoined(search, &found) => Ok(()),
+        Some(found) if found.finding == Finding::Unjoined && breaks(Claim::Joined, &found, time) => Ok(()),
         _ => Err(format!("survivors are joined in {search:?}")),
+    }
+}
+
+/// A list is not full where the claim is shorter than request 107's.
+fn unlisted(search: &Search) -> Result<(), String> {
+    let time = |crashes| search.listing_time(crashes);
+    match searched(search).found {
+        Some(found) if found.finding == Finding::Unlisted && breaks(Claim::Listed, &found, time) => Ok(()),
+        _ => Err(format!("lists are full in {search:?}")),
     }
 }
 
@@ -246,6 +299,12 @@ fn table() -> Result<(), String> {
             kept(&Search { order, ..search((nodes, period, period + delay, delay)) })?;
         }
     }
+    larger_rings()?;
+    wrong_rules()
+}
+
+/// Reports of the emitter move nodes; and relays die, so that without lists in heartbeats some list stays short.
+fn larger_rings() -> Result<(), String> {
     heading("Larger rings, all messages D ticks in flight; reports of the emitter move nodes:");
     for numbers in REPORTED {
         let outcome = kept(&reported(numbers))?;
@@ -253,14 +312,31 @@ fn table() -> Result<(), String> {
             return Err(format!("no report moves a node, or no move passes more than one, in {:?}", reported(numbers)));
         }
     }
+    heading("Larger rings, all messages D ticks in flight; the relays of a report die, and then without lists in heartbeats:");
+    for numbers in DYING {
+        kept(&reported(numbers))?;
+        finds(&Search { rules: Rules::NoList, ..reported(numbers) }, Finding::Unlisted)?;
+    }
+    Ok(())
+}
+
+fn wrong_rules() -> Result<(), String> {
     heading("Wrong rules: W for 2 x W after moving, timers before deliveries, S shorter by 2 x D; passed without the one left, or all listed;\n\
-        3 x W after moving, or no watch until the new emitter is heard:");
+        3 x W after moving, or no watch until the new emitter is heard; no list in heartbeats; a node that a heartbeat named not relayed;\n\
+        the emitter left not marked:");
     for (rules, numbers, finding) in WRONG {
         finds(&Search { rules, ..search(numbers) }, finding)?;
     }
     heading("Claims shorter than 2 x W x f + D: with f - 1 for f, and with W for 2 x W:");
     for (rules, numbers) in SHORTER {
         unjoined(&Search { rules, ..search(numbers) })?;
+    }
+    heading("Claims shorter than 2 x W x f + D + (m - 1) x (H + D): with f - 1 for f, with W for 2 x W, and without (m - 1) x (H + D):");
+    for (rules, numbers) in SHORTER_LISTS {
+        unlisted(&Search { rules, ..search(numbers) })?;
+    }
+    for numbers in [REPORTED[0], REPORTED[2], DYING[1]] {
+        unlisted(&Search { rules: Rules::NoSpreading, ..reported(numbers) })?;
     }
     heading("W for 2 x W after a move by report:");
     for numbers in &REPORTED[..3] {
@@ -300,7 +376,7 @@ fn main() -> ExitCode {
     println!("exhaust: moves are the reports that move a node, passed is the greatest number of nodes passed at a move;");
     println!("exhaust: closed is the tick after which no new state comes up, so that the answer holds for every end tick;");
     println!("exhaust: late is, for one crash done, for two and so on, the most ticks after the last one at whose end survivors are not joined,");
-    println!("exhaust: beside 2 x W x f + D, from which on they are");
+    println!("exhaust: beside 2 x W x f + D, from which on they are; lists is the same of lists that are not full, beside (m - 1) x (H + D) more");
     let done = match words {
         Ok(words) if words.is_empty() => table(),
         Ok(words) => one(&words),

@@ -41,13 +41,13 @@ loop() {
     sed -n "$1" "$2" > "$out/loop.inc"
     c99 "$out/loop" -I"$out" tests/loop.c
     prints "$out/loop" <<'LINES'
-tick 10: H to 2, subject 0
-tick 15: O to 2, subject 0
-tick 15: R to 2, subject 0
-tick 20: H to 2, subject 0
-tick 30: H to 2, subject 0
-tick 31: H to 2, subject 0
-tick 41: H to 2, subject 0
+tick 10: H to 2, subject 0, list 8
+tick 15: O to 2, subject 0, list 0
+tick 15: R to 2, subject 0, list 0
+tick 20: H to 2, subject 0, list 9
+tick 30: H to 2, subject 0, list 9
+tick 31: H to 2, subject 0, list 9
+tick 41: H to 2, subject 0, list 9
 tick 1000001: stopped by 12
 LINES
 }
@@ -63,6 +63,9 @@ c99 "$out/readers" tests/readers.c
 mistake 'the emitter a byte late' 's/return record\[6\];/return record[7];/'
 mistake 'the observer a byte early' 's/return record\[7\];/return record[6];/'
 mistake 'the dead list a byte late' 's/(record, 8, 8)/(record, 9, 8)/'
+mistake 'the mark a byte late' 's/(record, 32, 8)/(record, 33, 8)/'
+mistake 'the list in place of the mark' 's/(record, 32, 8)/(record, 8, 8)/'
+mistake 'the list of a message a byte early' 's/(message, 8, 8)/(message, 7, 8)/'
 mistake 'the last tick a byte late' 's/(record, 16, 4)/(record, 17, 4)/'
 mistake 'the watch a byte late' 's/(record, 20, 4)/(record, 21, 4)/'
 mistake 'the heartbeat in place of the watch' 's/(record, 20, 4)/(record, 24, 4)/'
@@ -70,11 +73,11 @@ mistake 'the watch in place of the heartbeat' 's/(record, 24, 4)/(record, 20, 4)
 mistake 'timers a tick late' 's/\(uint64_t [a-z]* = kelbraut_field(record, 2[04], 4)\) - 1;/\1;/'
 mistake 'the heartbeat a tick early' 's/(record, 24, 4) - 1/(record, 24, 4) - 2/'
 mistake 'the later of the timers' 's/return watch < heartbeat/return watch > heartbeat/'
-mistake 'the highest byte first' 's/record\[place + i\]/record[place + size - 1 - i]/'
+mistake 'the highest byte first' 's/bytes\[place + i\]/bytes[place + size - 1 - i]/'
 mistake 'nodes passed ahead, not back' 's/left < taken ? left + nodes - taken : left - taken/left > taken ? taken + nodes - left : taken - left/'
 mistake 'the new emitter passed, too' 's/left + nodes - taken : left - taken/left + nodes - taken + 1 : left - taken + 1/'
 mistake 'its own number for N' 's/nodes = after\[1\]/nodes = after[0]/'
-echo 'host: 14 mistakes in the readers found'
+echo 'host: 17 mistakes in the readers found'
 
 # Calls on different records may run in several threads: the library has no bytes of its own that a call could write.
 written=$(size "$library" | awk 'NR > 1 { bytes += $2 + $3 } END { print (NR > 1 ? bytes : "unknown") }')

@@ -1,7 +1,7 @@
 /*
  * The loop by which include/kelbraut.h runs a node, as it stands there: tests/host.sh takes it out of the header. Node 1 of
- * three gets messages, and bytes that no node sent, by a script; what it sends is printed. Nothing may be sent for refused
- * bytes, and the loop ends when the ticks do.
+ * four gets messages, and bytes that no node sent, by a script; what it sends is printed. Its first heartbeat lists node 3.
+ * Nothing may be sent for refused bytes, and the loop ends when the ticks do.
  */
 #include <inttypes.h>
 #include <stdio.h>
@@ -14,8 +14,9 @@ static const struct {
     uint64_t tick;
     uint8_t bytes[KELBRAUT_MESSAGE];
 } script[] = {
-    {3, {'H', 1, 0, 0}},  {12, {'?', 1, 0, 0}},  {15, {'R', 1, 2, 0}}, {15, {'R', 1, 2, 1}},
-    {16, {'O', 1, 3, 0}}, {25, {'H', 1, 63, 0}}, {31, {'O', 1, 2, 0}}, {KELBRAUT_MOST_TICK + 1, {'H', 1, 2, 0}},
+    {3, {'H', 1, 0, [8] = 8}}, {12, {'?', 1, 0}}, {15, {'R', 1, 2, 0}}, {15, {'R', 1, 2, 1}}, {16, {'O', 1, 4}},
+    {17, {'O', 1, 2, [8] = 16}}, {18, {'O', 1, 2, [15] = 128}}, {25, {'H', 1, 63}}, {31, {'O', 1, 2, [8] = 15}},
+    {KELBRAUT_MOST_TICK + 1, {'H', 1, 2}},
 };
 
 static uint64_t now;
@@ -46,7 +47,8 @@ static int receive(uint8_t *m) {
 
 static void send_all(const uint8_t *sent) {
     for (const uint8_t *m = sent; m < sent + KELBRAUT_MESSAGES && kelbraut_kind(m) != 0; m += KELBRAUT_MESSAGE) {
-        printf("tick %" PRIu64 ": %c to %d, subject %d\n", now, kelbraut_kind(m), kelbraut_receiver(m), kelbraut_subject(m));
+        printf("tick %" PRIu64 ": %c to %d, subject %d, list %" PRIx64 "\n", now, kelbraut_kind(m), kelbraut_receiver(m),
+               kelbraut_subject(m), kelbraut_list(m));
     }
 }
 
@@ -60,6 +62,6 @@ static void run_node(uint64_t number, uint64_t nodes, uint64_t h, uint64_t w) {
 }
 
 int main(void) {
-    run_node(1, 3, 10, 14);
+    run_node(1, 4, 10, 14);
     return 1;
 }

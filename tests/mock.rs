@@ -1,8 +1,12 @@
 //! The platform's four calls over the simulator and its store, with one mistake at a time: what tests/platform.rs has to find. With none, they
-//! are the other calls beside tests/dispatch_mock.rs.
+//! are the other calls beside tests/dispatch_mock.rs. Mistakes about marks and lists are made by lists_mock.rs.
 #![allow(dead_code)]
 
+#[path = "lists_mock.rs"]
+mod lists;
+
 use super::calls::{opening, refused, simulated, Answer, Call};
+pub use lists::rules;
 use simulator::layout::*;
 use simulator::limits::*;
 use simulator::log::{self, Line};
@@ -13,7 +17,7 @@ use simulator::queue::{Cause, Pending};
 use simulator::ring::Ring;
 use simulator::store::{self, Held};
 use std::slice::{from_raw_parts, from_raw_parts_mut};
-use std::sync::atomic::{AtomicUsize, Ordering};
+use std::sync::atomic::{AtomicBool, AtomicUsize, Ordering};
 
 /// The mistakes, each named once.
 macro_rules! mistakes {
@@ -24,7 +28,7 @@ macro_rules! mistakes {
             $($name,)*
         }
 
-        pub const MISTAKES: [Mistake; 56] = [$($name,)*];
+        pub const MISTAKES: [Mistake; 93] = [$($name,)*];
     };
 }
 
@@ -85,15 +89,63 @@ mistakes! {
     PassedCountedAsEvent,
     DoneTakesShortLog,
     OwnLineOfRefusedMove,
+    // Marks and the lists of heartbeats: a node's rules.
+    SenderLearnt,
+    ReceiverLearnt,
+    LearntFromAnyone,
+    LearntAsAtDelivery,
+    NothingLearnt,
+    FirstLearntAlone,
+    ListReplaced,
+    LearntMarked,
+    LearntRelayed,
+    NamedReportIgnored,
+    NamedNotRelayed,
+    NamedNotMarked,
+    ReportNotMarked,
+    ReportedEmitterNotMarked,
+    MarkedRelayed,
+    ExpiredNotMarked,
+    MarkedAtCrash,
+    MarkClearedAtMove,
+    NothingCarried,
+    MarkCarried,
+    LowHalfCarried,
+    // Their ranges.
+    MarkNotLookedAt,
+    MarkOfCrashedNotLookedAt,
+    MarkBeyondNotLookedAt,
+    HighMarkNotLookedAt,
+    CarriedBeyondNotLookedAt,
+    ListOfNewObserverNotLookedAt,
+    ListOfReportNotLookedAt,
+    ListInRangeNotLookedAt,
+    // Lists on their way.
+    ListOnReport,
+    ListOnNewObserver,
+    ListsStayInPlace,
+    ListLeftBehind,
+    ListsOfRunLost,
+    ListsLostInRun,
+    HalfOfListInRun,
+    EmptyAsRunBegins,
 }
 
 use Mistake::*;
 
 static MADE: AtomicUsize = AtomicUsize::new(0);
+static IN_RUNS_ALONE: AtomicBool = AtomicBool::new(false);
 
 /// The calls make this mistake from now on.
 pub fn make(mistake: Mistake) {
     MADE.store(mistake as usize, Ordering::Relaxed);
+    IN_RUNS_ALONE.store(false, Ordering::Relaxed);
+}
+
+/// Runs make this mistake of a rule from now on; a step does not.
+pub fn make_in_runs(mistake: Mistake) {
+    make(mistake);
+    IN_RUNS_ALONE.store(true, Ordering::Relaxed);
 }
 
 fn is_made(mistake: Mistake) -> bool {
@@ -170,7 +222,7 @@ fn hold(store: &[u8], forgets: bool) -> Option<Held> {
     }
     let mut seen = store.to_vec();
     if is_made(UnusedNotLookedAt) {
-        seen[60_000..].fill(0);
+        seen[61_504..].fill(0);
     }
     if is_made(PastNotLookedAt) && get(&seen, MESSAGES, 0) > 0 {
         let due = get(&seen, MESSAGE_DUE, 0).max(get(&seen, LAST_TICK, 0));
@@ -179,6 +231,7 @@ fn hold(store: &[u8], forgets: bool) -> Option<Held> {
     if is_made(ListedEmitterNotLookedAt) || is_made(ListedEmitterOfCrashedNotLookedAt) {
         unlist_emitters(&mut seen, is_made(ListedEmitterNotLookedAt));
     }
+    lists::overlook(&mut seen);
     let [nodes, count] = [NODES, ORDERED].map(|field| get(&seen, field, 0));
     let used: Vec<u64> = (0..count.min(64)).map(|place| get(&seen, ORDER, place as usize)).collect();
     let twice = count == nodes && used.iter().all(|node| *node < nodes) && (0..nodes).any(|node| !used.contains(&node));
@@ -254,29 +307,62 @@ fn is_watch_next(held: &mut Held) -> bool {
     matches!(held.platform.next_event(), Some(Pending { cause: Cause::Timer { timer: Timer::Watch, .. }, .. }))
 }
 
+/// The call on what a store holds, with a mistake that goes by what it holds.
+fn answer_of(call: Call, held: &mut Option<Held>, part: &mut [u8]) -> Answer {
+    let is_done = held.as_mut().is_some_and(|held| held.platform.next_event().is_none());
+    let shorter = match call {
+        Call::Step => part.len() == LOG_BYTES - 1 && (is_made(StepTakesShortLog) || is_made(DoneTakesShortLog) && is_done),
+        Call::Run { .. } => false,
+        Call::Write => part.len() == FILE_BYTES - 1 && is_made(WriterTakesShortPart),
+    };
+    if shorter {
+        let mut longer = [&part[..], &[0]].concat();
+        let answer = simulated(call, held.as_mut(), &mut longer);
+        part.copy_from_slice(&longer[..longer.len() - 1]);
+        return answer;
+    }
+    let by_rules = !rules().iter().copied().any(is_made);
+    match (call, held) {
+        (Call::Run { budget }, Some(held)) if !by_rules => lists::misrun(held, budget),
+        (Call::Step, Some(held)) if !by_rules && !IN_RUNS_ALONE.load(Ordering::Relaxed) => {
+            let before = lists::Before::of(&mut held.platform);
+            let answer = simulated(call, Some(held), part);
+            if answer[0] == 0 {
+                lists::misdo(&before, &mut held.platform);
+            }
+            answer
+        }
+        (Call::Run { budget: 12.. }, Some(held)) if is_made(EmptyAsRunBegins) => {
+            held.platform = lists::emptied(&held.platform);
+            simulated(call, Some(held), part)
+        }
+        (_, held) => simulated(call, held.as_mut(), part),
+    }
+}
+
+/// Puts what is held after a call into the store, with a mistake that goes by its bytes.
+fn keep(call: Call, held: &Held, before: &[u8], store: &mut [u8]) {
+    let long_run = matches!(call, Call::Run { budget: 12.. });
+    store.copy_from_slice(&held.encode());
+    copy_order(before, store);
+    lists::mislay(before, store, long_run);
+    if is_made(EmptyAsRunBegins) && long_run {
+        lists::refill(before, store);
+    }
+}
+
 fn call(call: Call, store: &mut [u8], part: &mut [u8]) -> Answer {
     let forgets = if call == Call::Write { is_made(OrderNotWritten) } else { is_made(GoesByNumber) };
     let mut held = hold(store, forgets);
     let (before, lent, opened) = (store.to_vec(), part.to_vec(), held.clone());
-    let is_done = held.as_mut().is_some_and(|held| held.platform.next_event().is_none());
     let (call, rest) = match call {
         Call::Run { budget } if is_made(RunDoesOneEvent) && budget > 1 => (Call::Run { budget: 1 }, budget - 1),
         Call::Run { budget: 12 } if is_made(ElevenForTwelve) => (Call::Run { budget: 11 }, 1),
         _ => (call, 0),
     };
-    let mut answer = if part.len() == LOG_BYTES - 1 && call == Call::Step && (is_made(StepTakesShortLog) || is_made(DoneTakesShortLog) && is_done)
-        || part.len() == FILE_BYTES - 1 && call == Call::Write && is_made(WriterTakesShortPart)
-    {
-        let mut longer = [&part[..], &[0]].concat();
-        let answer = simulated(call, held.as_mut(), &mut longer);
-        part.copy_from_slice(&longer[..longer.len() - 1]);
-        answer
-    } else {
-        simulated(call, held.as_mut(), part)
-    };
+    let mut answer = answer_of(call, &mut held, part);
     if let Some(held) = &held {
-        store.copy_from_slice(&held.encode());
-        copy_order(&before, store);
+        keep(call, held, &before, store);
     }
     answer[1] += if answer[0] == 0 && answer[2] == 1 { rest } else { 0 };
     if let Some(opened) = opened.as_ref().filter(|_| is_made(PassedCountedAsEvent) && matches!(call, Call::Run { .. }) && answer[0] == 0) {

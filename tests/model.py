@@ -14,19 +14,21 @@ simulate, edges, seed, count, named = sys.argv[1], sys.argv[2], int(sys.argv[3])
 choose = random.Random(seed)
 
 
-def run_file():
-    """Two to seven nodes, half of the time with a Q line, up to four crashes, some messages with a delay of their own."""
-    nodes, period, delay = choose.randint(2, 7), choose.randint(1, 4), choose.randint(1, 4)
-    timeout = period + delay + choose.choice([0, 0, 1, 3])
-    end = choose.randint(10, 34)
+def run_file(case):
+    """Two to seven nodes, half of the time with a Q line, up to four crashes, some messages with a delay of their own. In one of three heartbeats
+    are quick beside the longest delay, and many messages too, so that a heartbeat may name a node before the report of it comes."""
+    quick = case % 3 == 0
+    nodes, period, delay = choose.randint(5 if quick else 2, 7), choose.randint(1, 2 if quick else 4), choose.randint(3 if quick else 1, 4)
+    timeout = period + delay + (0 if quick else choose.choice([0, 0, 1, 3]))
+    end = 20 if quick else choose.randint(10, 34)
     lines = [f"P,{nodes},{period},{timeout},{delay},{end}"]
     if choose.random() < 0.5:
         lines.append("Q," + ",".join(map(str, choose.sample(range(nodes), nodes))))
-    crashed = choose.sample(range(nodes), choose.randint(0, min(nodes, 4)))
-    for tick, node in sorted((choose.randint(0, end // 2), node) for node in crashed):
+    crashed = choose.sample(range(nodes), choose.randint(1 if quick else 0, min(nodes, 4)))
+    for tick, node in sorted((choose.randint(0, 2 if quick else end // 2), node) for node in crashed):
         lines.append(f"C,{tick},{node}")
-    for number in sorted(choose.sample(range(120), choose.randint(0, 25))):
-        lines.append(f"L,{number},{choose.randint(1, delay)}")
+    for number in sorted(choose.sample(range(120), choose.randint(30, 60) if quick else choose.randint(0, 25))):
+        lines.append(f"L,{number},{1 if quick else choose.randint(1, delay)}")
     return "".join(line + "\n" for line in lines)
 
 
@@ -59,7 +61,7 @@ table, proof = (read(os.path.join(edges, path)) for path in ("specs/Edges.antt",
 unfolded = " ".join(" ".join(re.findall(r"^unfolding (.*(?:\n +.*)*)$", proof, re.M)).split())
 own = ["use Rattle.edges.specs.Edges.{" + name + "}" for name in ("bytes", "judged", "logText")]
 print("\n".join([*imports(table, proof, *own), "", *written_of(table), ""]))
-files = [run_file() for _ in range(count)] + [read(path) for path in named]
+files = [run_file(case) for case in range(count)] + [read(path) for path in named]
 for case, file in enumerate(files):
     log = subprocess.run([simulate], input=file.encode(), capture_output=True, check=True).stdout.decode()
     tries = log.count("\n") - log.count("\nK")

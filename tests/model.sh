@@ -1,6 +1,7 @@
 #!/bin/sh
-# Holds the platform's definitions against the simulator: the log that they give of small random run files, and of one in which a node
-# leaves its emitter by report, computed by the checker in a copy of the crates that it takes, has the bytes that the simulator writes.
+# Holds the platform's definitions against the simulator: the log that they give of small random run files, of one in which a node leaves its
+# emitter by report and of one in which a heartbeat names a node of which no report comes, computed by the checker in a copy of the crates that
+# it takes, has the bytes that the simulator writes.
 #
 # Usage: tests/model.sh [SEED [COUNT]]
 
@@ -35,10 +36,11 @@ for crate in $(below edges); do
     [ ! -e "target/stamp/$crate" ] || cp "target/stamp/$crate" "$copy/target/stamp"
     [ ! -e "target/rlib/$crate.rlib" ] || cp -R "target/rlib/$crate.rlib" "$copy/target/rlib"
 done
-python3 tests/model.py "$out/simulate" crates/edges "$seed" "$count" tests/reported-ten.run > "$copy/crates/edges/proofs/Simulated.antt"
+named='tests/reported-ten.run tests/learnt.run'
+python3 tests/model.py "$out/simulate" crates/edges "$seed" "$count" $named > "$copy/crates/edges/proofs/Simulated.antt"
 echo 'pub mod Simulated' >> "$copy/crates/edges/proofs/Lib.antt"
 if ! (cd "$copy" && rt dev edges) > "$copy/model.log" 2>&1 || ! grep -q '^logic=proved' "$copy/model.log"; then
     grep -v '^note' "$copy/model.log" | cut -c 1-300 | tail -n 40 >&2
     fail "seed $seed: the definitions and the simulator differ"
 fi
-echo "model: seed $seed, the logs of $count files and of tests/reported-ten.run agree"
+echo "model: seed $seed, the logs of $count files and of $named agree"

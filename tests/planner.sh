@@ -49,8 +49,8 @@ delays() {
 
 six_nodes='P,6,5,27,2,90\nC,30,1\nC,35,2\n'
 usage='usage: planner [--each] [W ..] < RUN-FILE\n'
-head='     W     worst   shift      best   shift\n'
-head_each='     W     ticks   shift\n'
+head='     W     worst   shift      best   shift     bound\n'
+head_each='     W     ticks   shift     bound\n'
 lists='Ticks from the last crash until every survivor lists'
 shifted=', with the crashes shifted by 0 to'
 bad_form='letter, number of fields, digits, line feed or order of the letters\n'
@@ -60,44 +60,44 @@ bad_ring='the Q line does not name each node once\n'
 
 tables() {
     printf 'P,6,5,17,2,90\nC,30,1\nC,35,2\n' | prints 0 "$lists 1-2$shifted 4 ticks\n$head\
-     7        26       1         8       0
-    12        41       1        37       0
-    17   not yet       1        52       0  0 lacks 1 at the end tick, after 54 ticks
+     7        26       1         8       0        51
+    12        41       1        37       0        71
+    17   not yet       1        52       0        91  0 lacks 1 at the end tick, after 54 ticks
 " ''
     printf 'P,6,5,17,2,150\nC,30,1\nC,35,2\n' | prints 0 "$lists 1-2$shifted 4 ticks\n$head\
-     7        26       1         8       0
-    12        41       1        37       0
-    17        56       1        52       0
+     7        26       1         8       0        51
+    12        41       1        37       0        71
+    17        56       1        52       0        91
 " ''
     printf "$six_nodes" | prints 0 "$lists 1-2$shifted 4 ticks\n$head\
-     7        26       1         8       0
-    12        41       1        37       0
-    17   not yet       1        52       0  0 lacks 1 at the end tick, after 54 ticks
-    22   not yet       0   not yet       0  0,3-5 lack 1 at the end tick, after 55 ticks
-    27   not yet       0   not yet       0  0,3-5 lack 1 at the end tick, after 55 ticks
+     7        26       1         8       0        51
+    12        41       1        37       0        71
+    17   not yet       1        52       0        91  0 lacks 1 at the end tick, after 54 ticks
+    22   not yet       0   not yet       0       111  0,3-5 lack 1 at the end tick, after 55 ticks
+    27   not yet       0   not yet       0       131  0,3-5 lack 1 at the end tick, after 55 ticks
 " ''
     printf "$six_nodes" | prints 0 "$lists 1-2$shifted 4 ticks\n$head_each\
-    17        52       0
-    17   not yet       1  0 lacks 1 at the end tick, after 54 ticks
-    17   not yet       2  0 lacks 1 at the end tick, after 53 ticks
-    17   not yet       3  0 lacks 1 at the end tick, after 52 ticks
-    17   not yet       4  0 lacks 1 at the end tick, after 51 ticks
+    17        52       0        91
+    17   not yet       1        91  0 lacks 1 at the end tick, after 54 ticks
+    17   not yet       2        91  0 lacks 1 at the end tick, after 53 ticks
+    17   not yet       3        91  0 lacks 1 at the end tick, after 52 ticks
+    17   not yet       4        91  0 lacks 1 at the end tick, after 51 ticks
 " '' --each 17
     { echo P,48,100,120,20,3000; crashes 300 10 17; } | prints 0 "$lists 10-17$shifted 99 ticks\n$head\
-   120      1919       1      1820       0\n" ''
+   120      1919       1      1820       0      6620\n" ''
     # A shelf, in number order, whether the file says so or not, and dealt.
     for ring in '' "Q,$(seq -s, 0 47)\n"; do
         { printf "P,48,100,120,20,3000\n$ring"; crashes 300 8 15; } | prints 0 "$lists 8-15$shifted 99 ticks\n$head\
-   120      1919       1      1820       0\n" ''
+   120      1919       1      1820       0      6620\n" ''
     done
     { echo P,48,100,120,20,3000; dealt; crashes 300 8 15; } | prints 0 "$lists 8-15$shifted 99 ticks\n$head\
-   120       219       1       120       0\n" ''
-    # The file's own W is the last, also where the steps of H pass over it.
+   120       219       1       120       0      6620\n" ''
+    # No report of node 0 reaches node 4, and a heartbeat does. The file's own W is the last, also where the steps of H pass over it.
     printf 'P,5,3,9,4,292\nC,32,0\nC,32,2\nC,32,3\n' | prints 0 "$lists 0,2-3$shifted 2 ticks\n$head\
-     7     never       0     never       0  4 lacks 0 for good, after 27 ticks
-     9     never       0     never       0  4 lacks 0 for good, after 33 ticks
+     7        32       2        30       1        53
+     9        38       2        36       1        65
 " ''
-    printf 'P,2,2,3,1,6\nC,3,1\n' | prints 0 "$lists 1$shifted 1 ticks\n$head     3         3       0         2       1\n" ''
+    printf 'P,2,2,3,1,6\nC,3,1\n' | prints 0 "$lists 1$shifted 1 ticks\n$head     3         3       0         2       1         7\n" ''
 }
 
 logs() {
@@ -127,19 +127,19 @@ refusals() {
     printf 'P,6,5,27,2,90\nQ,0,1,2,3,4,6\nC,30,1\n' | prints 1 '' "3,2: $bad_number"
     printf 'P,6,5,27,2,90\nC,30,1\nQ,0,1,2,3,4,5\n' | prints 1 '' "2,3: $bad_form"
     printf 'P,64,1,35,33,200\nC,90,3\n' | prints 1 "$lists 3$shifted 0 ticks\n$head\
-    34   refused       0   refused       0  8,0: more than 2,048 messages would be in flight
-    35   refused       0   refused       0  8,0: more than 2,048 messages would be in flight
+    34   refused       0   refused       0      2209  8,0: more than 2,048 messages would be in flight
+    35   refused       0   refused       0      2211  8,0: more than 2,048 messages would be in flight
 " ''
     printf 'P,6,5,27,2,89\nC,30,1\nC,87,2\n' | prints 1 "$lists 1-2$shifted 4 ticks\n$head_each\
-    27   not yet       0  0,3-5 lack 2 at the end tick, after 2 ticks
-    27   not yet       1  0,3-5 lack 2 at the end tick, after 1 ticks
-    27   not yet       2  0,3-5 lack 2 at the end tick, after 0 ticks
-    27   refused       3  3,3: $bad_number    27   refused       4  3,3: $bad_number" '' --each 27
+    27   not yet       0       131  0,3-5 lack 2 at the end tick, after 2 ticks
+    27   not yet       1       131  0,3-5 lack 2 at the end tick, after 1 ticks
+    27   not yet       2       131  0,3-5 lack 2 at the end tick, after 0 ticks
+    27   refused       3       131  3,3: $bad_number    27   refused       4       131  3,3: $bad_number" '' --each 27
     printf 'P,6,5,27,2,89\nQ,5,3,1,4,2,0\nC,86,1\nC,86,2\n' | prints 1 "$lists 1-2$shifted 4 ticks\n$head\
-    27   refused       4   not yet       0  3,3: $bad_number" '' 27
+    27   refused       4   not yet       0       131  3,3: $bad_number" '' 27
     printf "$six_nodes" | prints 1 "$lists 1-2$shifted 4 ticks\n$head\
-     6   refused       0   refused       0  4,1: W is below H + D
-     7        26       1         8       0
+     6   refused       0   refused       0      none  4,1: W is below H + D
+     7        26       1         8       0        51
 " '' 6 7
 }
 

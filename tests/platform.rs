@@ -1,9 +1,10 @@
 //! The platform's four calls through the static library, beside the simulator: opening, step, run and the run-file writer.
 //! Every call must give the same answer and leave the same lent bytes and the same numbers behind its pointers: on files good and
 //! damaged, on steps and runs mixed at random, on runs of any budget from any place of a file, on stores of which every single byte is
-//! changed in turn, those of the ring's order in more ways, on lent stores that no file leads to, and on 01's edges and 02's of a Q line,
-//! of reported emitters and of the number of nodes passed. The lines K of every step are also counted once more, from its lines alone, and of
-//! what a store holds that a file led to the words of request 106 are asked.
+//! changed in turn, those of the ring's order, of marks and of carried lists in more ways, on lent stores that no file leads to, and on 01's
+//! edges and 02's of a Q line, of reported emitters, of the number of nodes passed and of the lists that heartbeats carry. The lines K of every
+//! step are also counted once more, from its lines alone, and of what a store holds that a file led to the words of demand 3 and of requests
+//! 106 and 107 are asked.
 //!
 //! Usage: platform [SEED [COUNT]]. A difference prints its seed and index, the call and the file, and the program fails.
 //!
@@ -21,17 +22,18 @@ mod stores;
 use calls::{answer, opening, proved, refused, simulated, Answer, Call};
 use common::{count, ended, same, seed, shown};
 use lent::Lent;
-use simulator::generator::{self, USUAL};
+use simulator::generator::{self, SMALL, USUAL};
 use simulator::layout;
 use simulator::limits::*;
 use simulator::log::Line;
-use simulator::node::Content;
+use simulator::node::{Content, Node};
 use simulator::plan;
-use simulator::platform::Platform;
+use simulator::platform::{Event, Platform, Step};
 use simulator::queue::Message;
 use simulator::random::Random;
 use simulator::recount::{Moves, Recount};
-use simulator::settle;
+use simulator::ring::listed;
+use simulator::settle::{self, Claim};
 use simulator::store::{self, Held};
 use std::process::ExitCode;
 use stores::{platform_of, reached};
@@ -42,8 +44,10 @@ const COUNT: u64 = 300;
 const CALLS: u64 = 40;
 /// Calls on one lent store.
 const LENT_CALLS: u64 = 8;
-/// Lent stores for each file that are tried for a move.
-const MOVE_TRIES: u64 = 40;
+/// Lent stores for each file that are tried for an event that tells rules apart.
+const LENT_TRIES: u64 = 40;
+/// Generated files in which nodes crash close together, each run in parts to its end.
+const TRIPS: u64 = 60;
 /// The numbers that the four calls answer, 0 where accepted.
 const NUMBERS: [usize; 11] = [0, 1, 2, 3, 4, 5, 6, 7, 8, 9, 13];
 
@@ -62,15 +66,31 @@ struct Seen {
     alone: u64,
     /// Moves by steps, whose lines K are counted once more.
     moves: Moves,
-    /// Calls after which request 106 says that survivors are joined.
-    joined: u64,
+    /// Calls after which demand 3 says that the ring is settled, request 106 that survivors are joined, and request 107 that their lists
+    /// are full.
+    owed: [u64; 3],
+    /// Steps by which a node lists what a heartbeat names, and by which it relays a report of a node that it lists already.
+    learnt: u64,
+    named: u64,
     met: runs::Met,
 }
 
 impl Seen {
     fn new() -> Seen {
-        let met = runs::Met::default();
-        Seen { opened: 0, calls: 0, numbers: [0; 14], spent: 0, done: 0, reported: 0, alone: 0, moves: Moves::NONE, joined: 0, met }
+        Seen {
+            opened: 0,
+            calls: 0,
+            numbers: [0; 14],
+            spent: 0,
+            done: 0,
+            reported: 0,
+            alone: 0,
+            moves: Moves::NONE,
+            owed: [0; 3],
+            learnt: 0,
+            named: 0,
+            met: runs::Met::default(),
+        }
     }
 
     /// Counts the lines K of an accepted step once more, from its lines and whom the nodes observed before it.
@@ -84,17 +104,30 @@ impl Seen {
         Ok(())
     }
 
-    /// What the bytes of a store hold that a file led to: no live node is listed, and survivors are joined where request 106 says so.
+    /// What the bytes of a store hold that a file led to: no live node is listed, and the ring is settled, survivors are joined and their
+    /// lists are full where demand 3, request 106 and request 107 say so.
     fn claims(&mut self, store: &Lent) -> Result<Platform, String> {
         let mut platform = store::decode(store.part()).ok_or("the store is out of range")?.platform;
-        self.joined += u64::from(settle::joining_tick_passed(&mut platform));
-        if !settle::no_live_node_listed(platform.nodes()) {
-            return Err(format!("a live node is listed at tick {}", platform.last_tick()));
-        }
-        if !settle::request_106(&mut platform) {
-            return Err(format!("survivors are not joined at tick {}", platform.last_tick()));
-        }
-        Ok(platform)
+        let settling = settle::crashes_spaced(&platform) && settle::settling_time_passed(&mut platform);
+        let owed = [settling, settle::joining_tick_passed(&mut platform), settle::listing_tick_passed(&mut platform)];
+        self.owed.iter_mut().zip(owed).for_each(|(count, owed)| *count += u64::from(owed));
+        let told = match () {
+            () if !settle::no_live_node_listed(platform.nodes()) => "a live node is listed",
+            () if !settle::demand_3(&mut platform) => "the ring is not settled",
+            () if !settle::request_106(&mut platform) => "survivors are not joined",
+            () if !settle::request_107(&mut platform) => "a survivor's list is not full",
+            () => return Ok(platform),
+        };
+        Err(format!("{told} at tick {}", platform.last_tick()))
+    }
+
+    /// Counts a step by which a node learns of others, or relays a report of one that it lists; `before` are the nodes before it.
+    fn count_lists(&mut self, before: &[Node], answer: &Answer, platform: &Platform) {
+        let (letter, node, subject) = (answer[1] as u8, answer[3] as usize, answer[4] as u8);
+        let [own, now] = [before, platform.nodes()].map(|nodes| nodes.get(node));
+        let (Some(own), Some(now)) = (own, now) else { return };
+        self.learnt += u64::from(letter == b'H' && own.dead_list != now.dead_list);
+        self.named += u64::from(letter == b'R' && listed(own.dead_list, subject) && own.mark != now.mark);
     }
 
     fn count(&mut self, number: u64) {
@@ -126,6 +159,7 @@ impl Seen {
         let (before, mut part_left) = (store.part().to_vec(), part.part().to_vec());
         let reported = held.as_ref().map_or(0, |held| held.platform.moves_by_report());
         let recount = held.as_ref().filter(|_| call == Call::Step).map(|held| Recount::standing(&held.platform));
+        let nodes = held.as_ref().filter(|_| call == Call::Step).map(|held| held.platform.nodes().to_vec());
         let wanted = simulated(call, held.as_mut(), &mut part_left);
         if let Some(platform) = held.as_ref().map(|held| &held.platform).filter(|platform| platform.moves_by_report() > reported) {
             self.reported += platform.moves_by_report() - reported;
@@ -144,6 +178,9 @@ impl Seen {
         part.holds("part", &part_left).map_err(told)?;
         if let Some(recount) = recount.filter(|_| answer[0] == 0) {
             self.recount(recount, &part.part()[..answer[5] as usize]).map_err(told)?;
+        }
+        if let (Some(nodes), Some(held), 0) = (nodes, &held, answer[0]) {
+            self.count_lists(&nodes, &answer, &held.platform);
         }
         if !store::check(&store_left) {
             *held = None;
@@ -222,16 +259,31 @@ fn lent_sequence(seen: &mut Seen, bytes: &[u8], random: &mut Random) -> Result<(
     Ok(())
 }
 
-/// Steps on stores with any state in range whose next event moves an emitter; how many nodes it passes goes by lists of all kinds.
-fn lent_moves(seen: &mut Seen, file: &[u8], random: &mut Random) -> Result<(), String> {
+/// Whether the next event moves an emitter, lists what a heartbeat names, or relays a report of a node that is listed.
+fn tells(platform: &Platform) -> bool {
+    let mut after = platform.clone();
+    let Step::Event(Event { line, passed }) = after.step() else { return false };
+    let [own, now] = [platform, &after].map(|platform| platform.nodes()[line.node as usize]);
+    match line.letter {
+        b'H' => own.dead_list != now.dead_list,
+        b'R' => passed.is_some() || listed(own.dead_list, line.other as u8) && own.mark != now.mark,
+        _ => passed.is_some(),
+    }
+}
+
+/// Steps and runs on stores with any state in range whose next event moves an emitter, which goes by lists of all kinds, or adds to a list or
+/// a mark.
+fn lent_events(seen: &mut Seen, file: &[u8], random: &mut Random) -> Result<(), String> {
     let plan = plan::read(file).expect("the file is accepted");
-    for _ in 0..MOVE_TRIES {
+    for _ in 0..LENT_TRIES {
         let bytes = stores::any(&plan, random);
         let held = store::decode(&bytes);
-        if held.as_ref().is_some_and(|held| held.platform.clone().step().lines().count() == 2) {
+        if held.as_ref().is_some_and(|held| tells(&held.platform)) {
             let room = random.pick(&[LOG_BYTES, LOG_BYTES + 1, LOG_BYTES - 1]);
-            seen.call(Call::Step, &mut Lent::new(&bytes), &mut Lent::filled(room), &mut held.clone())
-                .map_err(|error| format!("a move on a lent store: {error}"))?;
+            for call in [Call::Step, Call::Run { budget: random.pick(&[1, 12]) }] {
+                seen.call(call, &mut Lent::new(&bytes), &mut Lent::filled(room), &mut held.clone())
+                    .map_err(|error| format!("an event on a lent store: {error}"))?;
+            }
         }
     }
     Ok(())
@@ -254,7 +306,29 @@ fn generated(seen: &mut Seen, seed: u64, count: u64) -> Result<(), String> {
         let told = |file: &[u8], error| format!("seed {seed} index {index}: {error}\n{}", shown(file));
         sequence(seen, &file, &mut random).map_err(|error| told(&file, error))?;
         lent(seen, &good, &mut random).map_err(|error| told(&good, error))?;
-        lent_moves(seen, &good, &mut random).map_err(|error| told(&good, error))?;
+        lent_events(seen, &good, &mut random).map_err(|error| told(&good, error))?;
+    }
+    Ok(())
+}
+
+// ---- nodes that crash close together
+
+/// Runs of a few events or many, one after another, to the end of files at whose end survivors have to be joined and mostly to list all
+/// crashed nodes.
+fn trips(seen: &mut Seen, seed: u64) -> Result<(), String> {
+    for index in 0..TRIPS {
+        let file = generator::tripped_plan(seed ^ 0x7472_6970, index, SMALL);
+        let told = |error| format!("seed {seed} file {index} of close crashes: {error}\n{}", shown(&file));
+        let mut random = Random::new(seed ^ 0x7472_6970, index);
+        let (mut store, mut held) = opened(seen, &file).map_err(told)?;
+        let mut spent = 1;
+        while spent == 1 {
+            let (few, more) = (random.range(1, 12), random.range(12, 120));
+            let run = Call::Run { budget: random.pick(&[few, more]) };
+            let answer = seen.call(run, &mut store, &mut Lent::filled(0), &mut held).map_err(told)?;
+            seen.claims(&store).map_err(told)?;
+            spent = if answer[0] == 0 { answer[2] } else { 0 };
+        }
     }
     Ok(())
 }
@@ -368,6 +442,7 @@ fn listed_emitters(seen: &mut Seen) -> Result<(), String> {
             for (node, number) in [(emitter, REFUSED_STORE), (another, 0)] {
                 let mut changed = bytes.clone();
                 layout::put(&mut changed, layout::DEAD_LIST, place, 1 << node);
+                layout::put(&mut changed, layout::MARK, place, 0);
                 gets(seen, &changed, number).map_err(|error| format!("node {place} lists {node}: {error}\n{}", shown(file.as_bytes())))?;
             }
         }
@@ -375,7 +450,62 @@ fn listed_emitters(seen: &mut Seen) -> Result<(), String> {
     Ok(())
 }
 
-// ---- 01's edges, and 02's of a Q line, of reported emitters and of nodes passed
+// ---- marks and carried lists in a store
+
+/// The five nodes of these files list all others but their emitter, the crashed ones themselves too. A mark that has any other bit is refused
+/// by 7, alone or beside all that is listed; one that is part of the list is not.
+fn changed_marks(seen: &mut Seen) -> Result<(), String> {
+    for (file, events) in [(MIDST, 0), (MIDST, 50), (ORDERED, 50)] {
+        let bytes = reached(file.as_bytes(), events);
+        let crashed = platform_after(file, events).crashed();
+        for place in 0..5 {
+            let itself = if listed(crashed, place as u8) { 0 } else { 1 << place };
+            let list = 0b11111 & !itself & !(1u64 << layout::get(&bytes, layout::EMITTER, place));
+            let mut lists = bytes.clone();
+            layout::put(&mut lists, layout::DEAD_LIST, place, list);
+            let marks = (0..64).flat_map(|node| [1 << node, list | 1 << node, list & !(1 << node)]).chain([0, u64::MAX]);
+            for mark in marks {
+                layout::put(&mut lists, layout::MARK, place, mark);
+                let number = if mark & !list == 0 { 0 } else { REFUSED_STORE };
+                gets(seen, &lists, number).map_err(|error| format!("node {place} marks {mark:x}: {error}\n{}", shown(file.as_bytes())))?;
+            }
+        }
+    }
+    Ok(())
+}
+
+/// The simulator's platform after some of a file's events.
+fn platform_after(file: &str, events: u64) -> Platform {
+    let mut platform = platform_of(file.as_bytes());
+    platform.run(events);
+    platform
+}
+
+/// An H may carry any nodes below N, its sender and its receiver among them; a node from N on is refused by 7, and so is any list of an O or R.
+/// All three kinds are in flight, in rings of five, of 63 and of 64 nodes.
+fn changed_lists(seen: &mut Seen) -> Result<(), String> {
+    for file in [MIDST, ORDERED, "P,63,2,6,3,60\nC,5,3\n", "P,64,2,6,3,60\nC,5,3\n"] {
+        let mut platform = platform_of(file.as_bytes());
+        while platform.messages().iter().all(|(_, message)| message.content != Content::NewObserver) {
+            platform.step();
+        }
+        let (bytes, nodes) = (store::encode(&platform), platform.plan().nodes);
+        let all = u64::MAX >> (64 - nodes);
+        let kind = |place: usize| layout::get(&bytes, layout::MESSAGE_KIND, place) as u8;
+        let last = |letter| (0..platform.in_flight()).rev().find(|place| kind(*place) == letter);
+        let places = b"HOR".map(|letter| last(letter).expect("each kind is in flight"));
+        let single = |place| (0..64).map(move |node| (place, 1 << node));
+        for (place, list) in places.into_iter().chain([0]).flat_map(single).chain([(places[0], all)]) {
+            let mut changed = bytes.clone();
+            layout::put(&mut changed, layout::MESSAGE_LIST, place, list);
+            let number = if kind(place) == b'H' && list & !all == 0 { 0 } else { REFUSED_STORE };
+            gets(seen, &changed, number).map_err(|error| format!("message {place} carries {list:x}: {error}\n{}", shown(file.as_bytes())))?;
+        }
+    }
+    Ok(())
+}
+
+// ---- 01's edges, and 02's of a Q line, of reported emitters, of nodes passed and of lists that heartbeats carry
 
 /// A store opened from the file, and what it holds.
 fn opened(seen: &mut Seen, file: &[u8]) -> Result<(Lent, Option<Held>), String> {
@@ -619,7 +749,7 @@ fn about_to_move(in_flight: usize, by_report: bool) -> Vec<u8> {
     nodes.iter_mut().for_each(|node| node.heartbeat = Some(4));
     nodes[1].watch = Some(if by_report { 9 } else { 3 });
     nodes[1].dead_list = 1 << 7;
-    let heartbeat = |number| (5, Message { number, sender: 2, receiver: 3, content: Content::Heartbeat });
+    let heartbeat = |number| (5, Message { number, sender: 2, receiver: 3, content: Content::Heartbeat { list: 0 } });
     let mut messages: Vec<(u32, Message)> = (0..in_flight as u64).map(heartbeat).collect();
     if by_report {
         messages[0] = (3, Message { number: 0, sender: 2, receiver: 1, content: Content::Report { subject: 0 } });
@@ -679,32 +809,123 @@ fn settles(seen: &mut Seen, file: &str) -> Result<(), String> {
 /// Eight nodes of 48 crash at one tick, H 100, W 120, D 20: 2 × W × f + D is 1,940. As neighbours in the ring they keep the survivors apart for
 /// 1,839 ticks, dealt out by a Q line for 159. All but one of five crash, and all of five.
 fn joining(seen: &mut Seen) -> Result<(), String> {
+    let mut joins = |file: &str, by| holds_from(seen, Claim::Joined, file, by);
     let dealt: String = (0..48).map(|place| format!(",{}", place % 6 * 8 + place / 6)).collect();
     let eight: String = (8..16).map(|node| format!("C,301,{node}\n")).collect();
     for (order, ticks) in [(String::new(), 1_839), (format!("Q{dealt}\n"), 159)] {
-        same("joined after", joins(seen, &format!("P,48,100,120,20,2300\n{order}{eight}"), 301 + 1_940)?, 301 + ticks)?;
+        same("joined after", joins(&format!("P,48,100,120,20,2300\n{order}{eight}"), 301 + 1_940)?, 301 + ticks)?;
     }
     let four: String = (0..4).map(|node| format!("C,7,{node}\n")).collect();
-    same("a lone survivor joined after", joins(seen, &format!("P,5,2,3,1,60\n{four}"), 7 + 25)?, 28)?;
-    same("no survivor joined after", joins(seen, &format!("P,5,2,3,1,60\n{four}C,7,4\n"), 7 + 31)?, 7).map(|_| ())
+    same("a lone survivor joined after", joins(&format!("P,5,2,3,1,60\n{four}"), 7 + 25)?, 28)?;
+    same("no survivor joined after", joins(&format!("P,5,2,3,1,60\n{four}C,7,4\n"), 7 + 31)?, 7).map(|_| ())
 }
 
-/// Does the file's events by steps and asks the claims after each. The tick from whose end on the survivors of all its crashes are joined; request
-/// 106 has to say it of the tick that is given, and of some event.
-fn joins(seen: &mut Seen, file: &str, by: u64) -> Result<u64, String> {
+/// Three of five nodes crash, and the reports of 1 go from 2 to 3 and 4 alone, which are dead. 0 leaves 3 for 2 at tick 20; 2 gets its O at 22 and
+/// sends at once, so that 0 lists 1 at 24. The tick of request 106 is 5 + 30 + 2, and with two survivors that of request 107 is 5 later. The
+/// same with four of nine nodes, where heartbeats alone name node 0, from node to node; and of five in another order.
+fn listing(seen: &mut Seen) -> Result<(), String> {
+    let five = include_str!("learnt.run");
+    logged(seen, five, include_str!("learnt.log"))?;
+    same("full lists of two after", holds_from(seen, Claim::Listed, five, 42)?, 24)?;
+    let nine = "P,9,4,5,1,66\nC,5,0\nC,5,2\nC,5,3\nC,5,5\n";
+    same("full lists of five after", holds_from(seen, Claim::Listed, nine, 66)?, 29)?;
+    moves(seen, nine, "H,22,4,1,000000000000002d\n")?;
+    moves(seen, nine, "H,29,8,7,000000000000002d\n")?;
+    let ordered = "P,5,3,5,2,92\nQ,0,3,1,2,4\nC,4,3\nC,5,2\nC,5,4\n";
+    same("full lists in another order after", holds_from(seen, Claim::Listed, ordered, 42)?, 24)?;
+    for (file, lists) in [(five, [(0, 0x1a), (2, 0x1a)]), (ordered, [(0, 0x1c), (1, 0x1c)])] {
+        let (mut store, mut held) = opened(seen, file.as_bytes())?;
+        seen.call(Call::Run { budget: u64::MAX }, &mut store, &mut Lent::filled(0), &mut held)?;
+        for (node, list) in lists {
+            same("the list at the end", layout::get(store.part(), layout::DEAD_LIST, node), list)?;
+        }
+    }
+    Ok(())
+}
+
+/// Does the file's events by steps and asks the claims after each. The tick from whose end on what is claimed holds of the survivors of all its
+/// crashes; it has to be claimed from the end of the tick that is given, and of some event.
+fn holds_from(seen: &mut Seen, claim: Claim, file: &str, by: u64) -> Result<u64, String> {
     let (mut store, mut held) = opened(seen, file.as_bytes())?;
     let crashes = platform_of(file.as_bytes()).plan().crashes.len();
     let (mut since, mut owed) = (None, 0);
     while seen.call(Call::Step, &mut store, &mut Lent::filled(LOG_BYTES), &mut held)?[1] != u64::from(b'E') {
         let mut platform = seen.claims(&store)?;
-        let joined = platform.crashes_done() == crashes && settle::joined(platform.ring(), platform.nodes());
-        since = if joined { since.or(Some(u64::from(platform.last_tick()))) } else { None };
-        owed += u64::from(settle::joining_tick_passed(&mut platform));
+        let holds = platform.crashes_done() == crashes && claim.holds(platform.ring(), platform.nodes());
+        since = if holds { since.or(Some(u64::from(platform.last_tick()))) } else { None };
+        owed += u64::from(claim.owed(&mut platform));
         if platform.crashes_done() == crashes {
-            same("the tick of request 106", settle::joining_tick(&platform), Some(by))?;
+            same("the tick of the claim", claim.tick(&platform), Some(by))?;
         }
     }
-    since.filter(|_| owed > 0).ok_or("the joined ring was not looked at".to_string())
+    since.filter(|_| owed > 0).ok_or(format!("{claim:?}: nothing was claimed"))
+}
+
+/// What stands at the end of a run, with one field of node 0 changed, breaks a claim: a live node is listed, the survivor before it is not
+/// observed, a crashed node is not listed. With one crash the ring is then not settled.
+fn broken_claims(seen: &mut Seen) -> Result<(), String> {
+    use layout::*;
+    let (three, one) = (include_str!("learnt.run"), "P,5,3,5,2,92\nC,4,1\n");
+    for (file, changes, told) in [
+        (three, &[(EMITTER, 1), (DEAD_LIST, 0x1c), (MARK, 0)][..], "a live node is listed"),
+        (three, &[(EMITTER, 4), (DEAD_LIST, 0x0a), (MARK, 0)], "survivors are not joined"),
+        (three, &[(DEAD_LIST, 0x18), (MARK, 0)], "a survivor's list is not full"),
+        (one, &[(DEAD_LIST, 0), (MARK, 0)], "the ring is not settled"),
+    ] {
+        let mut bytes = reached(file.as_bytes(), u64::MAX);
+        seen.claims(&Lent::new(&bytes))?;
+        changes.iter().for_each(|(field, number)| put(&mut bytes, *field, 0, *number));
+        let found = seen.claims(&Lent::new(&bytes)).map(|_| ());
+        same("a broken claim", found, Err(format!("{told} at tick {}", get(&bytes, LAST_TICK, 0))))?;
+    }
+    Ok(())
+}
+
+/// Five messages to node 1 of five, which observes 0, at tick 3. Each H names 0 to 3.
+///
+/// - The H of 2 does nothing. By that of 0 it lists 2 and 3, neither itself nor 0, and marks none.
+/// - By the first R of 3, which it lists, it marks 3 and sends two R: 4 is one ahead, 0 two. The second R of 3 does nothing.
+/// - By R of 0 it leaves it for 4, marks it, and sends O and R to 4.
+///
+/// At tick 5 nodes 0 and 1 send; what they send carries their lists, and no other message carries any.
+fn named_nodes(seen: &mut Seen) -> Result<(), String> {
+    let opened = platform_of(b"P,5,5,20,6,90\n");
+    let (heartbeat, report) = (Content::Heartbeat { list: 0b1111 }, |subject| Content::Report { subject });
+    let contents = [(2, heartbeat), (0, heartbeat), (2, report(3)), (4, report(3)), (2, report(0))];
+    let message = |(number, (sender, content))| (3, Message { number, sender, receiver: 1, content });
+    let messages = (0..).zip(contents).map(message).collect();
+    let mut store = Lent::new(&store::encode(&Platform::resume(opened.plan().clone(), opened.nodes().to_vec(), messages, 5, 0, 3)));
+    let mut held = store::decode(store.part());
+    let all = 0b1111;
+    for (lines, node, carried) in [
+        ("H,3,1,2,0000000000000000\n", [0, 0], &[all, 0, 0, 0][..]),
+        ("H,3,1,0,000000000000000c\n", [0b1100, 0], &[0, 0, 0]),
+        ("R,3,1,3,000000000000000c\n", [0b1100, 0b1000], &[0, 0, 0, 0]),
+        ("R,3,1,3,000000000000000c\n", [0b1100, 0b1000], &[0, 0, 0]),
+        ("R,3,1,0,000000000000000d\nK,3,1,1,000000000000000d\n", [0b1101, 0b1001], &[0, 0, 0, 0]),
+        ("S,5,0,1,0000000000000000\n", [0b1101, 0b1001], &[0, 0, 0, 0, 0]),
+        ("S,5,1,2,000000000000000d\n", [0b1101, 0b1001], &[0, 0, 0, 0, 0, 0b1101]),
+    ] {
+        let mut part = Lent::filled(LOG_BYTES);
+        let answer = seen.call(Call::Step, &mut store, &mut part, &mut held)?;
+        same("the step", &part.part()[..answer[5] as usize], lines.as_bytes())?;
+        let column = |field, place| layout::get(store.part(), field, place);
+        same(lines, [layout::DEAD_LIST, layout::MARK].map(|field| column(field, 1)), node)?;
+        let lists: Vec<u64> = (0..column(layout::MESSAGES, 0) as usize).map(|place| column(layout::MESSAGE_LIST, place)).collect();
+        same(lines, &lists[..], carried)?;
+    }
+    Ok(())
+}
+
+/// 8 of nine nodes crashes at tick 3. By L lines four heartbeats are quick, so that 1, 2, 3 and 4 are told by them before the reports come.
+/// These they relay all the same, so that 3 gets one of 1, and 6 and 7 know before tick 59, from which on the ring has to be settled: S is 56.
+/// The O of 0 comes to 7 at tick 31.
+fn named_before_reports(seen: &mut Seen) -> Result<(), String> {
+    let file = "P,9,2,11,9,80\nC,3,8\nL,85,1\nL,94,1\nL,103,1\nL,112,1\n";
+    for line in ["H,23,1,0,", "H,29,4,3,", "R,31,1,8,", "R,40,3,8,", "R,49,7,8,"] {
+        moves(seen, file, &format!("{line}0000000000000100\n"))?;
+    }
+    same("eight joined after", holds_from(seen, Claim::Joined, file, 3 + 31)?, 31)
 }
 
 /// An event on a lent store may bring the next number above its bound: it is done, and the next call gets 7.
@@ -730,8 +951,12 @@ fn edges(seen: &mut Seen) -> Result<(), String> {
     log_parts(seen)?;
     refused_moves(seen)?;
     full_flight(seen)?;
+    named_nodes(seen)?;
+    named_before_reports(seen)?;
     settling(seen)?;
     joining(seen)?;
+    listing(seen)?;
+    broken_claims(seen)?;
     last_number(seen)
 }
 
@@ -740,15 +965,18 @@ fn edges(seen: &mut Seen) -> Result<(), String> {
 fn all(seen: &mut Seen, seed: u64, count: u64) -> Result<(), String> {
     edges(seen)?;
     runs::all(seen, seed)?;
+    trips(seen, seed)?;
     generated(seen, seed, count)?;
     changed_orders(seen)?;
     listed_emitters(seen)?;
+    changed_marks(seen)?;
+    changed_lists(seen)?;
     changed_bytes(seen)
 }
 
 /// Every kind of answer has to come up.
 fn summary(seen: &Seen, count: u64) -> Result<(), String> {
-    let Seen { opened, calls, numbers, spent, done, reported, alone, moves, joined, met } = seen;
+    let Seen { opened, calls, numbers, spent, done, reported, alone, moves, owed, learnt, named, met } = seen;
     let answered = NUMBERS.map(|number| (number, numbers[number]));
     println!("platform: {calls} calls agree, {opened} stores opened; answers by number: {answered:?}; {spent} runs spent, {done} done");
     println!("platform: {reported} moves by report, {alone} steps of them to be alone");
@@ -757,9 +985,14 @@ fn summary(seen: &Seen, count: u64) -> Result<(), String> {
     if count > 0 && (lines < count || more < count / 3 || most < 63 || moves.by_report < count / 10) {
         return Err("too few lines K came up".to_string());
     }
-    println!("platform: after {joined} calls on stores that a file led to, survivors are joined as request 106 says");
-    if count > 0 && *joined < 2 * count {
-        return Err("too few survivors had to be joined".to_string());
+    let [settled, joined, full] = owed;
+    println!("platform: owed after calls on stores that a file led to, and so: {settled} settled rings, {joined} joined ones, {full} full lists");
+    println!("platform: {learnt} steps by which a node lists what a heartbeat names, {named} by which it relays a report of a listed node");
+    if count > 0 && owed.iter().any(|owed| *owed < count) {
+        return Err("too few claims were owed".to_string());
+    }
+    if count > 0 && (*learnt < count / 2 || *named < count / 3) {
+        return Err("too few lists of heartbeats, or reports of what they name, came up".to_string());
     }
     if count > 0 && (*reported < count || *alone == 0) {
         return Err("too few reports moved a node".to_string());
@@ -778,6 +1011,13 @@ fn mistakes(seed: u64) -> Result<(), String> {
         match all(&mut Seen::new(), seed, 40) {
             Ok(()) => return Err(format!("not found: {mistake:?}")),
             Err(error) => println!("platform: {mistake:?} is found: {}", error.lines().next().unwrap_or("")),
+        }
+    }
+    for &mistake in mock::rules() {
+        mock::make_in_runs(mistake);
+        match all(&mut Seen::new(), seed, 40) {
+            Ok(()) => return Err(format!("not found in runs: {mistake:?}")),
+            Err(error) => println!("platform: {mistake:?} in runs is found: {}", error.lines().next().unwrap_or("")),
         }
     }
     mock::make(mock::Mistake::None);

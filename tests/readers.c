@@ -3,7 +3,8 @@
  *
  *     bytes    every byte of a record and of a message, with every value, by docs/LAYOUTS.md; every move in every ring
  *     calls    records that random calls lead to: before the next due tick the timers do nothing, at it they do something;
- *              whom they send to, whose heartbeat counts, how many nodes a move passes, which ticks are refused
+ *              whom they send to and with which list, whose heartbeat counts, what it adds to the list, which reports are
+ *              passed on, how many nodes a move passes, which ticks are refused
  *     rings    whole rings twice, with the timers called at every tick and only where one is due: the messages are the same,
  *              and the records but for the last tick. Nodes stop in the midst of a tick, with some of a call's messages
  *              sent. With W at least H + D no live node is listed; with less, some are
@@ -67,6 +68,7 @@ static void test_byte(int place, uint8_t value) {
     CHECK(kelbraut_emitter(record) == share(place, value, 6, 1));
     CHECK(kelbraut_observer(record) == share(place, value, 7, 1));
     CHECK(kelbraut_dead_list(record) == share(place, value, 8, 8));
+    CHECK(kelbraut_mark(record) == share(place, value, 32, 8));
     CHECK(kelbraut_last_tick(record) == share(place, value, 16, 4));
     CHECK(kelbraut_next_due(record) == earlier(tick_of(share(place, value, 20, 4)), tick_of(share(place, value, 24, 4))));
     if (place < KELBRAUT_MESSAGE) {
@@ -74,6 +76,7 @@ static void test_byte(int place, uint8_t value) {
         CHECK(kelbraut_receiver(record) == share(place, value, 1, 1));
         CHECK(kelbraut_sender(record) == share(place, value, 2, 1));
         CHECK(kelbraut_subject(record) == share(place, value, 3, 1));
+        CHECK(kelbraut_list(record) == share(place, value, 8, 8));
     }
 }
 
@@ -122,7 +125,16 @@ static void test_bytes(void) {
 /* The figures of a record by which a test chooses its calls. */
 static uint64_t own_number, nodes, period, time_out;
 
-static uint64_t heartbeats, moves, left_alone, passed_one, passed_more;
+static uint64_t heartbeats, moves, left_alone, passed_one, passed_more, learnt, relayed;
+
+static uint64_t bit(uint64_t node) {
+    return UINT64_C(1) << node;
+}
+
+/* A list of at most two nodes. */
+static uint64_t short_list(void) {
+    return below(2) == 0 ? 0 : bit(below(nodes)) | bit(below(nodes));
+}
 
 static int same_but_last_tick(const uint8_t *a, const uint8_t *b) {
     return memcmp(a, b, 16) == 0 && memcmp(a + 20, b + 20, KELBRAUT_RECORD - 20) == 0;
@@ -165,17 +177,20 @@ static void test_one_timer(uint8_t *record, uint64_t tick) {
     test_passed(before, record);
     if (kelbraut_kind(sent) == KELBRAUT_HEARTBEAT) {
         CHECK(kelbraut_receiver(sent) == kelbraut_observer(before));
-        CHECK(kelbraut_dead_list(record) == kelbraut_dead_list(before));
+        CHECK(kelbraut_list(sent) == kelbraut_dead_list(before));
+        CHECK(kelbraut_dead_list(record) == kelbraut_dead_list(before) && kelbraut_mark(record) == kelbraut_mark(before));
         heartbeats++;
         return;
     }
-    CHECK(kelbraut_dead_list(record) == (kelbraut_dead_list(before) | UINT64_C(1) << kelbraut_emitter(before)));
+    CHECK(kelbraut_dead_list(record) == (kelbraut_dead_list(before) | bit(kelbraut_emitter(before))));
+    CHECK(kelbraut_mark(record) == (kelbraut_mark(before) | bit(kelbraut_emitter(before))));
     if (kelbraut_kind(sent) == 0) {
         CHECK(kelbraut_emitter(record) == own_number && kelbraut_observer(record) == own_number);
         CHECK(kelbraut_next_due(record) == KELBRAUT_NEVER);
         left_alone++;
     } else {
         CHECK(kelbraut_kind(sent) == KELBRAUT_OBSERVER && kelbraut_receiver(sent) == kelbraut_emitter(record));
+        CHECK(kelbraut_list(sent) == 0);
         moves++;
     }
 }
@@ -203,28 +218,53 @@ static void test_next_due(const uint8_t *record) {
     test_idle(copy, tick);
 }
 
-/* What a message does to a copy of a record, at the tick after the last. */
-static void deliver(uint8_t *copy, const uint8_t *record, uint64_t kind, uint64_t sender) {
+/* What a message does to a copy of a record, at the tick after the last, and whether anything is sent. */
+static int deliver(uint8_t *copy, const uint8_t *record, uint64_t kind, uint64_t sender, uint64_t subject, uint64_t list) {
     uint8_t sent[KELBRAUT_MESSAGES];
     uint64_t tick = kelbraut_last_tick(record) + 1;
     memcpy(copy, record, KELBRAUT_RECORD);
-    CHECK(kelbraut_node_deliver(copy, KELBRAUT_RECORD, tick, kind, sender, 0, sent, sizeof sent) == KELBRAUT_ACCEPTED);
+    CHECK(kelbraut_node_deliver(copy, KELBRAUT_RECORD, tick, kind, sender, subject, list, sent, sizeof sent) ==
+          KELBRAUT_ACCEPTED);
     CHECK(kelbraut_last_tick(copy) == tick);
+    return kelbraut_kind(sent) != 0;
 }
 
-/* A heartbeat from the emitter renews the watch, one from another node does nothing; a new observer is the observer. */
+/* A report of a node that is listed already: passed on, and marked, where it is not marked yet, else nothing. */
+static void test_listed(const uint8_t *record, uint64_t sender) {
+    uint8_t copy[KELBRAUT_RECORD];
+    uint64_t list = kelbraut_dead_list(record), mark = kelbraut_mark(record);
+    CHECK((mark & ~list) == 0);
+    if ((list >> sender & 1) == 0) {
+        return;
+    }
+    /* Reports go to nodes that are not listed: a node that lists all others sends none. */
+    int targets = (list | bit(own_number)) != UINT64_MAX >> (64 - nodes);
+    int sends = deliver(copy, record, KELBRAUT_REPORT, sender, sender, 0);
+    CHECK(kelbraut_dead_list(copy) == list && kelbraut_mark(copy) == (mark | bit(sender)));
+    CHECK(sends == ((mark >> sender & 1) == 0 && targets));
+    relayed += (uint64_t)sends;
+}
+
+/*
+ * A heartbeat from the emitter renews the watch and adds its list, but for the node itself and the sender, to the list alone;
+ * one from another node does nothing; a new observer is the observer.
+ */
 static void test_sender(const uint8_t *record, uint64_t sender) {
     uint8_t copy[KELBRAUT_RECORD];
-    uint64_t tick = kelbraut_last_tick(record) + 1;
-    deliver(copy, record, KELBRAUT_HEARTBEAT, sender);
+    uint64_t tick = kelbraut_last_tick(record) + 1, list = short_list();
+    CHECK(!deliver(copy, record, KELBRAUT_HEARTBEAT, sender, 0, list));
     if (sender == kelbraut_emitter(record)) {
+        CHECK(kelbraut_dead_list(copy) == (kelbraut_dead_list(record) | (list & ~bit(own_number) & ~bit(sender))));
+        CHECK(kelbraut_mark(copy) == kelbraut_mark(record));
+        learnt += kelbraut_dead_list(copy) != kelbraut_dead_list(record);
         CHECK(kelbraut_next_due(copy) <= tick + time_out);
         copy[24] = copy[25] = copy[26] = copy[27] = 0;
         CHECK(kelbraut_next_due(copy) == tick + time_out);
     } else {
         CHECK(same_but_last_tick(copy, record));
     }
-    deliver(copy, record, KELBRAUT_OBSERVER, sender);
+    CHECK(!deliver(copy, record, KELBRAUT_OBSERVER, sender, 0, list));
+    CHECK(kelbraut_dead_list(copy) == kelbraut_dead_list(record));
     CHECK(kelbraut_observer(copy) == sender && kelbraut_emitter(copy) == kelbraut_emitter(record));
     CHECK(kelbraut_next_due(copy) <= tick);
 }
@@ -245,6 +285,7 @@ static void test_record(const uint8_t *record) {
     for (uint64_t sender = 0; sender < nodes && last < KELBRAUT_MOST_TICK; sender++) {
         if (sender != own_number) {
             test_sender(record, sender);
+            test_listed(record, sender);
         }
     }
     if (last > 0) {
@@ -282,7 +323,10 @@ static void random_call(uint8_t *record) {
         CHECK(kelbraut_node_timers(record, KELBRAUT_RECORD, tick, sent, sizeof sent) == KELBRAUT_ACCEPTED);
     } else {
         uint64_t kind = (uint64_t)"HORR"[below(4)], sender = other_node(), subject = other_node();
-        CHECK(kelbraut_node_deliver(record, KELBRAUT_RECORD, tick, kind, sender, subject, sent, sizeof sent) ==
+        if (below(2) == 0 && kelbraut_emitter(record) != own_number) {
+            sender = kelbraut_emitter(record);
+        }
+        CHECK(kelbraut_node_deliver(record, KELBRAUT_RECORD, tick, kind, sender, subject, short_list(), sent, sizeof sent) ==
               KELBRAUT_ACCEPTED);
     }
     CHECK(kelbraut_last_tick(record) == tick);
@@ -300,7 +344,7 @@ static void test_sequence(void) {
     CHECK(kelbraut_node_open(record, sizeof record, own_number, nodes, period, time_out) == KELBRAUT_ACCEPTED);
     CHECK(kelbraut_emitter(record) == (own_number + nodes - 1) % nodes);
     CHECK(kelbraut_observer(record) == (own_number + 1) % nodes);
-    CHECK(kelbraut_dead_list(record) == 0 && kelbraut_last_tick(record) == 0);
+    CHECK(kelbraut_dead_list(record) == 0 && kelbraut_mark(record) == 0 && kelbraut_last_tick(record) == 0);
     CHECK(kelbraut_next_due(record) == (nodes == 1 ? KELBRAUT_NEVER : earlier(period, time_out)));
     for (int i = 0; i < 60; i++) {
         test_record(record);
@@ -313,8 +357,10 @@ static void test_calls(void) {
         test_sequence();
     }
     CHECK(heartbeats > 1000 && moves > 1000 && left_alone > 100 && passed_one > 1000 && passed_more > 100);
+    CHECK(learnt > 1000 && relayed > 1000);
     printf("readers: calls: %" PRIu64 " heartbeats, %" PRIu64 " new emitters, %" PRIu64 " nodes alone; one passed %" PRIu64
-           " times, more %" PRIu64 "\n", heartbeats, moves, left_alone, passed_one, passed_more);
+           " times, more %" PRIu64 "; %" PRIu64 " heartbeats add to a list, %" PRIu64 " reports of listed nodes are passed on\n",
+           heartbeats, moves, left_alone, passed_one, passed_more, learnt, relayed);
 }
 
 /* ---- whole rings */
@@ -365,7 +411,7 @@ static void deliver_due(struct ring *r, uint64_t tick) {
             r->flights[kept++] = r->flights[i];
         } else if (r->left[to] > 0) {
             CHECK(kelbraut_node_deliver(r->records[to], KELBRAUT_RECORD, tick, kelbraut_kind(m), kelbraut_sender(m),
-                                        kelbraut_subject(m), sent, sizeof sent) == KELBRAUT_ACCEPTED);
+                                        kelbraut_subject(m), kelbraut_list(m), sent, sizeof sent) == KELBRAUT_ACCEPTED);
             send_all(r, to, sent, tick);
         }
     }

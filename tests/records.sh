@@ -101,6 +101,8 @@ small_rings() {
     named 'a reported emitter among ten' cat tests/reported-ten.run
     named 'a reported emitter among nine' cat tests/reported-nine.run
     named 'two nodes passed after a report' ring P,10,1,13,12,220 1 0 0 1 0 1 103 0 5 0 1 121 0 2 0 1 132 0 4 0 1 150 0 3 0
+    named 'a report that dies with its relays' ring P,5,3,5,2,92 1 4 0 1 0 2 5 0 3 1
+    grep -q '^S,90,0,2,000000000000001a$' "$work/records" || fail 'a report that dies with its relays leaves a list short'
 }
 
 rings_of_48() {
@@ -131,7 +133,7 @@ mistaken() {
 mistakes() {
     many_delays > "$work/mistaken.run"
     rehearsed 'mistakes' "$work/mistaken.run"
-    for mistake in 1 2 3 4 5 7; do
+    for mistake in 1 2 3 4 5 7 8; do
         mistaken "$mistake" 0
     done
     mistaken 6 1
@@ -167,6 +169,6 @@ moves=$("$out/simulate" moves tests/reported-*.run $(grep -La '^Q' "$work/$seed"
 more=$(grep -vcx 1 "$work/passed") || fail 'no node passed more than one'
 [ "$more" -ge $((count / 50)) ] || fail "$more lines K with more than one node passed"
 lines=$(counted)
-echo "records: $files files, $wide of them with 48 nodes or more, agree; $ordered with a Q line, $refused refused; 7 mistakes found"
+echo "records: $files files, $wide of them with 48 nodes or more, agree; $ordered with a Q line, $refused refused; 8 mistakes found"
 echo "records: $moves moves by report in the two files made for it and the small ones; lines:$lines"
 echo "records: $more lines K with more than one node passed, at most $(sort -n "$work/passed" | tail -n 1)"

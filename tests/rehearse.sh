@@ -1,8 +1,8 @@
 #!/bin/sh
 # The rehearsal program beside the simulator: the same bytes for generated run files, good and damaged, for a few large ones, for rings in
-# another order, for reported emitters, for nodes passed, for files at and beyond the greatest length, and for input that comes in pieces.
-# The lines K of its logs are also counted once more from the logs alone. Then its streams: slow, full, closed or no file. Stops at the
-# first difference, prints its seed and keeps its file.
+# another order, for reported emitters, for nodes passed, for nodes that heartbeats name, for files at and beyond the greatest length, and for
+# input that comes in pieces. The lines K of its logs are also counted once more from the logs alone. Then its streams: slow, full, closed or no
+# file. Stops at the first difference, prints its seed and keeps its file.
 #
 # Usage: tests/rehearse.sh [SEED [COUNT]]; REHEARSE names another program to compare.
 
@@ -95,6 +95,15 @@ nodes_passed() {
     passes K,1264,0,63,fffffffffffffffe
 }
 
+nodes_named() {
+    named 'nine nodes of which heartbeats alone name one' 'P,9,4,5,1,66\nC,5,0\nC,5,2\nC,5,3\nC,5,5\n'
+    passes H,22,4,1,000000000000002d
+    passes H,29,8,7,000000000000002d
+    named 'nodes named before they are reported' 'P,9,2,11,9,80\nC,3,8\nL,85,1\nL,94,1\nL,103,1\nL,112,1\n'
+    passes H,23,1,0,0000000000000100
+    passes R,40,3,8,0000000000000100
+}
+
 large() {
     named '2,048 in flight' 'P,64,1,33,32,200\n'
     named '2,049 in flight' 'P,64,1,34,33,200\n'
@@ -110,7 +119,7 @@ large() {
 }
 
 worked_log() {
-    for ring in worked shuffled reported-ten reported-nine; do
+    for ring in worked shuffled reported-ten reported-nine learnt; do
         run < "tests/$ring.run" > "$work/$ring" || true
         cmp "tests/$ring.log" "$work/$ring" || fail "the log of tests/$ring.run differs"
     done
@@ -139,6 +148,7 @@ for length in 65536 65537 131072 200000; do padded "$length"; done
 pieces
 orders
 nodes_passed
+nodes_named
 large
 c "$work/streams.so" -shared -fPIC tests/streams.c -ldl
 python3 tests/streams.py "$rehearse" "$work/large.run" "$work/large.log" "$work/streams.so"

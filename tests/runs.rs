@@ -1,19 +1,21 @@
 //! Runs from many places of a file and with many budgets, beside the simulator. A run may search the messages for each event, or keep them
-//! in a queue with 4,096 places; where it changes from one to the other, where it ends and what was run before must not be seen. So
+//! in a queue with 3,072 places; where it changes from one to the other, where it ends and what was run before must not be seen. So
 //! small files are cut at every event; large ones bring many messages into flight, in other orders than their numbers', up to the refusal
 //! by 8, or send more messages in one call than the queue has places.
 
 use super::calls::Call;
 use super::common::shown;
-use super::{opened, platform_of, Lent, Seen};
+use super::stores::{self, platform_of};
+use super::{opened, Lent, Seen};
 use simulator::generator::{self, Draft, CROWD, ORDERS, USUAL};
+use simulator::layout;
 use simulator::limits::LOG_BYTES;
 use simulator::log::Line;
 use simulator::node::{Content, Node};
-use simulator::platform::{Platform, Step};
+use simulator::platform::{Event, Platform, Step};
 use simulator::queue::Message;
 use simulator::random::Random;
-use simulator::store::Held;
+use simulator::store::{self, Held};
 use std::cmp::Reverse;
 
 /// Budgets about those at which a run may change how it finds its events, the least and the greatest.
@@ -28,8 +30,13 @@ const REPORTED: u64 = 40;
 /// How many files are generated of which steps at moves are tried, and how many moves of each.
 const MOVING: u64 = 60;
 const MOVES: usize = 6;
+/// How many files are generated of which steps at lists and marks are tried, and how many events of each; and lent stores with many lists in
+/// flight.
+const TELLING: u64 = 60;
+const TELLINGS: usize = 6;
+const CARRIED: u64 = 8;
 /// Messages for which the queue has places.
-const PLACES: u64 = 4_096;
+const PLACES: u64 = 3_072;
 /// At tick 8 a crash comes before two watches, no message and no heartbeat among them.
 const WATCHES: &str = "P,6,3,4,1,16\nC,5,1\nC,5,3\nC,8,5\n";
 
@@ -46,17 +53,23 @@ pub struct Met {
     reported: u64,
     /// Steps at moves of generated files, and those of them that pass more than one node.
     moves: [u64; 2],
+    /// Steps in generated files by which a node lists what a heartbeat names, and by which it relays a report of a node that it lists.
+    told: [u64; 2],
+    /// Runs with many lists in flight of heartbeats that were sent before them: some arrived in the run, some were left after it.
+    carried: [u64; 2],
 }
 
 impl Met {
     /// Every cut that a tick allows has to come up, and each kind of run.
     pub fn summary(&self) -> Result<(), String> {
-        let Met { cuts, long, refused, reported, moves } = self;
+        let Met { cuts, long, refused, reported, moves, told, carried } = self;
         println!("platform: cuts within a tick by class {cuts:?}; {long:?} runs of more than {PLACES} messages; {refused} refused late");
         println!("platform: a report moves a node in {reported} of {REPORTED} generated files");
         println!("platform: {} steps at moves of {MOVING} generated files, {} with more than one node passed", moves[0], moves[1]);
-        if moves[0] < 2 * MOVING || moves[1] < MOVING / 4 {
-            return Err("too few moves came up".to_string());
+        println!("platform: {told:?} steps in {TELLING} generated files by which a heartbeat tells a node, or a report one that knew");
+        println!("platform: {carried:?} runs of {CARRIED} stores with many lists in flight, in which some arrive, and which leave some");
+        if moves[0] < 2 * MOVING || moves[1] < MOVING / 4 || told[0] < TELLING / 2 || told[1] < TELLING / 4 || carried.contains(&0) {
+            return Err("too few moves or lists came up".to_string());
         }
         let missing = (0..4).any(|one| (one.min(2)..4).any(|other| cuts[one][other] == 0));
         if missing || long.contains(&0) || *refused == 0 || *reported < REPORTED / 8 {
@@ -241,13 +254,104 @@ fn moving(seen: &mut Seen, seed: u64) -> Result<(), String> {
     Ok(())
 }
 
+// ---- steps at lists and marks
+
+/// The places of a file's run before an event by which a node lists what a heartbeat names, and those before one by which it relays a report of
+/// a node that it lists; some of each, in the order of the run, with the kind.
+fn places_of_lists(file: &[u8]) -> Vec<(u64, usize)> {
+    let mut platform = platform_of(file);
+    let mut places = [Vec::new(), Vec::new()];
+    let mut nodes = platform.nodes().to_vec();
+    while let Step::Event(Event { line, passed }) = platform.step() {
+        let place = platform.events_done() - 1;
+        let (own, now) = (std::mem::replace(&mut nodes[line.node as usize], platform.nodes()[line.node as usize]), nodes[line.node as usize]);
+        match line.letter {
+            b'H' if own.dead_list != now.dead_list => places[0].push((place, 0)),
+            b'R' if passed.is_none() && own.dead_list == now.dead_list && own.mark != now.mark => places[1].push((place, 1)),
+            _ => {}
+        }
+    }
+    places.iter_mut().for_each(|places| places.truncate(TELLINGS / 2));
+    let mut places = places.concat();
+    places.sort_unstable();
+    places
+}
+
+/// Some nodes with quick heartbeats and long delays, of which many messages take one tick alone, and crashes close together: heartbeats often
+/// name a node before the report of it comes.
+fn telling_draft(random: &mut Random) -> Draft {
+    let nodes = random.range(4, 12);
+    let (period, delay) = (random.range(1, 3), random.range(3, 9));
+    let timeout = period + delay;
+    let order = generator::some_order(random, nodes);
+    let delays = (0..random.pick(&[600, 1_500])).map(|number| (number, random.pick(&[1, 1, delay]))).collect();
+    let mut draft = Draft { nodes, period, timeout, delay, end: 8 * timeout, order, crashes: Vec::new(), delays };
+    let first = random.range(0, timeout);
+    let rows = (1..random.range(2, nodes)).map(|_| (first + random.range(0, 2), random.range(0, nodes - 1))).collect();
+    generator::put_crashes(&mut draft, rows);
+    draft
+}
+
+/// At each of these places a step, and runs of one event and of more.
+fn telling(seen: &mut Seen, seed: u64) -> Result<(), String> {
+    for index in 0..TELLING {
+        let file = telling_draft(&mut Random::new(seed ^ 0x7465_6c6c, index)).bytes();
+        let told = |error| format!("seed {seed} file {index} of lists: {error}\n{}", shown(&file));
+        let mut point = Point::open(seen, &file).map_err(told)?;
+        let mut reached = 0;
+        for (place, kind) in places_of_lists(&file) {
+            point.run(seen, place - reached).map_err(told)?;
+            reached = place;
+            let mut other = point.clone();
+            seen.call(Call::Step, &mut other.store, &mut Lent::filled(LOG_BYTES), &mut other.held).map_err(told)?;
+            for budget in [1, 13] {
+                point.clone().run(seen, budget).map_err(told)?;
+            }
+            seen.met.told[kind] += 1;
+        }
+    }
+    Ok(())
+}
+
+// ---- lent stores with many lists in flight
+
+/// How many of the messages with numbers below this one carry a list.
+fn lists_below(held: &Option<Held>, number: u64) -> usize {
+    let messages = held.as_ref().map_or(Vec::new(), |held| held.platform.messages());
+    let carries = |message: &Message| matches!(message.content, Content::Heartbeat { list: 1.. }) && message.number < number;
+    messages.iter().filter(|(_, message)| carries(message)).count()
+}
+
+/// 64 nodes or fewer with any fields and at least 300 messages, due in any order: runs of some budgets.
+fn carried(seen: &mut Seen, seed: u64) -> Result<(), String> {
+    for index in 0..CARRIED {
+        let mut random = Random::new(seed ^ 0x6c69_7374, index);
+        let file = format!("P,{},20,60,{},900\nC,40,1\nC,40,5\n", random.pick(&[64, 64, 40, 7]), random.pick(&[3, 40]));
+        let plan = platform_of(file.as_bytes()).plan().clone();
+        let any = || Some(stores::any(&plan, &mut random)).filter(|bytes| layout::get(bytes, layout::MESSAGES, 0) >= 300);
+        let bytes = std::iter::repeat_with(any).flatten().next().expect("some stores have many messages");
+        let held = store::decode(&bytes);
+        let number = held.as_ref().map_or(0, |held| held.platform.next_number());
+        let before = lists_below(&held, number);
+        for budget in FEW_BUDGETS.into_iter().chain([30, 250]) {
+            let mut point = Point { store: Lent::new(&bytes), held: held.clone() };
+            point.run(seen, budget).map_err(|error| format!("seed {seed} store {index} with many lists: {error}"))?;
+            let left = lists_below(&point.held, number);
+            seen.met.carried[0] += u64::from(left < before);
+            seen.met.carried[1] += u64::from(left > 0 && budget > 11);
+        }
+    }
+    Ok(())
+}
+
 // ---- lent stores without timers
 
 /// No timer is on but those that a message sets: a heartbeat a watch, a new observer a heartbeat, or a report of the emitter a watch.
 fn woken(seen: &mut Seen) -> Result<(), String> {
     let opened = platform_of(b"P,4,5,20,6,90\n");
     let asleep = |node: &Node| Node { watch: None, heartbeat: None, ..*node };
-    for content in [Content::Heartbeat, Content::NewObserver, Content::Report { subject: 0 }] {
+    let heartbeats = [0, 0b1101].map(|list| Content::Heartbeat { list });
+    for content in heartbeats.into_iter().chain([Content::NewObserver, Content::Report { subject: 0 }]) {
         let message = (6, Message { number: 0, sender: 0, receiver: 1, content });
         let nodes = opened.nodes().iter().map(asleep).collect();
         let held = Held::from(Platform::resume(opened.plan().clone(), nodes, vec![message], 1, 0, 3));
@@ -312,6 +416,8 @@ pub fn all(seen: &mut Seen, seed: u64) -> Result<(), String> {
     small_files(seen, seed)?;
     reported(seen, seed)?;
     moving(seen, seed)?;
+    telling(seen, seed)?;
+    carried(seen, seed)?;
     woken(seen)?;
     crowds(seen)?;
     long_runs(seen)

@@ -52,9 +52,9 @@ commands() {
     sed 's/^K,27,4,1,/K,27,4,2,/' tests/reported-ten.log > "$out/miscounted.log"
     cp tests/reported-ten.run "$out/miscounted.run"
     ! "$out/simulate" recount "$out/miscounted.run" > "$out/miscounted.out" 2>&1 || fail 'a wrong number in a line K is not found'
-    printf 'P,5,1,3,2,20\nC,2,1\nC,2,2\n' > "$out/joined.run"
-    answers joined '' '2 26 11 14\n' "joined tests/worked.run $out/joined.run tests/worked.log"
-    answers joined-none '' '0 0 0 0\n' 'joined tests/worked.log'
+    printf 'P,5,1,3,2,24\nC,2,1\nC,2,2\n' > "$out/joined.run"
+    answers joined '' '2 50 11 14 14 11 20\n' "joined tests/worked.run $out/joined.run tests/worked.log"
+    answers joined-none '' '0 0 0 0 0 0 0\n' 'joined tests/worked.log'
 }
 
 # recounted FILE..: every line K of the files' logs is right and none is missing. Enough of them come up, also with more than one node passed.
@@ -65,13 +65,15 @@ recounted() {
     [ "$1" -ge "$count" ] && [ "$2" -ge $((count / 10)) ] || fail 'too few lines K'
 }
 
-# joined FILE..: survivors are joined wherever request 106 owes it, and it owes it often enough.
+# joined FILE..: survivors are joined wherever request 106 owes it, and their lists full wherever request 107 does; both are owed often enough.
 joined() {
-    told=$("$out/simulate" joined "$@") || fail 'survivors are not joined'
+    told=$("$out/simulate" joined "$@") || fail 'survivors are not joined, or their lists are not full'
     set -- $told
     echo "simulator: $1 generated files with a crash, survivors joined after all $2 events at which they have to be;"
     echo "simulator: nearest to its bound they were not yet joined $3 ticks after a last crash, of $4"
+    echo "simulator: lists full after all $5 events at which they have to be; nearest to its bound not yet $6 ticks after a last crash, of $7"
     [ "$1" -ge $((count / 3)) ] && [ "$2" -ge $((50 * count)) ] && [ "$3" -gt 0 ] || fail 'too few survivors have to be joined'
+    [ "$5" -ge $((50 * count)) ] && [ "$6" -gt 0 ] || fail 'too few lists have to be full'
 }
 
 echo "simulator: seed $seed, $count generated files"

@@ -1,5 +1,6 @@
 //! Stores: those that a run file leads to; and some that none leads to, all of them in range: a plan with any fields of nodes and any
-//! messages that the ranges allow. Rules can be told apart on these that no run tells apart, as a watch renewed by a heartbeat from anyone.
+//! messages that the ranges allow. Rules can be told apart on these that no run tells apart, as a watch renewed by a heartbeat from anyone,
+//! or a heartbeat that names its sender or its receiver.
 #![allow(dead_code)]
 
 use simulator::layout;
@@ -60,7 +61,15 @@ fn timer(last: u32, most: u32, random: &mut Random) -> Option<u32> {
     random.pick(&[None, Some(last), Some(last + later.min(3)), Some(last + later), Some(last + later), Some(last + most)])
 }
 
-/// A live node does not list itself, nor have itself as emitter or observer with the timer on; a crashed one may. None lists its emitter.
+/// Some of the nodes below N, none or all.
+fn some_list(plan: &Plan, random: &mut Random) -> u64 {
+    let all = u64::MAX >> (64 - plan.nodes);
+    let (half, few) = (random.draw() & all, random.draw() & random.draw() & random.draw() & all);
+    random.pick(&[0, half, half, few, few, all])
+}
+
+/// A live node does not list itself, nor have itself as emitter or observer with the timer on; a crashed one may. None lists its emitter, and
+/// what any of them marks is part of its list.
 fn node(plan: &Plan, last: u32, number: u8, alive: bool, density: u64, random: &mut Random) -> Node {
     let alone = plan.nodes == 1;
     let list = (0..plan.nodes).filter(|_| random.range(1, 4) <= density).fold(0, |list, node| list | 1u64 << node);
@@ -72,6 +81,7 @@ fn node(plan: &Plan, last: u32, number: u8, alive: bool, density: u64, random: &
         watch: timer(last, 2 * plan.timeout, random).filter(|_| !alone),
         heartbeat: timer(last, plan.period, random).filter(|_| !alone),
         dead_list: list & !(1 << number),
+        mark: some_list(plan, random),
     };
     if node.watch.is_none() || !alive {
         node.emitter = random.pick(&[node.emitter, number]);
@@ -84,21 +94,25 @@ fn node(plan: &Plan, last: u32, number: u8, alive: bool, density: u64, random: &
         node.dead_list = list;
     }
     node.dead_list &= !(1 << node.emitter);
+    node.mark &= node.dead_list;
     node
 }
 
-/// Some reports are of their receiver's emitter.
+/// Some reports are of their receiver's emitter, and some heartbeats are its own. What a heartbeat names may be any nodes, its sender and its
+/// receiver among them.
 fn messages(plan: &Plan, last: u32, nodes: &[Node], random: &mut Random) -> Vec<(u32, Message)> {
     let count = if plan.nodes == 1 { 0 } else { random.pick(&[0, 1, 5, 5, 40, 40, 300, 2_040, 2_048]) };
     let gap = random.pick(&[1, 3, 1_000_000]);
     let mut number = 0;
     let one = |_| {
         number += random.range(1, gap);
-        let sender = some_node(plan, random);
-        let receiver = other_node(plan, sender, random);
+        let receiver = some_node(plan, random);
         let (any, emitter) = (some_node(plan, random), nodes[usize::from(receiver)].emitter);
+        let another = other_node(plan, receiver, random);
+        let sender = if emitter == receiver { another } else { random.pick(&[another, another, emitter]) };
         let subject = random.pick(&[any, any, any, emitter]);
-        let content = random.pick(&[Content::Heartbeat, Content::NewObserver, Content::Report { subject }]);
+        let list = some_list(plan, random);
+        let content = random.pick(&[Content::Heartbeat { list }, Content::NewObserver, Content::Report { subject }]);
         let due = last + random.range(0, u64::from(plan.delay)) as u32;
         (due, Message { number, sender, receiver, content })
     };

@@ -19,4 +19,4 @@ trap 'rm -rf "$work"' EXIT
 "$out/simulate" < docs/rehearsal.run | python3 tools/timeline.py - "$work/rehearsal.svg"
 cmp docs/rehearsal.svg "$work/rehearsal.svg"
 "$out/generate" small "$seed" "$count" "$work"
-python3 tests/timeline.py "$out/simulate" "$work" docs/rehearsal.run "$work/$seed"-*.run
+python3 tests/timeline.py "$out/simulate" "$work" docs/rehearsal.run tests/learnt.run "$work/$seed"-*.run

@@ -85,10 +85,10 @@ impl Size {
         amount(self.messages, MAX_IN_FLIGHT)
     }
 
-    /// The head, five fields of a node and its place in the Q line, two fields of a row, six of a message.
+    /// The head, six fields of a node and its place in the Q line, two fields of a row, seven of a message.
     fn used(&self) -> usize {
         let Size { nodes, ordered, crashes, delays, messages } = *self;
-        29 + (18 + usize::from(ordered)) * nodes + 5 * (crashes + delays) + 16 * messages
+        29 + (26 + usize::from(ordered)) * nodes + 5 * (crashes + delays) + 24 * messages
     }
 
     /// What the store's bytes 0, 28, 6, 24, 25, 26 and 27 say.

@@ -53,7 +53,7 @@ pub enum Mistake {
 use Mistake::*;
 
 /// The parts of the layout that are unused in some store: all but those of the head's twelve numbers.
-const PARTS: Range<usize> = 12..31;
+const PARTS: Range<usize> = 12..32;
 
 static ZEROS: [u8; STORE_BYTES] = [0; STORE_BYTES];
 

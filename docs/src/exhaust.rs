@@ -1,19 +1,20 @@
 //! All runs of a small ring, in number order or another: every delay from 1 to D of every message, every crash at
-//! every tick, up to an end tick. It asks demand 3's words of the state after each event, and request 106's, and at each move that the
-//! number passed is right. For a larger ring the choices may be fewer: longer delays alone, and crashes of some nodes alone.
+//! every tick, up to an end tick. It asks demand 3's words of the state after each event, and those of requests 106 and 107; at each move
+//! that the number passed is right; and of each report that its sender makes it once. For a larger ring the choices may be fewer: longer
+//! delays alone, and crashes of some nodes alone.
 //!
 //! The search goes from tick to tick. Ticks are counted from the state's own, and what can no longer matter
 //! is left out, so that states which go on alike are one and are met once; where no new state comes up, the
 //! answer holds for every end tick. A run in which something is found comes back as a plan.
 //!
-//! What request 106 claims goes by the ticks since the last crash, which a state leaves out where crashes are close. So it is asked when
-//! all states are met, of each with the most ticks that can have passed (`ages`).
+//! What requests 106 and 107 claim goes by the ticks since the last crash, which a state leaves out where crashes are close. So it is asked
+//! when all states are met, of each with the most ticks that can have passed (`ages`).
 
 use super::ages::Graph;
-use super::node::{self, Content, Effect, Node, Sends, Settings, Timer};
+use super::node::{self, Content, Effect, Node, Sends, Sent, Settings, Timer};
 use super::plan::{Crash, Delay, Plan};
 use super::ring;
-use super::settle;
+use super::settle::{self, Claim};
 use std::collections::HashMap;
 
 /// The rules that the search goes by: the papers', or wrong ones, of which 01 names the first and the third as "natural".
@@ -40,6 +41,18 @@ pub enum Rules {
     ShortJoining,
     /// The same with W for 2 × W: W × f + D.
     SingleJoining,
+    /// A heartbeat carries no list.
+    NoList,
+    /// A report of a node that a heartbeat named is not relayed.
+    NamedNotRelayed,
+    /// The emitter left by an expired watch is not marked.
+    LeftNotMarked,
+    /// Not a rule but a claim: request 107 with the last crash not counted in the bound of request 106.
+    ShortListing,
+    /// The same with W for 2 × W.
+    SingleListing,
+    /// The same without (m − 1) × (H + D): by the bound of request 106.
+    NoSpreading,
 }
 
 /// What is searched: N, the ring's order, H, W, D, the end tick and the rules. W may be below H + D.
@@ -67,12 +80,18 @@ pub enum Finding {
     Unsettled,
     /// The number passed at a move is not the count of the listed nodes from the one left back to the new emitter.
     Miscounted,
+    /// A node reports a subject that it had marked or does not mark; or it gets a report and the subject is not marked then.
+    Misreported,
+    /// A node lists its emitter, or marks a node that it does not list.
+    OutOfRange,
     /// No event due up to 2 × W × f + D ticks after the last of f crashes is left, but the survivors are not joined.
     Unjoined,
+    /// The same with (m − 1) × (H + D) ticks more, m being the survivors, but one of their lists is not full.
+    Unlisted,
 }
 
-/// For each number of crashes done the most ticks after the last of them at whose end the survivors are not joined; nothing where
-/// they are at the end of every tick.
+/// For each number of crashes done the most ticks after the last of them at whose end what is claimed does not hold; nothing where it does
+/// at the end of every tick.
 pub type Late = [Option<u32>; 17];
 
 /// What is found, at which tick, and a run that leads to it.
@@ -96,8 +115,12 @@ pub struct Outcome {
     pub runs: f64,
     /// The ticks after which no new state came up; nothing where the end tick came first.
     pub closed: Option<u32>,
-    /// Where nothing is found.
+    /// Heartbeats that came to a live node from another than its emitter.
+    pub strange: u64,
+    /// How late survivors are not joined, where nothing is found.
     pub late: Late,
+    /// How late their lists are not full, where nothing is found.
+    pub late_lists: Late,
     pub found: Option<Found>,
 }
 
@@ -140,20 +163,42 @@ impl State {
         }
     }
 
-    /// Whether the message can still change its receiver.
-    fn matters(&self, flight: &Flight) -> bool {
+    /// The message as far as it can still change its receiver; nothing where it cannot. Lists and marks only grow, so that a listed
+    /// node need not be named and a marked one not be reported.
+    fn essence(&self, flight: Flight) -> Option<Flight> {
         let receiver = &self.nodes[usize::from(flight.receiver)];
-        let listed = |subject| subject == receiver.number || ring::listed(receiver.dead_list, subject);
-        receiver.alive && !matches!(flight.content, Content::Report { subject } if listed(subject))
+        match flight.content {
+            _ if !receiver.alive => None,
+            Content::Heartbeat { list } => {
+                let list = ring::without(list & !receiver.dead_list, receiver.number);
+                Some(Flight { content: Content::Heartbeat { list: ring::without(list, flight.sender) }, ..flight })
+            }
+            Content::NewObserver => Some(flight),
+            Content::Report { subject } => {
+                (subject != receiver.number && !ring::listed(receiver.mark, subject)).then_some(flight)
+            }
+        }
     }
 
     fn put(&mut self, flight: Flight) {
-        if self.matters(&flight) {
+        if let Some(flight) = self.essence(flight) {
             let place = self.flights.partition_point(|other| other.due <= flight.due);
             self.flights.insert(place, flight);
         } else {
             self.idle |= 1 << flight.due;
         }
+    }
+
+    /// Marks what no mark can matter for any more: the nodes that all live nodes list, so that none of these will observe one and report
+    /// it, and of which no report is in flight.
+    fn mark_settled(&mut self) {
+        let reported = |list, flight: &Flight| match flight.content {
+            Content::Report { subject } => ring::with(list, subject),
+            _ => list,
+        };
+        let settled = self.nodes.iter().filter(|node| node.alive).fold(u64::MAX, |list, node| list & node.dead_list);
+        let settled = settled & !self.flights.iter().fold(0, reported);
+        self.nodes.iter_mut().filter(|node| node.alive).for_each(|node| node.mark |= settled);
     }
 
     fn crashes_done(&self) -> usize {
@@ -181,6 +226,7 @@ impl State {
         for flight in std::mem::take(&mut self.flights) {
             self.put(flight);
         }
+        self.mark_settled();
         self.idle >>= 1;
         self.flights.iter_mut().for_each(|flight| flight.due -= 1);
         for node in &mut self.nodes {
@@ -209,16 +255,20 @@ impl State {
         key.clear();
         key.extend([crashed[0], crashed[1], self.idle as u8, crashes]);
         for node in self.nodes.iter().filter(|node| node.alive) {
-            let list = (node.dead_list as u16).to_le_bytes();
-            key.extend([node.emitter << 4 | node.observer, due(node.watch), due(node.heartbeat), list[0], list[1]]);
+            key.extend([node.emitter << 4 | node.observer, due(node.watch), due(node.heartbeat)]);
+            key.extend((node.dead_list as u16).to_le_bytes());
+            key.extend((node.mark as u16).to_le_bytes());
         }
         for Flight { due, sender, receiver, content } in &self.flights {
-            let content = match content {
-                Content::Heartbeat => 254,
-                Content::NewObserver => 255,
-                Content::Report { subject } => *subject,
-            };
-            key.extend([*due as u8, sender << 4 | receiver, content]);
+            key.extend([*due as u8, sender << 4 | receiver]);
+            match content {
+                Content::Heartbeat { list } => {
+                    key.push(254);
+                    key.extend((*list as u16).to_le_bytes());
+                }
+                Content::NewObserver => key.push(255),
+                Content::Report { subject } => key.push(*subject),
+            }
         }
     }
 }
@@ -249,7 +299,27 @@ impl Search {
         }
     }
 
-    /// Searches to the end tick, or until something is found. Request 106 is asked at the end.
+    /// 2 × W × f + D and (m − 1) × (H + D) after the last of f crashes, m being the survivors.
+    pub fn listing_time(&self, crashes: usize) -> u32 {
+        let joined = settle::joining_time(self.timeout, self.delay, crashes);
+        let time = (joined + settle::spreading_time(self.period, self.delay, usize::from(self.nodes) - crashes)) as u32;
+        match self.rules {
+            Rules::ShortListing => time - 2 * self.timeout,
+            Rules::SingleListing => time - self.timeout * crashes as u32,
+            Rules::NoSpreading => joined as u32,
+            _ => time,
+        }
+    }
+
+    /// In how many ticks after the last of so many crashes the claim is owed at the latest.
+    fn time(&self, claim: Claim, crashes: usize) -> u32 {
+        match claim {
+            Claim::Joined => self.joining_time(crashes),
+            Claim::Listed => self.listing_time(crashes),
+        }
+    }
+
+    /// Searches to the end tick, or until something is found. Requests 106 and 107 are asked at the end.
     pub fn explore(&self) -> Outcome {
         let longest_watch = if self.rules == Rules::LongWatch { 3 } else { 2 } * self.timeout;
         assert!(self.nodes <= 16 && longest_watch < 250 && self.delay < 8, "the search is for small rings");
@@ -271,8 +341,11 @@ impl Search {
         }
         let (outcome, ages) = (Outcome { closed, ..tree.outcome() }, tree.graph().ages());
         match tree.breach(&ages) {
-            Some(breach) => Outcome { found: Some(tree.found_unjoined(&ages, breach)), ..outcome },
-            None => Outcome { runs: tree.runs(), late: tree.late(&ages), ..outcome },
+            Some(breach) => Outcome { found: Some(tree.found_breach(&ages, breach)), ..outcome },
+            None => {
+                let [late, late_lists] = [Claim::Joined, Claim::Listed].map(|claim| tree.late(claim, &ages));
+                Outcome { runs: tree.runs(), late, late_lists, ..outcome }
+            }
         }
     }
 }
@@ -294,9 +367,10 @@ enum Sought {
     Parting,
 }
 
-/// A state that breaks request 106 where the last crash is so many ticks ago or more.
+/// A state that breaks a claim where the last crash is so many ticks ago or more.
 #[derive(Clone, Copy, PartialEq, Eq, Debug)]
 struct Breach {
+    claim: Claim,
     id: usize,
     age: u32,
     /// Whether survivors that are joined when its tick starts are parted by an event of it. Else they are not joined at the start.
@@ -317,6 +391,7 @@ struct Tree<'search> {
     events: u64,
     moves_by_report: u64,
     passed: [u64; 17],
+    strange: u64,
     /// Of the state that is being gone on from: what is chosen so far, and the states led to.
     chosen: Choice,
     leads: Vec<usize>,
@@ -341,6 +416,7 @@ impl<'search> Tree<'search> {
             events: 0,
             moves_by_report: 0,
             passed: [0; 17],
+            strange: 0,
             chosen: Choice::default(),
             leads: Vec::new(),
             from: 0,
@@ -436,37 +512,72 @@ impl<'search> Tree<'search> {
             }
             _ => return self.end_tick(state),
         };
-        let Some(sends) = sends else { return Some(Finding::Miscounted) };
-        self.after_event(&state).or_else(|| self.send(state, node, &sends, 0))
+        match sends {
+            Ok(sends) => self.after_event(&state).or_else(|| self.send(state, node, &sends, 0)),
+            Err(finding) => Some(finding),
+        }
     }
 
-    /// What the node sends, or nothing where the number passed is wrong.
-    fn deliver(&mut self, node: &mut Node, sender: u8, content: Content) -> Option<Sends> {
+    /// What the node sends, or what is found wrong with it.
+    fn deliver(&mut self, node: &mut Node, sender: u8, content: Content) -> Result<Sends, Finding> {
         if !node.alive {
-            return Some(Sends::none());
+            return Ok(Sends::none());
         }
         let before = *node;
-        let Effect { sends, passed } = node.deliver(&self.settings, 0, sender, content);
+        let effect = self.effect_of(node, sender, content);
+        self.strange += u64::from(matches!(content, Content::Heartbeat { .. }) && sender != before.emitter);
         if node.emitter != before.emitter {
             self.moves_by_report += 1;
             if self.search.rules == Rules::ShortReported {
                 node.watch = node.watch.map(|_| self.settings.timeout);
             }
         }
-        self.counted(&before, node, passed).then_some(sends)
+        let marked = |subject| subject == node.number || ring::listed(node.mark, subject);
+        if matches!(content, Content::Report { subject } if !marked(subject)) {
+            return Err(Finding::Misreported);
+        }
+        self.asked(&before, node, effect)
+    }
+
+    /// What a message does by the rules.
+    fn effect_of(&self, node: &mut Node, sender: u8, content: Content) -> Effect {
+        let content = match (self.search.rules, content) {
+            (Rules::NoList, Content::Heartbeat { .. }) => Content::Heartbeat { list: 0 },
+            (Rules::NamedNotRelayed, Content::Report { subject }) if ring::listed(node.dead_list, subject) => return Effect::none(),
+            _ => content,
+        };
+        node.deliver(&self.settings, 0, sender, content)
     }
 
     /// The same of a timer.
-    fn expire(&mut self, node: &mut Node, timer: Timer) -> Option<Sends> {
+    fn expire(&mut self, node: &mut Node, timer: Timer) -> Result<Sends, Finding> {
         let before = *node;
-        let Effect { sends, passed } = match timer {
+        let effect = match timer {
             Timer::Watch => node.expire_watch(&self.settings, 0),
             Timer::Heartbeat => node.send_heartbeat(&self.settings, 0),
         };
         if timer == Timer::Watch {
             node.watch = node.watch.and_then(|due| self.watch_after_moving(due));
+            if self.search.rules == Rules::LeftNotMarked {
+                node.mark = before.mark;
+            }
         }
-        self.counted(&before, node, passed).then_some(sends)
+        self.asked(&before, node, effect)
+    }
+
+    /// What an event of a node sends, where nothing is wrong with the number passed, with what it reports and with its lists.
+    fn asked(&mut self, before: &Node, after: &Node, Effect { sends, passed }: Effect) -> Result<Sends, Finding> {
+        let newly = |subject| ring::listed(after.mark, subject) && !ring::listed(before.mark, subject);
+        let repeats = |sent: &Sent| matches!(sent.content, Content::Report { subject } if !newly(subject));
+        if !self.counted(before, after, passed) {
+            Err(Finding::Miscounted)
+        } else if sends.as_slice().iter().any(repeats) {
+            Err(Finding::Misreported)
+        } else if ring::listed(after.dead_list, after.emitter) || after.mark & !after.dead_list != 0 {
+            Err(Finding::OutOfRange)
+        } else {
+            Ok(sends)
+        }
     }
 
     /// When the watch is due by the rules, where the papers' rule says when.
@@ -502,18 +613,24 @@ impl<'search> Tree<'search> {
 
     /// Puts the messages from `place` on in flight, with every delay.
     fn send(&mut self, state: State, sender: u8, sends: &Sends, place: usize) -> Option<Finding> {
-        let Some(sent) = sends.as_slice().get(place) else { return self.go_on(state) };
-        for due in self.search.least_delay..=self.search.delay {
-            let mut other = state.clone();
-            other.put(Flight { due, sender, receiver: sent.receiver, content: sent.content });
-            self.chosen.delays.push(due as u8);
-            let finding = self.send(other, sender, sends, place + 1);
-            if finding.is_some() {
-                return finding;
-            }
+        if place == sends.as_slice().len() {
+            return self.go_on(state);
+        }
+        let Search { least_delay, delay, .. } = *self.search;
+        let shorter = (least_delay..delay).find_map(|due| self.send_one(state.clone(), sender, sends, place, due));
+        shorter.or_else(|| self.send_one(state, sender, sends, place, delay))
+    }
+
+    /// The same with this delay of the first of them.
+    fn send_one(&mut self, mut state: State, sender: u8, sends: &Sends, place: usize, due: u32) -> Option<Finding> {
+        let Sent { receiver, content } = sends.as_slice()[place];
+        state.put(Flight { due, sender, receiver, content });
+        self.chosen.delays.push(due as u8);
+        let finding = self.send(state, sender, sends, place + 1);
+        if finding.is_none() {
             self.chosen.delays.pop();
         }
-        None
+        finding
     }
 
     fn end_tick(&mut self, mut state: State) -> Option<Finding> {
@@ -580,7 +697,9 @@ impl<'search> Tree<'search> {
             passed: self.passed,
             runs: 0.0,
             closed: None,
+            strange: self.strange,
             late: [None; 17],
+            late_lists: [None; 17],
             found: None,
         }
     }
@@ -600,44 +719,47 @@ impl<'search> Tree<'search> {
     }
 }
 
-/// Request 106, asked of the states met, each with the most ticks that can have passed since the last crash.
+/// Requests 106 and 107, asked of the states met, each with the most ticks that can have passed since the last crash.
 impl Tree<'_> {
     fn graph(&self) -> Graph<'_> {
         Graph::new(self.states.iter().map(|state| state.crashes_done() as u8).collect(), &self.ways)
     }
 
-    /// The states after a crash whose survivors are not joined.
-    fn unjoined(&self) -> impl Iterator<Item = (usize, &State)> {
-        self.states.iter().enumerate().filter(|(_, state)| state.crashes_done() > 0 && !self.joined(state))
+    /// The states after a crash in which what is claimed does not hold.
+    fn failing(&self, claim: Claim) -> impl Iterator<Item = (usize, &State)> {
+        let fails = move |state: &State| state.crashes_done() > 0 && !claim.holds(&self.settings.ring, &state.nodes);
+        self.states.iter().enumerate().filter(move |(_, state)| fails(state))
     }
 
     /// A state stands as it does at the end of the tick before.
-    fn late(&self, ages: &[u32]) -> Late {
+    fn late(&self, claim: Claim, ages: &[u32]) -> Late {
         let mut late = [None; 17];
-        for (id, state) in self.unjoined() {
+        for (id, state) in self.failing(claim) {
             let most = &mut late[state.crashes_done()];
             *most = (*most).max(Some(ages[id] - 1));
         }
         late
     }
 
-    /// The first state that breaks the claim. The crashes to come are those that the search has yet to choose, so that a run without
+    /// The first state that breaks a claim. The crashes to come are those that the search has yet to choose, so that a run without
     /// them is among those that go on from a state.
     ///
-    /// - Unjoined at the start of a tick: where nothing is left that is due up to the bound.
-    /// - Parted by an event of the tick: where the tick is beyond the bound. Before that it is owed only where the event is the last
-    ///   of the tick, and then of the next state.
+    /// - What is claimed does not hold at the start of a tick: where nothing is left that is due up to the bound.
+    /// - Survivors are parted by an event of the tick: where the tick is beyond the bound. Before that it is owed only where the event is
+    ///   the last of the tick, and then of the next state. Full lists stay so until the next crash, as lists only grow and hold no live node.
     fn breach(&self, ages: &[u32]) -> Option<Breach> {
-        let unjoined = self.unjoined().map(|(id, state)| {
-            let bound = self.search.joining_time(state.crashes_done());
-            let age = state.earliest_due().map_or(1, |due| (bound + 1).saturating_sub(due).max(1));
-            Breach { id, age, parting: false }
-        });
+        let failing = |claim| {
+            self.failing(claim).map(move |(id, state)| {
+                let bound = self.search.time(claim, state.crashes_done());
+                let age = state.earliest_due().map_or(1, |due| (bound + 1).saturating_sub(due).max(1));
+                Breach { claim, id, age, parting: false }
+            })
+        };
         let parted = (0..self.parted.len()).filter(|id| self.parted[*id]).map(|id| {
             let age = self.search.joining_time(self.states[id].crashes_done()) + 1;
-            Breach { id, age, parting: true }
+            Breach { claim: Claim::Joined, id, age, parting: true }
         });
-        unjoined.chain(parted).find(|breach| ages[breach.id] >= breach.age)
+        failing(Claim::Joined).chain(parted).chain(failing(Claim::Listed)).find(|breach| ages[breach.id] >= breach.age)
     }
 
     /// Choices that lead to a state so many ticks or more after the last crash: to one that comes as many ticks before it, which is one
@@ -651,14 +773,18 @@ impl Tree<'_> {
         choices
     }
 
-    fn found_unjoined(&mut self, ages: &[u32], breach: Breach) -> Found {
+    fn found_breach(&mut self, ages: &[u32], breach: Breach) -> Found {
         let mut choices = self.choices_at(ages, breach.id, breach.age);
         if breach.parting {
             choices.push(self.choice(breach.id, Sought::Parting));
         }
         let tick = choices.len() as u32 - 1;
         let plan = Plan { end: self.search.end.max(tick), ..self.search.plan(&choices) };
-        Found { finding: Finding::Unjoined, tick, plan }
+        let finding = match breach.claim {
+            Claim::Joined => Finding::Unjoined,
+            Claim::Listed => Finding::Unlisted,
+        };
+        Found { finding, tick, plan }
     }
 
     /// A choice that leads from the state to what is sought.
@@ -695,6 +821,7 @@ impl Search {
 #[cfg(test)]
 mod tests {
     use super::super::platform::{Platform, Step};
+    use super::super::queue::Message;
     use super::*;
 
     const SMALL: Search = Search {
@@ -709,28 +836,20 @@ mod tests {
         rules: Rules::Paper,
     };
 
-    /// What a state and a platform have in common at the start of a tick: the live nodes, with their timers
-    /// counted from that tick, and the messages that matter, by due tick.
+    /// What a state and a platform have in common at the start of a tick: the live nodes, with their timers counted from that tick, and
+    /// the messages that matter, by due tick, as far as they do.
     fn common(platform: &Platform, tick: u32) -> (Vec<Node>, Vec<Flight>) {
+        let mut state =
+            State { nodes: platform.nodes().to_vec(), flights: Vec::new(), idle: 0, crashes: Crashes::None };
+        for (due, Message { sender, receiver, content, .. }) in platform.messages() {
+            state.put(Flight { due: due - tick, sender, receiver, content });
+        }
+        state.mark_settled();
         let count = |timer: Option<u32>| timer.map(|due| due - tick);
-        let live = platform.nodes().iter().filter(|node| node.alive);
+        let live = state.nodes.iter().filter(|node| node.alive);
         let nodes =
             live.map(|node| Node { watch: count(node.watch), heartbeat: count(node.heartbeat), ..*node });
-        let state =
-            State { nodes: platform.nodes().to_vec(), flights: Vec::new(), idle: 0, crashes: Crashes::None };
-        let mut flights: Vec<Flight> = platform
-            .messages()
-            .into_iter()
-            .map(|(due, message)| Flight {
-                due: due - tick,
-                sender: message.sender,
-                receiver: message.receiver,
-                content: message.content,
-            })
-            .filter(|flight| state.matters(flight))
-            .collect();
-        flights.sort_by_key(|flight| flight.due);
-        (nodes.collect(), flights)
+        (nodes.collect(), state.flights)
     }
 
     /// Four nodes, each of which has one neighbour that is none in number order.
@@ -741,6 +860,19 @@ mod tests {
     /// Nine nodes of which four in a row may crash, every message being three ticks in flight: a report moves node 5.
     fn reported() -> Search {
         Search { nodes: 9, timeout: 4, delay: 3, least_delay: 3, mortal: 0b11110, end: 100, ..SMALL }
+    }
+
+    /// Nine nodes of which four may crash: 0 and the nodes one, two and four ahead of 1, to which 1 reports 0.
+    fn dying() -> Search {
+        Search { nodes: 9, period: 4, timeout: 5, delay: 1, mortal: 0b101101, end: 100, ..SMALL }
+    }
+
+    /// Where the relays of a report die, heartbeats name its subject, from node to node.
+    #[test]
+    fn the_platform_comes_to_the_same_states_by_heartbeats() {
+        compare_states(&dying(), 3_000);
+        let found = |rules| Search { rules, ..dying() }.explore().found.map(|found| found.finding);
+        assert_eq!([Rules::Paper, Rules::NoList].map(found), [None, Some(Finding::Unlisted)]);
     }
 
     #[test]
@@ -799,6 +931,7 @@ mod tests {
         let outcome = SMALL.explore();
         assert_eq!(outcome.found, None);
         assert!(outcome.closed.is_some() && outcome.states > 4_000);
+        assert_eq!(outcome.strange, 0);
         let [none, one, two, more @ ..] = outcome.passed;
         assert!(none == 0 && one > 400 && two > 20 && more == [0; 14], "moves by the number passed: {:?}", outcome.passed);
     }
@@ -851,6 +984,19 @@ mod tests {
         assert_eq!(finding(Rules::LeftNotCounted, shuffled()), Some(Finding::Miscounted));
         assert_eq!(finding(Rules::LateWatch, SMALL), Some(Finding::Unjoined));
         assert_eq!(finding(Rules::LongWatch, Search { delay: 1, timeout: 2, ..shuffled() }), Some(Finding::Unjoined));
+        for search in [SMALL, shuffled()] {
+            assert_eq!(finding(Rules::NamedNotRelayed, search.clone()), Some(Finding::Misreported));
+            assert_eq!(finding(Rules::LeftNotMarked, search), Some(Finding::Misreported));
+        }
+    }
+
+    /// Five nodes, D = 1: 0 and 2 survive, and no report of 1 comes to 0, as in the plan of five nodes of the papers. Where heartbeats carry
+    /// no list, it never lists 1. With fewer nodes every report comes to somebody who passes it on.
+    #[test]
+    fn lists_stay_short_where_heartbeats_carry_none() {
+        let found = |nodes, rules| Search { nodes, delay: 1, timeout: 2, rules, ..SMALL }.explore().found.map(|found| found.finding);
+        assert_eq!([3, 4, 5].map(|nodes| found(nodes, Rules::NoList)), [None, None, Some(Finding::Unlisted)]);
+        assert_eq!(found(5, Rules::Paper), None);
     }
 
     /// The tree with all states of a search.
@@ -894,8 +1040,8 @@ mod tests {
         compare_ages(&Search { delay: 1, timeout: 2, ..shuffled() }, 1);
     }
 
-    /// The platform comes to one state in so many by a run in which the last crash is the most ticks ago, or 20; and what request 106 asks
-    /// of the state is what it asks of the platform.
+    /// The platform comes to one state in so many by a run in which the last crash is the most ticks ago, or 20; and what requests 106 and 107
+    /// ask of the state is what they ask of the platform.
     fn compare_ages(search: &Search, one_in: usize) {
         let mut tree = grown(search);
         let ages = tree.graph().ages();
@@ -912,6 +1058,7 @@ mod tests {
             assert!(since == ages[id] || since >= age && ages[id] > age, "{since} ticks, not {age}");
             assert_eq!(state.earliest_due(), platform.earliest_due().map(|due| due - tick));
             assert_eq!(tree.joined(state), settle::joined(platform.ring(), platform.nodes()));
+            assert_eq!(settle::lists_full(&state.nodes), settle::lists_full(platform.nodes()));
         }
     }
 
@@ -932,6 +1079,22 @@ mod tests {
         }
     }
 
+    /// The node after the dead expires on the last of them as above, and by then lists all. Its reports take D ticks to each of the survivors a
+    /// power of two ahead, and as much for each relay: of eight survivors the seventh ahead is reached by three, of seven, six or five one
+    /// by two, of two the other by one. At the end of the tick before, a list is not full.
+    #[test]
+    fn lists_are_as_late_as_worked_by_hand() {
+        for (search, relays) in [(SMALL, &[1, 0][..]), (reported(), &[3, 2, 2, 2])] {
+            let Search { timeout, delay, .. } = search;
+            let late = search.explore().late_lists;
+            for (relays, crashes) in relays.iter().zip(1..) {
+                let expired = delay + timeout + 2 * timeout * (crashes - 1) - 1;
+                assert_eq!(late[crashes as usize], Some(expired + relays * delay - 1), "{crashes} crashes");
+            }
+            assert_eq!((late[0], late[relays.len() + 1]), (None, None));
+        }
+    }
+
     /// Each run that breaks a shorter claim, done by the platform's events up to the end of that tick, leaves survivors unjoined, and
     /// nothing due by the tick that is claimed.
     #[test]
@@ -948,6 +1111,79 @@ mod tests {
                 assert!(!settle::joined(platform.ring(), platform.nodes()) && settle::request_106(&mut platform));
             }
         }
+    }
+
+    /// The same of claims shorter than request 107's.
+    #[test]
+    fn shorter_claims_of_lists_are_broken_by_the_platform() {
+        let shuffled = || Search { delay: 1, timeout: 2, ..shuffled() };
+        let small = [Rules::ShortListing, Rules::SingleListing].into_iter().flat_map(|rules| [(rules, SMALL), (rules, shuffled())]);
+        for (rules, search) in small.chain([(Rules::NoSpreading, reported())]) {
+            let search = Search { rules, ..search };
+            let found = search.explore().found.expect("a list is not full");
+            assert_eq!(found.finding, Finding::Unlisted);
+            let mut platform = Platform::open(Plan { end: found.tick, ..found.plan });
+            platform.run(u64::MAX);
+            let claimed = settle::last_crash(&platform).expect("a crash is done") + search.listing_time(platform.crashes_done());
+            assert!(platform.earliest_due().is_none_or(|due| due > claimed));
+            assert!(!settle::lists_full(platform.nodes()) && settle::request_107(&mut platform));
+        }
+    }
+
+    /// Of a message that is put in flight what can no longer matter is left out: to a dead node all, a report of a marked node or of the
+    /// receiver, and of a heartbeat's list the nodes that the receiver lists, itself and the sender.
+    #[test]
+    fn messages_are_kept_as_far_as_they_matter() {
+        let mut state = State::open(&Search { nodes: 6, ..SMALL }.settings());
+        state.nodes[1] = Node { dead_list: 0b1100, mark: 0b0100, ..state.nodes[1] };
+        state.nodes[2].alive = false;
+        let kept = |receiver, content| state.essence(Flight { due: 1, sender: 0, receiver, content }).map(|flight| flight.content);
+        let heartbeat = |list| Content::Heartbeat { list };
+        assert_eq!(kept(1, heartbeat(0b101111)), Some(heartbeat(0b100000)));
+        assert_eq!(kept(1, heartbeat(0b000111)), Some(heartbeat(0)));
+        assert_eq!(kept(1, Content::NewObserver), Some(Content::NewObserver));
+        for (subject, matters) in [(1, false), (2, false), (3, true), (4, true)] {
+            let report = Content::Report { subject };
+            assert_eq!(kept(1, report), matters.then_some(report));
+        }
+        for content in [heartbeat(0b1000), Content::NewObserver, Content::Report { subject: 4 }] {
+            assert_eq!(kept(2, content), None);
+        }
+    }
+
+    /// Node 1 of five observes 0 and has marked 3. After an event it may not list 0, nor mark what it does not list, nor report 3 once more;
+    /// and what it reports, 2 here, it has to mark.
+    #[test]
+    fn lists_and_marks_are_asked_of_each_event() {
+        let search = Search { nodes: 5, ..SMALL };
+        let mut tree = Tree::new(&search);
+        let before = Node { dead_list: 0b01000, mark: 0b01000, ..tree.states[0].nodes[1] };
+        let report_of = |subject| Node { mark: 0, ..before }.deliver(&search.settings(), 0, 4, Content::Report { subject });
+        let mut asked = |after: Node, effect: Effect| tree.asked(&before, &after, effect).err();
+        let reported = Node { dead_list: 0b01100, mark: 0b01100, ..before };
+        assert_eq!([asked(before, Effect::none()), asked(reported, report_of(2))], [None, None]);
+        assert_eq!(asked(Node { dead_list: 0b01001, ..before }, Effect::none()), Some(Finding::OutOfRange));
+        assert_eq!(asked(Node { mark: 0b01100, ..before }, Effect::none()), Some(Finding::OutOfRange));
+        assert_eq!(asked(before, report_of(3)), Some(Finding::Misreported));
+        assert_eq!(asked(Node { mark: 0b01000, ..reported }, report_of(2)), Some(Finding::Misreported));
+    }
+
+    /// Nodes 3 and 4 of five are dead. All list 3, and no report of it is in flight: it is marked by all. Of 4 one is still on its way, and 1
+    /// does not list 2.
+    #[test]
+    fn marks_are_set_where_they_no_longer_matter() {
+        let mut state = State::open(&Search { nodes: 5, ..SMALL }.settings());
+        for (node, dead_list, mark) in [(0, 0b11100, 0b10000), (1, 0b11000, 0b01000), (2, 0b11000, 0)] {
+            state.nodes[node] = Node { dead_list, mark, ..state.nodes[node] };
+        }
+        state.nodes[3].alive = false;
+        state.nodes[4].alive = false;
+        state.put(Flight { due: 1, sender: 0, receiver: 2, content: Content::Report { subject: 4 } });
+        state.mark_settled();
+        assert_eq!([0, 1, 2, 3].map(|node: usize| state.nodes[node].mark), [0b11000, 0b01000, 0b01000, 0]);
+        state.flights.clear();
+        state.mark_settled();
+        assert_eq!([0, 1, 2, 3].map(|node: usize| state.nodes[node].mark), [0b11000, 0b11000, 0b11000, 0]);
     }
 
     /// A claim of D ticks after the first crash is owed before these have passed where nothing is due in them: a crash at tick 0 is followed by
@@ -977,7 +1213,7 @@ mod tests {
         assert_eq!(tree.expand(0), None);
         assert!(tree.parted == [true] && tree.states.iter().all(|state| tree.joined(state)));
         let breach = |age| tree.breach(&vec![age; tree.states.len()]);
-        assert_eq!((breach(5), breach(6)), (None, Some(Breach { id: 0, age: 6, parting: true })));
+        assert_eq!((breach(5), breach(6)), (None, Some(Breach { claim: Claim::Joined, id: 0, age: 6, parting: true })));
         assert!(tree.choice(0, Sought::Parting).delays.is_empty());
         tree.states[0].flights.remove(0);
         assert!(tree.go_on_from(0).is_none() && !tree.parting);

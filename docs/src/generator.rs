@@ -2,7 +2,7 @@
 //!
 //! `file(seed, index, size)` gives the bytes of one file, `plan(seed, index)` an undamaged one, `spaced_plan(seed, index)` one whose
 //! crashes are all spaced by S, `reported_plan(seed, index, size)` one in which a report of the emitter may well move a node,
-//! `tripped_plan(seed, index, size)` one in which many nodes crash close together and the survivors come to be joined;
+//! `tripped_plan(seed, index, size)` one in which many nodes crash close together and the survivors come to be joined and to have full lists;
 //! `crowd(order)` is a plan that brings 2,048 messages into flight, due in that order; `some_order` is an order of a ring's nodes, or none.
 
 use super::limits::{FILE_BYTES, MAX_DELAY_ROWS};
@@ -270,7 +270,7 @@ fn reported_draft(random: &mut Random, size: Size) -> Draft {
 }
 
 /// A power trip. One group of nodes crashes or several, each at one tick or within a few, and the run goes on to the tick from whose end on
-/// the survivors are joined or beyond it. Heartbeats are slow against delays in larger rings, as a survivor may wait 2 × W for each of
+/// the survivors are joined or beyond it, half of the time to the one from whose end on their lists are full. Heartbeats are slow against delays in larger rings, as a survivor may wait 2 × W for each of
 /// the dead.
 fn tripped_draft(random: &mut Random, size: Size) -> Draft {
     let nodes = if size.crowded { random.pick(&[2, 5, 8, 16, 24, 48, 62]) + random.range(0, 2) } else { random.range(2, 9) };
@@ -282,8 +282,10 @@ fn tripped_draft(random: &mut Random, size: Size) -> Draft {
     let order = some_order(random, nodes);
     let mut draft = Draft { nodes, period, timeout, delay, end: u64::MAX, order, crashes: Vec::new(), delays: Vec::new() };
     crash_groups(random, &mut draft);
-    let joined = draft.crashes[draft.crashes.len() - 1].0 + 2 * timeout * draft.crashes.len() as u64 + delay;
-    draft.end = joined + random.pick(&[0, 1, timeout, 3 * timeout]);
+    let crashes = draft.crashes.len() as u64;
+    let joined = draft.crashes[draft.crashes.len() - 1].0 + 2 * timeout * crashes + delay;
+    let listed = (nodes - crashes).saturating_sub(1) * (period + delay);
+    draft.end = joined + random.pick(&[0, timeout, listed, listed + 3 * timeout]);
     put_delays(random, &mut draft);
     draft
 }
@@ -668,12 +670,13 @@ mod tests {
         plan.crashes.len() > 1 && (joined..=joined + 3 * u64::from(plan.timeout)).contains(&u64::from(plan.end))
     }
 
-    /// Every power trip has an end tick by which survivors have to be joined. In many of them neighbours in the ring crash at one tick, in some
-    /// all nodes crash or all but one, in rings with a Q line and without; and of all good files one in ten is such.
+    /// Every power trip has an end tick by which survivors have to be joined, many one by which their lists have to be full. In many of them
+    /// neighbours in the ring crash at one tick, in some all nodes crash or all but one, in rings with a Q line and without; and of all good
+    /// files one in ten is such.
     #[test]
     fn power_trips_come_up_in_every_way() {
         for size in [USUAL, SMALL] {
-            let (mut together, mut apart, mut all, mut but_one, mut ordered) = (0, 0, 0, 0, 0);
+            let (mut together, mut apart, mut all, mut but_one, mut ordered, mut listed) = (0, 0, 0, 0, 0, 0);
             for index in 0..400 {
                 let plan = plan::read(&tripped_plan(103, index, size)).expect("the file is accepted");
                 let (ring, crashes, survivors) = (plan.ring(), &plan.crashes, usize::from(plan.nodes) - plan.crashes.len());
@@ -686,9 +689,10 @@ mod tests {
                 let mut platform = Platform::open(plan);
                 platform.run(u64::MAX);
                 assert!(settle::joining_tick_passed(&mut platform), "index {index}");
+                listed += usize::from(platform.survivors() > 1 && settle::listing_tick_passed(&mut platform));
             }
-            let counts = [together, apart, all, but_one, ordered];
-            assert!(together > 150 && apart > 150 && all > 30 && but_one > 30 && (150..250).contains(&ordered), "{counts:?}");
+            let counts = [together, apart, all, but_one, ordered, listed];
+            assert!(together > 150 && apart > 150 && all > 30 && but_one > 30 && (150..250).contains(&ordered) && listed > 100, "{counts:?}");
         }
         let trips = (0..400).filter(|index| ends_soon_after_joining(&plan(103, *index))).count();
         assert!(trips > 20, "{trips} of 400 files");

@@ -34,7 +34,7 @@ pub const OBSERVER: Field = field(192, 1, 64);
 pub const WATCH: Field = field(256, 4, 64);
 pub const HEARTBEAT: Field = field(512, 4, 64);
 pub const DEAD_LIST: Field = field(768, 8, 64);
-pub const UNUSED_MARK: Field = field(1_280, 1, 512);
+pub const MARK: Field = field(1_280, 8, 64);
 pub const CRASH_TICK: Field = field(1_792, 4, 64);
 pub const CRASH_NODE: Field = field(2_048, 1, 64);
 pub const DELAY_NUMBER: Field = field(2_112, 4, 2_048);
@@ -45,7 +45,8 @@ pub const MESSAGE_KIND: Field = field(36_928, 1, 2_048);
 pub const MESSAGE_SENDER: Field = field(38_976, 1, 2_048);
 pub const MESSAGE_RECEIVER: Field = field(41_024, 1, 2_048);
 pub const MESSAGE_SUBJECT: Field = field(43_072, 1, 2_048);
-pub const UNUSED_TAIL: Field = field(45_120, 1, 20_416);
+pub const MESSAGE_LIST: Field = field(45_120, 8, 2_048);
+pub const UNUSED_TAIL: Field = field(61_504, 1, 4_032);
 
 /// How many places of the fields that have more than one are used.
 #[derive(Clone, Copy)]
@@ -79,7 +80,7 @@ impl Counts {
     }
 
     /// Every field of the store with the number of its places that are used.
-    pub fn fields(&self) -> [(Field, usize); 31] {
+    pub fn fields(&self) -> [(Field, usize); 32] {
         let Counts { nodes, ordered, crashes, delays, messages } = *self;
         [
             (NODES, 1),
@@ -101,7 +102,7 @@ impl Counts {
             (WATCH, nodes),
             (HEARTBEAT, nodes),
             (DEAD_LIST, nodes),
-            (UNUSED_MARK, 0),
+            (MARK, nodes),
             (CRASH_TICK, crashes),
             (CRASH_NODE, crashes),
             (DELAY_NUMBER, delays),
@@ -112,6 +113,7 @@ impl Counts {
             (MESSAGE_SENDER, messages),
             (MESSAGE_RECEIVER, messages),
             (MESSAGE_SUBJECT, messages),
+            (MESSAGE_LIST, messages),
             (UNUSED_TAIL, 0),
         ]
     }

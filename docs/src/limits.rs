@@ -28,8 +28,8 @@ pub const MAX_STORES: usize = 8;
 pub const MAX_TURN: u64 = 1_000;
 /// Shortest log part, in bytes: it takes the two lines of an event that moves the emitter.
 pub const LOG_BYTES: usize = 80;
-/// Shortest part that takes a node call's messages, in bytes.
-pub const MESSAGE_BYTES: usize = 56;
+/// Shortest part that takes a node call's messages, in bytes: seven places of 16.
+pub const MESSAGE_BYTES: usize = 112;
 /// Columns of a log line.
 pub const COLUMNS: usize = 5;
 /// Hexadecimal digits of a list.
@@ -59,7 +59,7 @@ pub const REFUSED_STORE: u8 = 7;
 pub const REFUSED_EVENT: u8 = 8;
 /// A lent part that is too short.
 pub const REFUSED_PART: u8 = 9;
-/// A node call's message: unknown kind, or a sender or subject that it may not have.
+/// A node call's message: unknown kind, or a sender, subject or list that it may not have.
 pub const REFUSED_MESSAGE: u8 = 11;
 /// A node call's tick before the record's last tick, or above `MAX_TICK`.
 pub const REFUSED_TICK: u8 = 12;

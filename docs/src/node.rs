@@ -1,5 +1,5 @@
-//! The rules of one node, in 01's order and words, R as request 102 amends it. A rule that moves the emitter also answers how many
-//! listed nodes were passed, as request 103 asks.
+//! The rules of one node, in 01's order and words, R as request 102 amends it, H and R as request 107 does. A rule that moves the emitter
+//! also answers how many listed nodes were passed, as request 103 asks.
 
 use super::limits::MAX_SENDS;
 use super::ring::{self, Back, Ring};
@@ -15,8 +15,8 @@ pub struct Settings {
 /// What a message says.
 #[derive(Clone, Copy, PartialEq, Eq, PartialOrd, Ord, Debug)]
 pub enum Content {
-    /// H.
-    Heartbeat,
+    /// H, with its sender's list as it is when sent.
+    Heartbeat { list: u64 },
     /// O.
     NewObserver,
     /// R.
@@ -46,7 +46,7 @@ pub struct Sends {
 
 impl Sends {
     pub fn none() -> Sends {
-        Sends { places: [Sent { receiver: 0, content: Content::Heartbeat }; MAX_SENDS], count: 0 }
+        Sends { places: [Sent { receiver: 0, content: Content::NewObserver }; MAX_SENDS], count: 0 }
     }
 
     fn add(&mut self, receiver: u8, content: Content) {
@@ -68,6 +68,11 @@ pub struct Effect {
 }
 
 impl Effect {
+    /// Nothing.
+    pub fn none() -> Effect {
+        Effect::of(Sends::none())
+    }
+
     /// Messages, and the emitter stays.
     fn of(sends: Sends) -> Effect {
         Effect { sends, passed: None }
@@ -90,6 +95,8 @@ pub struct Node {
     pub heartbeat: Option<u32>,
     /// Bit i stands for node i.
     pub dead_list: u64,
+    /// Of the listed nodes those that this node has reported. A node that a heartbeat named is listed without it.
+    pub mark: u64,
 }
 
 impl Node {
@@ -104,6 +111,7 @@ impl Node {
             watch: Some(settings.timeout),
             heartbeat: Some(settings.period),
             dead_list: 0,
+            mark: 0,
         };
         if settings.ring.nodes() == 1 {
             node.become_alone();
@@ -131,17 +139,19 @@ impl Node {
     /// A message is delivered to this live node.
     pub fn deliver(&mut self, settings: &Settings, tick: u32, sender: u8, content: Content) -> Effect {
         match content {
-            Content::Heartbeat => self.take_heartbeat(settings, tick, sender),
+            Content::Heartbeat { list } => self.take_heartbeat(settings, tick, sender, list),
             Content::NewObserver => self.take_new_observer(tick, sender),
             Content::Report { subject } => return self.take_report(settings, tick, subject),
         }
-        Effect::of(Sends::none())
+        Effect::none()
     }
 
-    /// "Message H: from the emitter, watch due becomes this tick + W; from any other node, nothing."
-    fn take_heartbeat(&mut self, settings: &Settings, tick: u32, sender: u8) {
+    /// "Message H: from the emitter, watch due becomes this tick + W; from any other node, nothing." "A receiver whose emitter sent
+    /// it adds those nodes, never itself or the sender. Nodes learnt this way aren't relayed from there".
+    fn take_heartbeat(&mut self, settings: &Settings, tick: u32, sender: u8, list: u64) {
         if sender == self.emitter {
             self.watch = Some(tick + settings.timeout);
+            self.dead_list |= ring::without(ring::without(list, self.number), sender);
         }
     }
 
@@ -151,20 +161,27 @@ impl Node {
         self.heartbeat = Some(tick);
     }
 
-    /// "Message R of a subject: already listed or the node itself, nothing. Otherwise it is listed
-    /// and R of the same subject goes to the forward targets." The emitter "is left straight away":
-    /// "such a report makes the node move in the same event".
+    /// "Message R of a subject": the node itself, nothing; "a node relays the first R of each subject it gets, also where a heartbeat
+    /// named it earlier, and each node holds a second 64-bit mark for that". So a marked subject is nothing too. Any other "is listed
+    /// and R of the same subject goes to the forward targets." The emitter "is left straight away": "such a report makes the node
+    /// move in the same event".
     fn take_report(&mut self, settings: &Settings, tick: u32, subject: u8) -> Effect {
-        let mut sends = Sends::none();
-        if subject == self.number || ring::listed(self.dead_list, subject) {
-            return Effect::of(sends);
+        if subject == self.number || ring::listed(self.mark, subject) {
+            return Effect::none();
         }
         if subject == self.emitter {
             return self.leave_emitter(settings, tick);
         }
-        self.dead_list = ring::with(self.dead_list, subject);
+        let mut sends = Sends::none();
+        self.list_and_mark(subject);
         self.report(settings, subject, &mut sends);
         Effect::of(sends)
+    }
+
+    /// Lists a node that this event reports, where it is not listed yet, and marks it.
+    fn list_and_mark(&mut self, subject: u8) {
+        self.dead_list = ring::with(self.dead_list, subject);
+        self.mark = ring::with(self.mark, subject);
     }
 
     /// R of the subject to the forward targets. "The list is the one after the change."
@@ -175,10 +192,10 @@ impl Node {
         }
     }
 
-    /// "Heartbeat due: send H to the observer; due becomes this tick + H."
+    /// "Heartbeat due: send H to the observer; due becomes this tick + H." "Each H message carries its sender's list."
     pub fn send_heartbeat(&mut self, settings: &Settings, tick: u32) -> Effect {
         let mut sends = Sends::none();
-        sends.add(self.observer, Content::Heartbeat);
+        sends.add(self.observer, Content::Heartbeat { list: self.dead_list });
         self.heartbeat = Some(tick + settings.period);
         Effect::of(sends)
     }
@@ -191,11 +208,11 @@ impl Node {
     /// What an expired watch and a report of the emitter both do: "list the emitter; the new emitter is
     /// the first unlisted node going back from it. If that is the node itself, it is alone. Otherwise
     /// watch due becomes this tick + 2 × W; send O to the new emitter, then R of the old one to the
-    /// forward targets".
+    /// forward targets". "Listing an expired emitter sets the mark too."
     fn leave_emitter(&mut self, settings: &Settings, tick: u32) -> Effect {
         let mut sends = Sends::none();
         let left = self.emitter;
-        self.dead_list = ring::with(self.dead_list, left);
+        self.list_and_mark(left);
         let Back { node, passed } = settings.ring.first_unlisted_back(self.dead_list, left);
         if node == self.number {
             self.become_alone();
@@ -231,7 +248,7 @@ mod tests {
     fn opening() {
         let node = Node::open(&EIGHT, 0);
         assert_eq!((node.emitter, node.observer, node.watch, node.heartbeat), (7, 1, Some(10), Some(2)));
-        assert_eq!((node.alive, node.dead_list), (true, 0));
+        assert_eq!((node.alive, node.dead_list, node.mark), (true, 0, 0));
         let last = Node::open(&EIGHT, 7);
         assert_eq!((last.emitter, last.observer), (6, 0));
         let alone = Node::open(&Settings { ring: Ring::of(1), ..EIGHT }, 0);
@@ -283,10 +300,10 @@ mod tests {
         let before = Node::open(&EIGHT, 1);
         let mut node = before;
         for sender in [2, 3, 7] {
-            assert!(node.deliver(&EIGHT, 5, sender, Content::Heartbeat).sends.as_slice().is_empty());
+            assert!(node.deliver(&EIGHT, 5, sender, Content::Heartbeat { list: 0 }).sends.as_slice().is_empty());
             assert_eq!(node, before);
         }
-        let effect = node.deliver(&EIGHT, 5, 0, Content::Heartbeat);
+        let effect = node.deliver(&EIGHT, 5, 0, Content::Heartbeat { list: 0 });
         assert!(effect.sends.as_slice().is_empty() && effect.passed.is_none());
         assert_eq!(node, Node { watch: Some(15), ..before });
     }
@@ -296,7 +313,7 @@ mod tests {
         let mut node = Node::open(&EIGHT, 1);
         node.expire_watch(&EIGHT, 10);
         assert_eq!(node.watch, Some(30));
-        node.deliver(&EIGHT, 12, 7, Content::Heartbeat);
+        node.deliver(&EIGHT, 12, 7, Content::Heartbeat { list: 0 });
         assert_eq!(node.watch, Some(22));
     }
 
@@ -323,13 +340,89 @@ mod tests {
         let before = Node::open(&EIGHT, 1);
         let mut node = Node { dead_list: 1 << 2, ..before };
         let effect = node.deliver(&EIGHT, 4, 6, Content::Report { subject: 3 });
-        assert_eq!(node, Node { dead_list: 1 << 2 | 1 << 3, ..before });
+        assert_eq!(node, Node { dead_list: 1 << 2 | 1 << 3, mark: 1 << 3, ..before });
         assert_eq!(effect.sends.as_slice(), reports(3, &[4, 5, 7]));
+    }
+
+    /// Node 1 observes 0, whose heartbeat names 3 and 6, and it lists 5: nothing is sent and nothing marked. Then the first report of 3
+    /// goes to the nodes that are one, two and four ahead of those unlisted, 2, 4 and 0; a second one does nothing, nor does it where another
+    /// heartbeat named 3 in between. The first report of 6 goes there too.
+    #[test]
+    fn the_first_report_of_a_named_node_is_passed_on() {
+        let before = Node { dead_list: 1 << 5, mark: 1 << 5, ..Node::open(&EIGHT, 1) };
+        let named = Content::Heartbeat { list: 1 << 3 | 1 << 6 };
+        let mut node = before;
+        let effect = node.deliver(&EIGHT, 4, 0, named);
+        assert!(effect.sends.as_slice().is_empty() && effect.passed.is_none());
+        let after = Node { watch: Some(14), dead_list: 1 << 3 | 1 << 5 | 1 << 6, ..before };
+        assert_eq!(node, after);
+        assert_eq!(node.deliver(&EIGHT, 5, 6, Content::Report { subject: 3 }).sends.as_slice(), reports(3, &[2, 4, 0]));
+        assert_eq!(node, Node { mark: 1 << 3 | 1 << 5, ..after });
+        node.deliver(&EIGHT, 6, 0, named);
+        let marked = node;
+        for subject in [3, 5] {
+            assert!(node.deliver(&EIGHT, 7, 4, Content::Report { subject }).sends.as_slice().is_empty());
+            assert_eq!(node, marked);
+        }
+        assert_eq!(node.deliver(&EIGHT, 8, 4, Content::Report { subject: 6 }).sends.as_slice(), reports(6, &[2, 4, 0]));
+        assert_eq!(node, Node { mark: after.dead_list, ..marked });
+    }
+
+    /// Whatever it carries, a heartbeat of another node than the emitter does nothing: of a listed node, of the observer, of one that is neither.
+    #[test]
+    fn only_the_emitter_names_nodes() {
+        let before = Node { dead_list: 1 << 7, mark: 1 << 7, ..Node::open(&EIGHT, 1) };
+        for sender in [2, 4, 7] {
+            for list in [1 << 3, 0b1111_1111, 1] {
+                let mut node = before;
+                let effect = node.deliver(&EIGHT, 4, sender, Content::Heartbeat { list });
+                assert!(effect.sends.as_slice().is_empty() && effect.passed.is_none());
+                assert_eq!(node, before);
+            }
+        }
+        let alone = Node { emitter: 1, observer: 1, watch: None, heartbeat: None, ..before };
+        let mut node = alone;
+        node.deliver(&EIGHT, 4, 0, Content::Heartbeat { list: 1 << 3 });
+        assert_eq!(node, alone);
+    }
+
+    /// A lent record or store may hold a heartbeat that names its receiver or its sender: these two are not added, all others are.
+    #[test]
+    fn neither_the_receiver_nor_the_sender_is_named() {
+        let before = Node::open(&EIGHT, 1);
+        for (list, added) in [(0b11, 0), (0b01, 0), (0b10, 0), (0b1010_0011, 0b1010_0000), (0b1111_1111, 0b1111_1100)] {
+            let mut node = before;
+            node.deliver(&EIGHT, 4, 0, Content::Heartbeat { list });
+            assert_eq!(node, Node { watch: Some(14), dead_list: added, ..before });
+        }
+    }
+
+    /// Node 1 expires on 0 or hears of its death, and marks it. A report of 0 that comes later does nothing, and one of 7, which a
+    /// heartbeat of the new emitter 6 names, is passed on.
+    #[test]
+    fn the_emitter_left_is_marked() {
+        for by_report in [false, true] {
+            let mut node = Node { dead_list: 1 << 7, ..Node::open(&EIGHT, 1) };
+            if by_report {
+                node.deliver(&EIGHT, 10, 5, Content::Report { subject: 0 });
+            } else {
+                node.expire_watch(&EIGHT, 10);
+            }
+            assert_eq!((node.emitter, node.dead_list, node.mark), (6, 1 << 7 | 1, 1));
+            let after = node;
+            assert!(node.deliver(&EIGHT, 11, 3, Content::Report { subject: 0 }).sends.as_slice().is_empty());
+            assert_eq!(node, after);
+            assert_eq!(node.deliver(&EIGHT, 11, 3, Content::Report { subject: 7 }).sends.as_slice(), reports(7, &[2, 3, 5]));
+            assert_eq!(node, Node { mark: 1 << 7 | 1, ..after });
+        }
+        let mut alone = Node { dead_list: 0b1111_1100, ..Node::open(&EIGHT, 1) };
+        alone.expire_watch(&EIGHT, 10);
+        assert_eq!((alone.dead_list, alone.mark), (0b1111_1101, 1));
     }
 
     #[test]
     fn a_known_report_or_one_of_itself_is_nothing() {
-        let before = Node { dead_list: 1 << 3, ..Node::open(&EIGHT, 1) };
+        let before = Node { dead_list: 1 << 3, mark: 1 << 3, ..Node::open(&EIGHT, 1) };
         for subject in [1, 3] {
             let mut node = before;
             let effect = node.deliver(&EIGHT, 4, 6, Content::Report { subject });
@@ -344,7 +437,7 @@ mod tests {
         let before = Node { dead_list: 1 << 7, ..Node::open(&EIGHT, 1) };
         let (mut reported, mut expired) = (before, before);
         let effect = reported.deliver(&EIGHT, 4, 5, Content::Report { subject: 0 });
-        assert_eq!(reported, Node { emitter: 6, watch: Some(4 + 20), dead_list: 1 << 7 | 1, ..before });
+        assert_eq!(reported, Node { emitter: 6, watch: Some(4 + 20), dead_list: 1 << 7 | 1, mark: 1, ..before });
         let observer = Sent { receiver: 6, content: Content::NewObserver };
         assert_eq!(effect.sends.as_slice(), [vec![observer], reports(0, &[2, 3, 5])].concat());
         let expiry = expired.expire_watch(&EIGHT, 4);
@@ -352,7 +445,7 @@ mod tests {
         assert_eq!((reported, effect.passed), (expired, Some(2)));
     }
 
-    /// Once it has moved, the same report is of a listed node, and one of the new emitter moves it again.
+    /// Once it has moved, the same report is of a marked node, and one of the new emitter moves it again.
     #[test]
     fn reports_of_one_emitter_after_another() {
         let mut node = Node::open(&EIGHT, 1);
@@ -362,7 +455,7 @@ mod tests {
         assert!(report(&mut node, 5, 0).sends.as_slice().is_empty());
         assert_eq!(node, moved);
         let effect = report(&mut node, 6, 7);
-        assert_eq!(node, Node { emitter: 6, watch: Some(26), dead_list: 1 << 7 | 1, ..moved });
+        assert_eq!(node, Node { emitter: 6, watch: Some(26), dead_list: 1 << 7 | 1, mark: 1 << 7 | 1, ..moved });
         assert_eq!(effect.sends.as_slice()[1..], reports(7, &[2, 3, 5]));
     }
 
@@ -373,7 +466,7 @@ mod tests {
         let mut node = before;
         let effect = node.deliver(&EIGHT, 4, 5, Content::Report { subject: 0 });
         assert_eq!((effect.sends.as_slice(), effect.passed), (&[][..], Some(7)));
-        let alone = Node { emitter: 1, observer: 1, watch: None, heartbeat: None, dead_list: 0b1111_1101, ..before };
+        let alone = Node { emitter: 1, observer: 1, watch: None, heartbeat: None, dead_list: 0b1111_1101, mark: 1, ..before };
         assert_eq!(node, alone);
     }
 
@@ -383,7 +476,7 @@ mod tests {
         let before = Node { watch: None, ..Node::open(&EIGHT, 1) };
         let mut node = before;
         node.deliver(&EIGHT, 4, 5, Content::Report { subject: 0 });
-        assert_eq!(node, Node { emitter: 7, watch: Some(24), dead_list: 1, ..before });
+        assert_eq!(node, Node { emitter: 7, watch: Some(24), dead_list: 1, mark: 1, ..before });
     }
 
     /// Of the eight nodes, a report of each but the emitter leaves emitter and watch.
@@ -393,7 +486,7 @@ mod tests {
         for subject in 2..8 {
             let mut node = before;
             let effect = node.deliver(&EIGHT, 4, 5, Content::Report { subject });
-            assert_eq!((node, effect.passed), (Node { dead_list: 1 << subject, ..before }, None));
+            assert_eq!((node, effect.passed), (Node { dead_list: 1 << subject, mark: 1 << subject, ..before }, None));
             let targets = EIGHT.ring.forward_targets(1 << subject, 1);
             assert_eq!(effect.sends.as_slice(), reports(subject, targets.as_slice()));
         }
@@ -404,22 +497,22 @@ mod tests {
     fn a_report_at_a_node_that_is_alone() {
         let mut alone = Node { dead_list: 0b1111_1100, ..Node::open(&EIGHT, 1) };
         alone.expire_watch(&EIGHT, 10);
-        let before = Node { dead_list: 1, ..alone };
+        let before = Node { dead_list: 1, mark: 1, ..alone };
         let mut node = before;
         let effect = node.deliver(&EIGHT, 11, 5, Content::Report { subject: 1 });
         assert!(effect.sends.as_slice().is_empty() && effect.passed.is_none());
         assert_eq!(node, before);
         assert_eq!(node.deliver(&EIGHT, 11, 5, Content::Report { subject: 4 }).sends.as_slice(), reports(4, &[2, 3, 6]));
-        assert_eq!(node, Node { dead_list: 1 << 4 | 1, ..before });
+        assert_eq!(node, Node { dead_list: 1 << 4 | 1, mark: 1 << 4 | 1, ..before });
     }
 
     #[test]
-    fn a_heartbeat_goes_to_the_observer() {
-        let before = Node::open(&EIGHT, 1);
+    fn a_heartbeat_goes_to_the_observer_with_the_list() {
+        let before = Node { dead_list: 1 << 3 | 1 << 7, mark: 1 << 3, ..Node::open(&EIGHT, 1) };
         let mut node = before;
         let effect = node.send_heartbeat(&EIGHT, 7);
         assert_eq!(effect.passed, None);
-        assert_eq!(effect.sends.as_slice(), [Sent { receiver: 2, content: Content::Heartbeat }]);
+        assert_eq!(effect.sends.as_slice(), [Sent { receiver: 2, content: Content::Heartbeat { list: 1 << 3 | 1 << 7 } }]);
         assert_eq!(node, Node { heartbeat: Some(9), ..before });
     }
 
@@ -428,7 +521,7 @@ mod tests {
         let before = Node { dead_list: 1 << 7, ..Node::open(&EIGHT, 1) };
         let mut node = before;
         let effect = node.expire_watch(&EIGHT, 10);
-        assert_eq!(node, Node { emitter: 6, watch: Some(30), dead_list: 1 << 7 | 1, ..before });
+        assert_eq!(node, Node { emitter: 6, watch: Some(30), dead_list: 1 << 7 | 1, mark: 1, ..before });
         let mut expected = vec![Sent { receiver: 6, content: Content::NewObserver }];
         expected.extend(reports(0, &[2, 3, 5]));
         assert_eq!(effect.sends.as_slice(), expected);

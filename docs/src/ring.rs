@@ -13,6 +13,16 @@ pub fn with(list: u64, node: u8) -> u64 {
     list | 1 << node
 }
 
+/// The list with `node` taken out.
+pub fn without(list: u64, node: u8) -> u64 {
+    list & !(1 << node)
+}
+
+/// Whether the list has no bit from N on.
+pub fn below(list: u64, nodes: u64) -> bool {
+    nodes >= MAX_NODES || list >> nodes == 0
+}
+
 /// Up to six forward targets, in the order of sending.
 #[derive(Clone, Copy, PartialEq, Eq, Debug)]
 pub struct Targets {
@@ -152,7 +162,7 @@ pub const EMPTY_TABLE: Table = [[NO_TARGET; MAX_TARGETS]; MAX_NODES as usize];
 /// In number order: "the rows of listed nodes and of numbers from N on are all 255. N outside 1 to 64, or a list
 /// with a bit from N on, is refused by 3."
 pub fn forwarding_table(nodes: u64, list: u64) -> Result<Table, u8> {
-    if !(1..=MAX_NODES).contains(&nodes) || (nodes < MAX_NODES && list >> nodes != 0) {
+    if !(1..=MAX_NODES).contains(&nodes) || !below(list, nodes) {
         return Err(REFUSED_RANGE);
     }
     let ring = Ring::of(nodes as u8);

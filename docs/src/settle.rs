@@ -1,5 +1,6 @@
-//! Demand 3's words: no live node is listed; S; crashes that are spaced; the settled ring. And request 106's, for crashes however close:
-//! the tick from whose end on the survivors are joined; the joined ring, of whose lists nothing is said.
+//! Demand 3's words: no live node is listed; S; crashes that are spaced; the settled ring. And for crashes however close request 106's:
+//! the tick from whose end on the survivors are joined; the joined ring, of whose lists nothing is said. And request 107's: the
+//! tick from whose end on the survivors' lists are full.
 
 use super::node::{crashed, Node};
 use super::plan::Plan;
@@ -55,11 +56,16 @@ pub fn joined(ring: &Ring, nodes: &[Node]) -> bool {
     })
 }
 
+/// "every survivor's list is exactly the crashed nodes".
+pub fn lists_full(nodes: &[Node]) -> bool {
+    let crashed = crashed(nodes);
+    nodes.iter().all(|node| !node.alive || node.dead_list == crashed)
+}
+
 /// "every survivor lists exactly the crashed nodes, emits to the next survivor and observes the one
 /// before".
 pub fn settled(ring: &Ring, nodes: &[Node]) -> bool {
-    let crashed = crashed(nodes);
-    nodes.iter().all(|node| !node.alive || node.dead_list == crashed) && joined(ring, nodes)
+    lists_full(nodes) && joined(ring, nodes)
 }
 
 /// What demand 3 claims of the platform as it stands.
@@ -85,16 +91,75 @@ pub fn joining_tick(platform: &Platform) -> Option<u64> {
     Some(u64::from(last_crash(platform)?) + joining_time(*timeout, *delay, platform.crashes_done()))
 }
 
-/// "no event due by c + 2 × W × f + D is left, those beyond the end tick counted. A refused event is one that is left", and so is a
-/// crash still planned. False where no crash is done. It goes by what is left alone, so that between two events nothing changes.
+/// Whether no event due by c + 2 × W × f + D is left. False where no crash is done.
 pub fn joining_tick_passed(platform: &mut Platform) -> bool {
-    let Some(tick) = joining_tick(platform) else { return false };
-    platform.earliest_due().is_none_or(|due| u64::from(due) > tick)
+    Claim::Joined.owed(platform)
 }
 
 /// What request 106 claims of the platform as it stands.
 pub fn request_106(platform: &mut Platform) -> bool {
-    !joining_tick_passed(platform) || joined(platform.ring(), platform.nodes())
+    Claim::Joined.kept(platform)
+}
+
+/// (m − 1) × (H + D), in ticks, after the bound of request 106, with m survivors.
+pub fn spreading_time(period: u32, delay: u32, survivors: usize) -> u64 {
+    (survivors.max(1) as u64 - 1) * (u64::from(period) + u64::from(delay))
+}
+
+/// "the bound of #106 plus (m − 1) × (H + D)", "with m survivors, at least one"; nothing where there is none, or no crash is done.
+pub fn listing_tick(platform: &Platform) -> Option<u64> {
+    let Plan { period, delay, .. } = platform.plan();
+    let joined = joining_tick(platform).filter(|_| platform.survivors() > 0)?;
+    Some(joined + spreading_time(*period, *delay, platform.survivors()))
+}
+
+/// Whether no event due by that tick is left, counted as for request 106. False where there is no such tick.
+pub fn listing_tick_passed(platform: &mut Platform) -> bool {
+    Claim::Listed.owed(platform)
+}
+
+/// What request 107 claims of the platform as it stands.
+pub fn request_107(platform: &mut Platform) -> bool {
+    Claim::Listed.kept(platform)
+}
+
+/// What is claimed of crashes however close: something that holds from the end of a tick on until the next crash is done.
+#[derive(Clone, Copy, PartialEq, Eq, Debug)]
+pub enum Claim {
+    /// Request 106: the survivors are joined.
+    Joined,
+    /// Request 107: the survivors' lists are full.
+    Listed,
+}
+
+impl Claim {
+    /// What is claimed.
+    pub fn holds(self, ring: &Ring, nodes: &[Node]) -> bool {
+        match self {
+            Claim::Joined => joined(ring, nodes),
+            Claim::Listed => lists_full(nodes),
+        }
+    }
+
+    /// The tick from whose end on it is claimed; nothing where nothing is.
+    pub fn tick(self, platform: &Platform) -> Option<u64> {
+        match self {
+            Claim::Joined => joining_tick(platform),
+            Claim::Listed => listing_tick(platform),
+        }
+    }
+
+    /// "no event due by" that tick "is left, those beyond the end tick counted. A refused event is one that is left", and so is a crash
+    /// still planned. It goes by what is left alone, so that between two events nothing changes.
+    pub fn owed(self, platform: &mut Platform) -> bool {
+        let Some(tick) = self.tick(platform) else { return false };
+        platform.earliest_due().is_none_or(|due| u64::from(due) > tick)
+    }
+
+    /// Whether it holds or is not owed.
+    pub fn kept(self, platform: &mut Platform) -> bool {
+        !self.owed(platform) || self.holds(platform.ring(), platform.nodes())
+    }
 }
 
 #[cfg(test)]
@@ -210,12 +275,96 @@ mod tests {
         assert_eq!(told(platform), (false, false, true));
     }
 
-    /// A list that stays short does not keep the survivors from being joined, but from being settled.
+    /// The platform with other lists of some nodes.
+    fn relisted(platform: &Platform, lists: &[(usize, u64)]) -> Platform {
+        let mut nodes = platform.nodes().to_vec();
+        lists.iter().for_each(|(node, list)| nodes[*node].dead_list = *list);
+        let (next, crashes, tick) = (platform.next_number(), platform.crashes_done(), platform.last_tick());
+        Platform::resume(platform.plan().clone(), nodes, platform.messages(), next, crashes, tick)
+    }
+
+    /// A list that is short does not keep the survivors from being joined, but from being settled.
     #[test]
-    fn nothing_is_said_of_lists() {
-        let platform = after(u64::MAX, "P,5,3,5,2,92\nC,4,1\nC,5,3\nC,5,4\n");
-        assert!(!settled(platform.ring(), platform.nodes()));
+    fn joining_says_nothing_of_lists() {
+        let platform = relisted(&up_to(16), &[(4, 0b00100)]);
+        assert!(!settled(platform.ring(), platform.nodes()) && !lists_full(platform.nodes()));
         assert_eq!(told(platform), (true, true, true));
+    }
+
+    /// Whether request 107 is owed, whether the survivors' lists are full, and whether the claim holds.
+    fn told_lists(mut platform: Platform) -> (bool, bool, bool) {
+        let full = lists_full(platform.nodes());
+        (listing_tick_passed(&mut platform), full, request_107(&mut platform))
+    }
+
+    /// Before the first crash; with four survivors, 10 + 3 × (1 + 2); with three, 16 + 2 × (1 + 2). With one it is the tick of request
+    /// 106, with none there is none.
+    #[test]
+    fn the_tick_of_lists_goes_by_the_survivors() {
+        let at = |events| listing_tick(&after(events, "P,5,1,3,2,16\nC,2,1\nC,2,2\n"));
+        assert_eq!([5, 6, 7, 112].map(at), [None, Some(19), Some(22), Some(22)]);
+        assert_eq!(listing_tick(&after(u64::MAX, "P,48,100,120,20,40\nC,7,3\nC,40,4\n")), Some(540 + 45 * 120));
+        let lone = after(8, "P,2,2,3,1,6\nC,3,1\n");
+        assert_eq!((listing_tick(&lone), joining_tick(&lone)), (Some(10), Some(10)));
+        let none = after(6, "P,2,2,3,1,6\nC,3,0\nC,3,1\n");
+        assert_eq!((listing_tick(&none), joining_tick(&none)), (None, Some(3 + 12 + 1)));
+        assert_eq!([1, 0].map(|survivors| spreading_time(1_000, 255, survivors)), [0, 0]);
+        assert_eq!(spreading_time(1_000, 255, 64), 63 * 1_255);
+    }
+
+    /// The survivors 0 and 4 hear of 2 at tick 8 and of 1 at 14. The claim is owed once the events of tick 22 are done, and not before.
+    #[test]
+    fn lists_are_full_from_the_end_of_the_tick_on() {
+        let told_at = |end| told_lists(up_to(end));
+        assert_eq!([2, 13, 14, 21, 22].map(told_at), [(false, false), (false, false), (false, true), (false, true), (true, true)].map(holding));
+        assert_eq!(told_lists(after(0, "P,3,3,4,1,8\nC,0,1\n")), (false, true, true));
+        assert_eq!(told_lists(after(u64::MAX, "P,1,3,4,1,8\n")), (false, true, true));
+    }
+
+    /// One survivor's list that lacks a crashed node, or holds a live one: the claim, which is owed, is false. Of a crashed node's list
+    /// nothing is said, and of neighbours nothing either.
+    #[test]
+    fn one_wrong_list_breaks_the_claim() {
+        let stands = up_to(22);
+        assert_eq!([0, 3, 4].map(|node: usize| stands.nodes()[node].dead_list), [0b00110; 3]);
+        for (node, list) in [(0, 0), (0, 0b00010), (3, 0b00100), (4, 0b00010), (4, 0b00111), (0, 0b01110)] {
+            assert_eq!(told_lists(relisted(&stands, &[(node, list)])), (true, false, false), "node {node}: {list}");
+        }
+        for list in [0, 0b00100, 0b11001] {
+            assert_eq!(told_lists(relisted(&stands, &[(1, list), (2, list)])), (true, true, true));
+        }
+        let mut nodes = stands.nodes().to_vec();
+        nodes[4].observer = 3;
+        let parted = Platform::resume(stands.plan().clone(), nodes, stands.messages(), stands.next_number(), 2, 22);
+        assert_eq!((told(parted.clone()), told_lists(parted)), ((true, false, false), (true, true, true)));
+    }
+
+    /// H 5, W 6, D 1, and node 0 crashes at tick 1: the tick is 14 + 1 × (5 + 1) = 20. Node 1 sends at 15 and 20, node 2 at 17 and 22. What
+    /// arrives at 18 is left where the end tick is 17, the heartbeat of tick 20 where it is 18. Where it is 20, the first thing left is due at 21.
+    #[test]
+    fn what_is_left_of_lists_counts_beyond_the_end_tick() {
+        let up_to = |end| told_lists(after(u64::MAX, &format!("P,3,5,6,1,{end}\nC,1,0\n")));
+        assert_eq!([6, 7, 17, 18, 20].map(up_to), [(false, false), (false, true), (false, true), (false, true), (true, true)].map(holding));
+    }
+
+    /// A lone survivor's list is full with its last event, the expired watch. A crash planned for the tick of the claim is left. Where none
+    /// survives nothing is claimed.
+    #[test]
+    fn a_lone_survivor_lists_all() {
+        assert_eq!(told_lists(after(7, "P,2,2,3,1,6\nC,3,1\n")), (false, false, true));
+        assert_eq!(told_lists(after(8, "P,2,2,3,1,6\nC,3,1\n")), (true, true, true));
+        assert_eq!(told_lists(after(8, "P,2,2,3,1,20\nC,3,1\nC,10,0\n")), (false, true, true));
+        assert_eq!(told_lists(after(8, "P,2,2,3,1,20\nC,3,1\nC,11,0\n")), (true, true, true));
+        assert_eq!(told_lists(after(6, "P,2,2,3,1,6\nC,3,0\nC,3,1\n")), (false, true, true));
+    }
+
+    /// The third crash, at tick 30, ends what is owed after the second.
+    #[test]
+    fn the_next_crash_ends_what_is_owed_of_lists() {
+        let file = "P,5,1,3,2,60\nC,2,1\nC,2,2\nC,30,3\n";
+        let third = up_to(29).events_done() + 1;
+        assert_eq!(told_lists(after(third - 1, file)), (true, true, true));
+        assert_eq!((told_lists(after(third, file)), listing_tick(&after(third, file))), ((false, false, true), Some(30 + 18 + 2 + 3)));
     }
 
     /// The neighbours are those in the ring's order: in number order those of the same nodes are others.

@@ -6,7 +6,8 @@
 //! - `simulate time FILE..`: does the events of each file without a log and prints the time.
 //! - `simulate moves FILE..`: prints how many moves by report the files lead to, all together.
 //! - `simulate recount FILE..`: counts the lines K of the log that stands beside each file once more.
-//! - `simulate joined FILE..`: asks request 106 after each event of the files and prints how late survivors were not joined.
+//! - `simulate joined FILE..`: asks requests 106 and 107 after each event of the files and prints how late survivors were not joined, and
+//!   their lists not full.
 
 use simulator::fields;
 use simulator::joining::{self, Joining};
@@ -16,6 +17,7 @@ use simulator::plan::{self, Refusal};
 use simulator::platform::{Platform, Step};
 use simulator::recount::{self, Moves};
 use simulator::ring;
+use simulator::settle::Claim;
 use std::io::{self, BufWriter, Read, Write};
 use std::path::Path;
 use std::process::ExitCode;
@@ -151,17 +153,23 @@ fn moves(out: &mut impl Write, paths: &[std::ffi::OsString]) -> io::Result<()> {
     writeln!(out, "{moves}")
 }
 
-/// Prints how many files have a crash, after how many events request 106 is owed, and the tick at whose end survivors were not joined that
-/// comes nearest to its bound in proportion: the ticks after the last crash done, and 2 × W × f + D. Fails where the claim is false. A
-/// refused file has no crash.
+/// Prints how many files have a crash. Then, for request 106 and for request 107, after how many events it is owed, and the tick at whose end
+/// what it claims did not hold that comes nearest to its bound in proportion: the ticks after the last crash done, and the bound. Fails where
+/// a claim is false. A refused file has no crash.
 fn joined(out: &mut impl Write, paths: &[std::ffi::OsString]) -> io::Result<()> {
-    let mut all = Joining::NONE;
+    let mut all = [(Claim::Joined, Joining::NONE), (Claim::Listed, Joining::NONE)];
     for path in paths {
         if let Ok(plan) = plan::read(&read_run_file(std::fs::File::open(path)?)?) {
             let told = |error: String| io::Error::other(format!("{}: {error}", path.to_string_lossy()));
-            all.add(&joining::of_run(&mut Platform::open(plan)).map_err(told)?);
+            for (claim, joining) in &mut all {
+                joining.add(&joining::of_run(&mut Platform::open(plan.clone()), *claim).map_err(told)?);
+            }
         }
     }
-    let (ticks, bound) = all.nearest.map_or((0, 0), |late| (late.ticks, late.bound));
-    writeln!(out, "{} {} {ticks} {bound}", all.crashed, all.owed)
+    write!(out, "{}", all[0].1.crashed)?;
+    for (_, Joining { owed, nearest, .. }) in all {
+        let (ticks, bound) = nearest.map_or((0, 0), |late| (late.ticks, late.bound));
+        write!(out, " {owed} {ticks} {bound}")?;
+    }
+    writeln!(out)
 }

@@ -1,4 +1,4 @@
-//! A simulator of document 01, with requests 101 to 104 and 106 of document 02: the ring failure detector, in any order of the ring,
+//! A simulator of document 01, with requests 101 to 104, 106 and 107 of document 02: the ring failure detector, in any order of the ring,
 //! and its rehearsal platform.
 //!
 //! It is a second opinion on the proved platform, written from the papers alone.
@@ -11,7 +11,7 @@
 //! - `record`: the node calls of a host.
 //! - `queue`: what is pending, in the order of the events.
 //! - `platform`: events, step and run.
-//! - `settle`: demand 3's words about safety and settling, and request 106's about joining.
+//! - `settle`: demand 3's words about safety and settling, request 106's about joining and request 107's about lists.
 //! - `layout`: where a store has its fields.
 //! - `store`: the bytes of a platform, written, read and checked.
 //! - `dispatch`: turns of several stores in one part.
@@ -19,7 +19,7 @@
 //! - `ages`: how long ago the last crash can be in each state of that search.
 //! - `log`: log lines, written, read and cut into columns.
 //! - `recount`: the lines K of a log, counted once more from the log alone.
-//! - `joining`: request 106 over whole runs.
+//! - `joining`: requests 106 and 107 over whole runs.
 //! - `random`: seeded numbers.
 //! - `generator`: run files of a seed, good and damaged.
 

@@ -1,5 +1,5 @@
 //! The store: "65,536 lent bytes, opened from an accepted run file, its unused part zero". Its fields
-//! and their ranges are those of docs/LAYOUTS.md, of document 01 and of request 102.
+//! and their ranges are those of docs/LAYOUTS.md, of document 01 and of requests 102 and 107.
 //!
 //! `check` is number 7: "other length, a field out of range, or an unused byte not zero".
 
@@ -20,11 +20,12 @@ fn timer(number: u64) -> Option<u32> {
 }
 
 /// A message of a store with its due tick. No rule looks at the subject of an H or O, and a lent store
-/// may hold any node there.
+/// may hold any node there. The list of an O or R has to be empty.
 struct Flight {
     due: u32,
     message: Message,
     subject: u8,
+    list: u64,
 }
 
 /// What a store's bytes hold, its ranges not yet looked at.
@@ -74,7 +75,7 @@ impl Parts {
 
     /// Out of range is "a live node that lists itself, observes itself with the watch on or sends to itself
     /// with the heartbeat on", and "a live node's timer .. due before the last event's tick". "A listed emitter
-    /// is from now on a field out of range", a crashed node's too: no rule leads there.
+    /// is from now on a field out of range", a crashed node's too: no rule leads there. Of every node the mark is part of the list.
     fn node_in_range(&self, node: &Node) -> bool {
         let Plan { nodes, period, timeout, .. } = self.plan;
         let last = u64::from(self.last_tick);
@@ -84,7 +85,8 @@ impl Parts {
         };
         node.emitter < nodes
             && node.observer < nodes
-            && (u64::from(nodes) == MAX_NODES || node.dead_list >> nodes == 0)
+            && ring::below(node.dead_list, u64::from(nodes))
+            && node.mark & !node.dead_list == 0
             && !ring::listed(node.dead_list, node.emitter)
             && up_to(node.watch, 2 * timeout)
             && up_to(node.heartbeat, period)
@@ -94,11 +96,13 @@ impl Parts {
                     && live(node.heartbeat, node.observer))
     }
 
-    fn flight_in_range(&self, Flight { due, message, subject }: &Flight) -> bool {
+    fn flight_in_range(&self, Flight { due, message, subject, list }: &Flight) -> bool {
         let Plan { nodes, delay, .. } = self.plan;
         message.sender < nodes
             && message.receiver < nodes
             && *subject < nodes
+            && ring::below(*list, u64::from(nodes))
+            && *list == list_of(message.content)
             && message.sender != message.receiver
             && *due >= self.last_tick
             && u64::from(*due) <= u64::from(self.last_tick) + u64::from(delay)
@@ -146,14 +150,15 @@ fn read_node(bytes: &[u8], number: u8, alive: bool) -> Node {
         watch: timer(get(bytes, WATCH, place)),
         heartbeat: timer(get(bytes, HEARTBEAT, place)),
         dead_list: get(bytes, DEAD_LIST, place),
+        mark: get(bytes, MARK, place),
     }
 }
 
 /// Nothing for an unknown kind.
 fn read_flight(bytes: &[u8], place: usize) -> Option<Flight> {
-    let subject = get(bytes, MESSAGE_SUBJECT, place) as u8;
+    let (subject, list) = (get(bytes, MESSAGE_SUBJECT, place) as u8, get(bytes, MESSAGE_LIST, place));
     let content = match get(bytes, MESSAGE_KIND, place) as u8 {
-        b'H' => Content::Heartbeat,
+        b'H' => Content::Heartbeat { list },
         b'O' => Content::NewObserver,
         b'R' => Content::Report { subject },
         _ => return None,
@@ -164,7 +169,7 @@ fn read_flight(bytes: &[u8], place: usize) -> Option<Flight> {
         receiver: get(bytes, MESSAGE_RECEIVER, place) as u8,
         content,
     };
-    Some(Flight { due: get(bytes, MESSAGE_DUE, place) as u32, message, subject })
+    Some(Flight { due: get(bytes, MESSAGE_DUE, place) as u32, message, subject, list })
 }
 
 /// Whether a call takes these bytes for a store; otherwise it is refused by 7.
@@ -265,19 +270,28 @@ fn put_node(bytes: &mut [u8], node: &Node) {
     put(bytes, WATCH, place, due(node.watch));
     put(bytes, HEARTBEAT, place, due(node.heartbeat));
     put(bytes, DEAD_LIST, place, node.dead_list);
+    put(bytes, MARK, place, node.mark);
 }
 
 /// The subject of an R, 0 for H and O.
 fn subject_of(content: Content) -> u8 {
     match content {
         Content::Report { subject } => subject,
-        Content::Heartbeat | Content::NewObserver => 0,
+        Content::Heartbeat { .. } | Content::NewObserver => 0,
+    }
+}
+
+/// What an H carries, 0 for O and R.
+fn list_of(content: Content) -> u64 {
+    match content {
+        Content::Heartbeat { list } => list,
+        Content::NewObserver | Content::Report { .. } => 0,
     }
 }
 
 fn put_message(bytes: &mut [u8], place: usize, due: u32, message: &Message) {
     let kind = match message.content {
-        Content::Heartbeat => b'H',
+        Content::Heartbeat { .. } => b'H',
         Content::NewObserver => b'O',
         Content::Report { .. } => b'R',
     };
@@ -287,6 +301,7 @@ fn put_message(bytes: &mut [u8], place: usize, due: u32, message: &Message) {
     put(bytes, MESSAGE_SENDER, place, u64::from(message.sender));
     put(bytes, MESSAGE_RECEIVER, place, u64::from(message.receiver));
     put(bytes, MESSAGE_SUBJECT, place, u64::from(subject_of(message.content)));
+    put(bytes, MESSAGE_LIST, place, list_of(message.content));
 }
 
 #[cfg(test)]
@@ -351,6 +366,21 @@ mod tests {
         opened_bytes("P,2,2,3,1,6\nC,3,1\nL,258,1\n", &used);
     }
 
+    /// Node 4 has listed and marked 3. Its next heartbeat carries that, whose list stands among the messages' lists.
+    #[test]
+    fn a_mark_and_a_carried_list_byte_by_byte() {
+        let mut platform = in_midst();
+        let bytes = encode(&platform);
+        assert_eq!((&bytes[800..808], &bytes[1_312..1_320]), (&[8, 0, 0, 0, 0, 0, 0, 0][..], &[8, 0, 0, 0, 0, 0, 0, 0][..]));
+        assert!(bytes[1_280..1_312].iter().chain(&bytes[1_320..1_792]).chain(&bytes[45_120..]).all(|byte| *byte == 0));
+        let carries = |(_, message): &(u32, Message)| message.content == Content::Heartbeat { list: 8 };
+        while !platform.messages().iter().any(carries) && platform.run(1).events > 0 {}
+        let place = platform.messages().iter().position(carries).expect("a heartbeat carries it");
+        assert_eq!((platform.last_tick(), platform.messages()[place].1.sender), (14, 4));
+        let carried = 45_120 + 8 * place..45_128 + 8 * place;
+        assert_eq!(encode(&platform)[carried], [8, 0, 0, 0, 0, 0, 0, 0]);
+    }
+
     /// 1 → 0 → 3 → 2 → 1: the nodes' columns go by number.
     #[test]
     fn an_opened_store_with_an_order_byte_by_byte() {
@@ -404,7 +434,7 @@ mod tests {
 
     #[test]
     fn every_unused_byte_is_zero() {
-        let used = 29 + 5 * 18 + 2 * 5 + 2 * 5 + 7 * 16;
+        let used = 29 + 5 * 26 + 2 * 5 + 2 * 5 + 7 * 24;
         for (platform, used) in [(in_midst(), used), (in_order(), used + 5)] {
             let bytes = encode(&platform);
             let mut unused = 0;
@@ -498,6 +528,14 @@ mod tests {
             (DEAD_LIST, 0, 0b100000, false),
             (DEAD_LIST, 3, 0b11011, true),
             (DEAD_LIST, 3, 0b100000, false),
+            (DEAD_LIST, 4, 0, false),
+            (MARK, 0, 0, true),
+            (MARK, 0, 0b00010, false),
+            (MARK, 3, 0b00010, false),
+            (MARK, 4, 0, true),
+            (MARK, 4, 0b01000, true),
+            (MARK, 4, 0b01010, false),
+            (MARK, 4, 0b101000, false),
             (CRASH_TICK, 0, 0, true),
             (CRASH_TICK, 0, 41, false),
             (CRASH_TICK, 1, last, true),
@@ -517,6 +555,10 @@ mod tests {
             (MESSAGE_DUE, 0, last - 1, false),
             (MESSAGE_DUE, 0, last + delay, true),
             (MESSAGE_DUE, 0, last + delay + 1, false),
+            (MESSAGE_LIST, 0, 0, true),
+            (MESSAGE_LIST, 0, 0b11111, true),
+            (MESSAGE_LIST, 0, 0b100000, false),
+            (MESSAGE_LIST, 0, 1 << 63, false),
             (MESSAGE_KIND, 0, u64::from(b'R'), true),
             (MESSAGE_KIND, 0, u64::from(b'X'), false),
             (MESSAGE_SENDER, 0, 5, false),
@@ -551,12 +593,54 @@ mod tests {
         assert!(!check(&changed(EMITTER, 4, 3)), "node 4 lists 3");
     }
 
+    /// An H may carry any list below 2^N, also one with its sender's or receiver's bit; an O and an R carry none. Of 64 nodes every bit will do.
+    #[test]
+    fn only_heartbeats_carry_a_list() {
+        let mut kinds = [0; 3];
+        for (place, (_, message)) in in_midst().messages().into_iter().enumerate() {
+            let kind = match message.content {
+                Content::Heartbeat { .. } => 0,
+                Content::NewObserver => 1,
+                Content::Report { .. } => 2,
+            };
+            kinds[kind] += 1;
+            for bit in 0..64 {
+                assert_eq!(check(&changed(MESSAGE_LIST, place, 1 << bit)), kind == 0 && bit < 5, "place {place}, bit {bit}");
+            }
+            let mut bytes = changed(MESSAGE_LIST, place, 0b11111);
+            assert_eq!(decode(&bytes).map(|held| held.encode() == bytes), (kind == 0).then_some(true));
+            for letter in [b'O', b'R'] {
+                put(&mut bytes, MESSAGE_KIND, place, u64::from(letter));
+                assert!(!check(&bytes), "place {place}");
+            }
+            put(&mut bytes, MESSAGE_LIST, place, 0);
+            assert!(check(&bytes), "place {place}");
+        }
+        assert!(kinds.iter().all(|count| *count > 0), "H, O and R: {kinds:?}");
+        let mut full = open("P,64,1,2,1,5\n");
+        full.run(70);
+        assert!(check(&changed_in(&full, MESSAGE_LIST, 0, u64::MAX)) && !check(&changed_in(&full, MESSAGE_LIST, full.in_flight(), 1)));
+    }
+
+    /// A mark is part of the list, of a live node, 4, and of a crashed one, 3: of the nodes that are listed each may be marked or not.
+    #[test]
+    fn marks_are_part_of_lists() {
+        for (place, list) in [(4, 0b01011), (3, 0b11011)] {
+            for mark in 0..64 {
+                let mut bytes = changed(DEAD_LIST, place, list);
+                put(&mut bytes, MARK, place, mark);
+                assert_eq!(check(&bytes), mark & !list == 0, "node {place}: mark {mark} of {list}");
+                assert!(decode(&bytes).is_none_or(|held| held.encode() == bytes && held.platform.nodes()[place].mark == mark));
+            }
+        }
+    }
+
     /// The bytes of every store in range come back from what is read from it.
     #[test]
     fn subjects_that_no_rule_looks_at_stay() {
         let bytes = changed(MESSAGE_SUBJECT, 0, 4);
         let mut held = decode(&bytes).unwrap();
-        assert!(matches!(held.platform.messages()[0].1.content, Content::Heartbeat));
+        assert!(matches!(held.platform.messages()[0].1.content, Content::Heartbeat { list: 0 }));
         assert_eq!(held.encode(), bytes);
         assert_ne!(encode(&held.platform), bytes);
         held.platform.run(u64::MAX);

@@ -1,5 +1,5 @@
-//! Whole runs: the worked logs, the edges of 01 that concern the platform, rings in another order, the words of demand 3 and of request
-//! 106 on generated plans; and the turns of the dispatcher.
+//! Whole runs: the worked logs, the edges of 01 that concern the platform, rings in another order, the words of demand 3 and of requests
+//! 106 and 107 on generated plans, lists that heartbeats carry; and the turns of the dispatcher.
 
 use super::dispatch::{self, Given};
 use super::generator;
@@ -14,7 +14,7 @@ use super::queue::{Cause, Message, Pending};
 use super::random::Random;
 use super::recount::{self, Moves};
 use super::ring::{self, Ring};
-use super::settle;
+use super::settle::{self, Claim};
 use super::store::{self, Held};
 
 /// The seed of the generated plans; a failing case names its index.
@@ -305,7 +305,7 @@ fn about_to_move(in_flight: usize, by_report: bool) -> Platform {
     nodes.iter_mut().for_each(|node| node.heartbeat = Some(4));
     nodes[1].watch = Some(if by_report { 9 } else { 3 });
     nodes[1].dead_list = 1 << 7;
-    let heartbeat = |number| (5, Message { number, sender: 2, receiver: 3, content: Content::Heartbeat });
+    let heartbeat = |number| (5, Message { number, sender: 2, receiver: 3, content: Content::Heartbeat { list: 0 } });
     let mut messages: Vec<(u32, Message)> = (0..in_flight as u64).map(heartbeat).collect();
     if by_report {
         messages[0] = (3, Message { number: 0, sender: 2, receiver: 1, content: Content::Report { subject: 0 } });
@@ -382,11 +382,13 @@ fn renamed(platform: &Platform, names: &[u8]) -> impl PartialEq + std::fmt::Debu
         emitter: name(node.emitter),
         observer: name(node.observer),
         dead_list: list(node.dead_list),
+        mark: list(node.mark),
         ..*node
     };
     let content = |content| match content {
+        Content::Heartbeat { list: carried } => Content::Heartbeat { list: list(carried) },
+        Content::NewObserver => Content::NewObserver,
         Content::Report { subject } => Content::Report { subject: name(subject) },
-        other => other,
     };
     let mut nodes: Vec<Node> = platform.nodes().iter().map(rename).collect();
     nodes.sort_by_key(|node| node.number);
@@ -486,14 +488,28 @@ fn a_step_when_done_leaves_the_platform() {
     assert_eq!(state(&platform), before);
 }
 
+/// H 3, W 5, D 2, every delay 2; 1 crashes at tick 4, 3 and 4 at tick 5. No report of 1 comes to 0, but a heartbeat names it:
+///
+/// - The heartbeats of tick 3 arrive at 5, so that the watches of 0 and 2 are due at 10. Node 2 leaves 1 for 0 and reports it to the nodes
+///   one and two ahead, 3 and 4, which are dead. Node 0 leaves 4 for 3, reports it to 1 and 2, and leaves 3 at tick 20 for 2.
+/// - Its O and its report of 3 come to 2 at tick 22. Node 2 then lists 1, 3 and 4 and sends a heartbeat at once, which arrives at 24.
+///   Until then 0 lists 3 and 4, and it never marks 1.
+/// - The bound of request 106 is 5 + 30 + 2 = 37, that of request 107 with two survivors is 37 + 5 = 42.
 #[test]
-fn a_list_can_stay_short_where_crashes_are_close() {
-    let mut platform = open("P,5,3,5,2,92\nC,4,1\nC,5,3\nC,5,4\n");
+fn a_heartbeat_names_what_no_report_tells() {
+    let file = "P,5,3,5,2,92\nC,4,1\nC,5,3\nC,5,4\n";
+    let mut platform = open(file);
     for_each_event(&mut platform, |platform| {
-        assert_eq!(platform.nodes()[0].dead_list & 1 << 1, 0);
-        assert!(settle::demand_3(platform));
+        assert!(settle::demand_3(platform) && settle::request_106(platform) && settle::request_107(platform));
+        assert_eq!(platform.nodes()[0].mark & 1 << 1, 0);
     });
-    assert_eq!(platform.nodes()[0].dead_list, 0b11000);
+    assert_eq!(settle::listing_tick(&platform), Some(42));
+    assert_eq!([0, 2].map(|node: usize| (platform.nodes()[node].dead_list, platform.nodes()[node].mark)), [(0b11010, 0b11000), (0b11010, 0b11010)]);
+    let log = log_of(file);
+    let naming: Vec<&str> = log.lines().filter(|line| line.starts_with("H,24,0,") || line.starts_with("R,24,0,")).collect();
+    assert_eq!(naming, ["R,24,0,3,0000000000000018", "H,24,0,2,000000000000001a"]);
+    let late = Some(Late { ticks: 18, bound: 37 });
+    assert_eq!(joining::of_run(&mut open(file), Claim::Listed).unwrap().nearest, late);
 }
 
 #[test]
@@ -570,11 +586,11 @@ fn unsettled_rings_are_told_from_settled_ones() {
     assert!(settle::settled(platform.ring(), platform.nodes()) && settle::no_live_node_listed(platform.nodes()));
 }
 
-/// Request 106 after each event of generated plans, half of them power trips, of which it is owed at the end. How often it is owed, and how
-/// late survivors were not joined, is what `joining` tells.
+/// Requests 106 and 107 after each event of generated plans, half of them power trips, at whose end request 106 is owed. How often each is
+/// owed, and how late survivors were not joined or their lists not full, is what `joining` tells.
 #[test]
-fn request_106_on_generated_plans() {
-    let (mut all, mut owed) = (Joining::NONE, 0);
+fn requests_106_and_107_on_generated_plans() {
+    let mut all = [Claim::Joined, Claim::Listed].map(|claim| (claim, Joining::NONE, 0));
     for index in 0..400 {
         let file = match index % 6 {
             0 => generator::plan(SEED + 9, index),
@@ -586,35 +602,41 @@ fn request_106_on_generated_plans() {
         let plan = plan::read(&file).unwrap_or_else(|refusal| panic!("index {index}: {refusal:?}"));
         let mut platform = Platform::open(plan.clone());
         for_each_event(&mut platform, |platform| {
-            assert!(settle::request_106(platform), "index {index}, after {} events", platform.events_done());
-            owed += u64::from(settle::joining_tick_passed(platform));
+            for (claim, _, owed) in &mut all {
+                assert!(claim.kept(platform), "index {index}, after {} events: {claim:?}", platform.events_done());
+                *owed += u64::from(claim.owed(platform));
+            }
         });
         assert!(index % 6 < 3 || settle::joining_tick_passed(&mut platform), "index {index}");
-        let joining = joining::of_run(&mut Platform::open(plan.clone())).unwrap_or_else(|error| panic!("index {index}: {error}"));
-        if index % 6 == 3 {
-            assert_eq!(joining.nearest.map(proportion), nearest_by_ticks(plan), "index {index}");
+        for (claim, joining, _) in &mut all {
+            let told = joining::of_run(&mut Platform::open(plan.clone()), *claim).unwrap_or_else(|error| panic!("index {index}: {error}"));
+            if index % 6 == 3 {
+                assert_eq!(told.nearest.map(proportion), nearest_by_ticks(plan.clone(), *claim), "index {index}");
+            }
+            joining.add(&told);
         }
-        all.add(&joining);
     }
-    let Late { ticks, bound } = all.nearest.expect("survivors are late");
-    assert!(owed == all.owed && owed > 50_000, "owed after {owed} events, {} told", all.owed);
-    assert!(all.crashed > 300 && ticks * 10 > bound * 9, "{all:?}");
+    for ((claim, joining, owed), (least, tenths)) in all.into_iter().zip([(50_000, 9), (20_000, 8)]) {
+        let Late { ticks, bound } = joining.nearest.expect("survivors are late");
+        assert!(owed == joining.owed && owed > least, "{claim:?} owed after {owed} events, {} told", joining.owed);
+        assert!(joining.crashed > 300 && ticks * 10 > bound * tenths, "{claim:?}: {joining:?}");
+    }
 }
 
 fn proportion(late: Late) -> f64 {
     late.ticks as f64 / late.bound as f64
 }
 
-/// How near to its bound survivors were not joined, from tick to tick.
-fn nearest_by_ticks(plan: Plan) -> Option<f64> {
+/// How near to its bound what is claimed did not hold, from tick to tick.
+fn nearest_by_ticks(plan: Plan, claim: Claim) -> Option<f64> {
     let mut platform = Platform::open(plan);
     let mut nearest = None;
     for tick in 0..=platform.plan().end {
         while platform.next_event().is_some_and(|pending| pending.tick == tick) {
             assert!(matches!(platform.step(), Step::Event(_)));
         }
-        if let Some(crash) = settle::last_crash(&platform).filter(|_| !settle::joined(platform.ring(), platform.nodes())) {
-            let bound = settle::joining_tick(&platform).expect("a crash is done") - u64::from(crash);
+        if let Some(crash) = settle::last_crash(&platform).filter(|_| !claim.holds(platform.ring(), platform.nodes())) {
+            let bound = claim.tick(&platform).expect("a crash is done") - u64::from(crash);
             let late = proportion(Late { ticks: u64::from(tick - crash), bound });
             nearest = Some(late.max(nearest.unwrap_or(0.0)));
         }
@@ -622,36 +644,163 @@ fn nearest_by_ticks(plan: Plan) -> Option<f64> {
     nearest
 }
 
-/// Eight nodes of 48 crash at one tick, in each of 100 phases of the heartbeats; H 100, D 20, every delay 20. For each W the fewest ticks after
-/// the crash at whose end the survivors are joined, and the most.
-///
+/// The fewest ticks after the crash at whose end what is claimed holds, and the most: eight nodes of 48 crash at one tick, in each of 100
+/// phases of the heartbeats; H 100, D 20, every delay 20.
+fn of_eight_in_48(claim: Claim, timeout: u64, order: &str) -> (u64, u64) {
+    let bound = 16 * timeout + 20 + if claim == Claim::Listed { 39 * 120 } else { 0 };
+    let holds_after = |crash: u64| {
+        let crashes: String = (8..16).map(|node| format!("C,{crash},{node}\n")).collect();
+        let mut platform = open(&format!("P,48,100,{timeout},20,{}\n{order}{crashes}", crash + bound));
+        let joining = joining::of_run(&mut platform, claim).expect("the claim holds");
+        assert!(claim.owed(&mut platform) && joining.nearest.is_some_and(|late| late.bound == bound));
+        joining.nearest.map_or(0, |late| late.ticks + 1)
+    };
+    let after: Vec<u64> = (200..300).map(holds_after).collect();
+    (after.iter().copied().min().unwrap_or(0), after.iter().copied().max().unwrap_or(0))
+}
+
 /// All send at tick 100 and 200. Of a crash at tick 200 the last heartbeat was sent at 100 and arrived at 120, so that the first watch is due
 /// at 120 + W. The node after eight dead neighbours comes to each of the next seven 2 × W later, and then to a survivor, to which its O
 /// takes 20 ticks. Of a crash from 201 to 299 the last heartbeat was sent at 200. In the dealt order no two of the eight are neighbours.
+///
+/// The report of the last of eight neighbours is sent with its watch, and by then its sender lists all. Of the 40 survivors the one that is
+/// 31 ahead is reached by five relays of 20 ticks, all others by as many or fewer.
 #[test]
 fn eight_of_48_at_one_tick() {
     let dealt: Vec<String> = (0..48).map(|place| (place % 6 * 8 + place / 6).to_string()).collect();
     let dealt = format!("Q,{}\n", dealt.join(","));
     assert!(dealt.starts_with("Q,0,8,16,24,32,40,1,9,17,") && dealt.ends_with(",39,47\n"));
-    let range = |timeout: u64, order: &str| {
-        let joined_after = |crash: u64| {
-            let crashes: String = (8..16).map(|node| format!("C,{crash},{node}\n")).collect();
-            let bound = 16 * timeout + 20;
-            let mut platform = open(&format!("P,48,100,{timeout},20,{}\n{order}{crashes}", crash + bound));
-            let joining = joining::of_run(&mut platform).expect("survivors are joined");
-            assert!(settle::joining_tick_passed(&mut platform) && joining.nearest.is_some_and(|late| late.bound == bound));
-            joining.nearest.map_or(0, |late| late.ticks + 1)
-        };
-        let after: Vec<u64> = (200..300).map(joined_after).collect();
-        (after.iter().copied().min(), after.iter().copied().max())
-    };
     for timeout in [120, 220, 320] {
         let first = 120 + timeout - 200;
-        assert_eq!(range(timeout, ""), (Some(first + 14 * timeout + 20), Some(first + 14 * timeout + 119)), "W {timeout}");
-        assert_eq!(range(timeout, &dealt), (Some(first + 20), Some(first + 119)), "W {timeout}, dealt");
+        let last = first + 14 * timeout;
+        assert_eq!(of_eight_in_48(Claim::Joined, timeout, ""), (last + 20, last + 119), "W {timeout}");
+        assert_eq!(of_eight_in_48(Claim::Listed, timeout, ""), (last + 100, last + 199), "W {timeout}");
+        assert_eq!(of_eight_in_48(Claim::Joined, timeout, &dealt), (first + 20, first + 119), "W {timeout}, dealt");
+        assert_eq!(of_eight_in_48(Claim::Listed, timeout, &dealt), (first + 80, first + 179), "W {timeout}, dealt");
     }
-    assert_eq!(range(120, ""), (Some(1_740), Some(1_839)));
-    assert_eq!(range(120, &dealt), (Some(60), Some(159)));
+    assert_eq!(of_eight_in_48(Claim::Joined, 120, ""), (1_740, 1_839));
+    assert_eq!(of_eight_in_48(Claim::Listed, 120, ""), (1_820, 1_919));
+}
+
+/// The first tick at whose end each of the nodes lists this one.
+fn listed_from(file: &str, listed: u8, nodes: &[u8]) -> Vec<u64> {
+    let mut platform = open(file);
+    let mut ticks = vec![u64::MAX; nodes.len()];
+    for_each_event(&mut platform, |platform| {
+        let new = |tick: &u64, node: &u8| *tick == u64::MAX && ring::listed(platform.nodes()[usize::from(*node)].dead_list, listed);
+        let last = u64::from(platform.last_tick());
+        ticks.iter_mut().zip(nodes).filter(|(tick, node)| new(tick, node)).for_each(|(tick, _)| *tick = last);
+    });
+    ticks
+}
+
+/// H 100, W 101, D 1. Node 0 of 64 crashes at tick 201, and with it the nodes 1, 2, 4, 8, 16 and 32 ahead of node 1. So no report of 0 comes
+/// to anybody, and heartbeats alone name it, from node to node:
+///
+/// - The heartbeats of tick 200 arrive at 201, so that all watches on the dead expire at 302. Node 1 leaves 0 for 63 and reports it to the
+///   dead. 4 leaves 3 for 2, and 6, 10, 18 and 34 each leave one for a live node, to which they send O. So 4, 8, 16 and 32, which get these at
+///   303, send at 303 and each 100 ticks later; the others still send when all did at first.
+/// - At 504 node 4 leaves 2 for 1, which gets its O at 505 and names 0 at once: 4 lists it at 506.
+/// - 4 sends at 603, 6 at 700, 7 at 800, 8 at 803, 10 at 900, and so on: 100 ticks from one to the next, but that 8, 16 and 32 wait 2.
+///   So 6 lists it at 604, 7 at 701, 8 at 801, 10 at 804, 11 at 901, 16 at 1401, 18 at 1404, 32 at 2801, 34 at 2804, 35 at 2901 and 63 at 5701.
+/// - The bound is 14 × 101 + 1 after the crash for neighbours, 1,415, and 56 × 101 more for lists, 7,071. At the end of tick 5,700, which is
+///   5,499 after the crash, the list of 63 is short: with 40 for 56 the claim would be false.
+#[test]
+fn a_list_goes_by_heartbeats_alone() {
+    let crashes: String = [0, 2, 3, 5, 9, 17, 33].map(|node| format!("C,201,{node}\n")).concat();
+    let file = format!("P,64,100,101,1,{}\n{crashes}", 201 + 7_071);
+    let nodes = [1, 4, 6, 7, 8, 10, 11, 16, 18, 32, 34, 35, 63];
+    let ticks = [302, 506, 604, 701, 801, 804, 901, 1_401, 1_404, 2_801, 2_804, 2_901, 5_701];
+    assert_eq!(listed_from(&file, 0, &nodes), ticks);
+    let told = joining::of_run(&mut open(&file), Claim::Listed).expect("lists are full");
+    assert_eq!((told.owed, told.nearest), (1, Some(Late { ticks: 5_499, bound: 7_071 })));
+    assert_eq!(settle::joining_time(101, 1, 7), 1_415);
+    assert!(5_499 > 1_415 + 40 * 101);
+}
+
+/// The same with nine nodes: H 4, W 5, D 1, and 0 crashes at tick 5 with the nodes 1, 2 and 4 ahead of node 1. All watches on the dead expire
+/// at 10. 4 leaves 3 for 2 and at 20 that for 1, whose heartbeat names 0 at 22. 4 got the O of 6 at 11 and sends at 11, 15, 19 and 23; 6, 7
+/// and 8 send at 24, 28 and 32.
+#[test]
+fn a_list_goes_by_heartbeats_among_nine() {
+    let file = "P,9,4,5,1,66\nC,5,0\nC,5,2\nC,5,3\nC,5,5\n";
+    assert_eq!(listed_from(file, 0, &[1, 4, 6, 7, 8]), [10, 22, 24, 25, 29]);
+    assert_eq!(joining::of_run(&mut open(file), Claim::Listed).expect("lists are full").nearest, Some(Late { ticks: 23, bound: 61 }));
+}
+
+/// "The settling time S between spaced crashes must still hold", and it needs that a named node relays the first report. H 2, W 11, D 9, and
+/// 8 of nine nodes crashes at tick 3. With eight survivors S is 11 + 5 × 9 = 56: all has to be done before tick 59.
+///
+/// - The last heartbeat of 8 is sent at tick 2 and takes 9 ticks. So the watch of 0 expires at 22. Its reports, to 1, 2 and 4, take 9 ticks too.
+/// - Up to tick 20 there are 81 messages, then O, three R and eight H. Four heartbeats take one tick: that of 0 at tick 22, of 1 at 24, of 2 at
+///   26 and of 3 at 28, numbers 85, 94, 103 and 112. So 1, 2, 3 and 4 list 8 at 23, 25, 27 and 29, before any report comes.
+/// - At 31 the reports come to 1, 2 and 4, which relay them; 3 and 6 hear of it at 40, 7 at 49. 5 is named at 39 by the heartbeat of tick 30.
+/// - Would these three not relay what they list, 5 would be named at 39, 6 at 49 and 7 at 59, by the heartbeats of ticks 40 and 50.
+#[test]
+fn named_nodes_relay_in_time() {
+    let file = "P,9,2,11,9,80\nC,3,8\nL,85,1\nL,94,1\nL,103,1\nL,112,1\n";
+    assert_eq!(listed_from(file, 8, &[0, 1, 2, 3, 4, 5, 6, 7]), [22, 23, 25, 27, 29, 39, 40, 49]);
+    let mut platform = open(file);
+    for_each_event(&mut platform, |platform| assert!(settle::demand_3(platform), "after {} events", platform.events_done()));
+    assert!(settle::settling_time_passed(&mut platform));
+    let log = log_of(file);
+    for line in ["H,23,1,0,0000000000000100", "H,29,4,3,0000000000000100", "R,31,1,8,0000000000000100", "R,40,3,8,0000000000000100"] {
+        assert!(log.contains(line), "{line}");
+    }
+}
+
+/// The messages that an event sends.
+fn sent_by(platform: &Platform, first: u64) -> impl Iterator<Item = Message> {
+    platform.messages().into_iter().map(|(_, message)| message).filter(move |message| message.number >= first)
+}
+
+/// In generated plans each heartbeat carries its sender's list as it is when sent, a node reports each subject in one event alone, and marks it
+/// in that event. Nodes come up that a heartbeat named before the report that they then relay, and such as no report ever tells.
+#[test]
+fn lists_and_marks_on_generated_plans() {
+    let (mut named_first, mut named_only) = (0, 0);
+    for index in 0..150 {
+        let file = match index % 2 {
+            0 => generator::reported_plan(SEED + 10, index, generator::SMALL),
+            _ => generator::tripped_plan(SEED + 10, index, generator::SMALL),
+        };
+        let mut platform = Platform::open(plan::read(&file).unwrap());
+        loop {
+            let (before, first) = (platform.nodes().to_vec(), platform.next_number());
+            let Step::Event(_) = platform.step() else { break };
+            for Message { sender, content, .. } in sent_by(&platform, first) {
+                let (old, new) = (before[usize::from(sender)], platform.nodes()[usize::from(sender)]);
+                match content {
+                    Content::Heartbeat { list } => assert_eq!(list, new.dead_list, "index {index}"),
+                    Content::NewObserver => {}
+                    Content::Report { subject } => {
+                        assert!(!ring::listed(old.mark, subject) && ring::listed(new.mark, subject), "index {index}");
+                        named_first += u64::from(ring::listed(old.dead_list, subject));
+                    }
+                }
+            }
+        }
+        let only = |node: &&Node| node.alive && node.mark != node.dead_list;
+        named_only += platform.nodes().iter().filter(only).count();
+    }
+    assert!(named_first > 50 && named_only > 3, "{named_first} relayed after a heartbeat, {named_only} nodes with one that no report told");
+}
+
+/// A lent store whose messages name their receiver, their sender and others: node 1 of three observes 0 and gets H of 0 with all bits.
+/// O and R have no list. The H of 2, whom 1 does not observe, does nothing.
+#[test]
+fn a_lent_heartbeat_names_its_receiver_and_sender() {
+    let opened = open("P,3,5,20,6,90\n");
+    let heartbeat = |number, sender| (3, Message { number, sender, receiver: 1, content: Content::Heartbeat { list: 0b111 } });
+    let messages = vec![heartbeat(0, 2), heartbeat(1, 0)];
+    let lent = store::encode(&Platform::resume(opened.plan().clone(), opened.nodes().to_vec(), messages, 2, 0, 3));
+    let mut platform = store::decode(&lent).expect("the store is in range").platform;
+    platform.step();
+    assert_eq!(platform.nodes(), opened.nodes());
+    let line = Line { letter: b'H', tick: 3, node: 1, other: 0, list: 0b100 };
+    assert_eq!(platform.step(), Step::Event(Event { line, passed: None }));
+    assert_eq!((platform.nodes()[1].mark, platform.nodes()[1].watch, platform.in_flight()), (0, Some(23), 0));
+    assert!(store::check(&store::encode(&platform)));
 }
 
 /// Three neighbours of five crash at tick 3; H 2, W 5, D 3, every delay 3. Their heartbeats of tick 2 arrive at 5, so that the watch of 4 is
@@ -672,7 +821,7 @@ fn three_neighbours_of_five_at_one_tick() {
     assert_eq!(up_to(35), (91, (4, 4), (0, 0), false));
     assert_eq!(up_to(36), (94, (4, 4), (0, 0), true));
     let late = Some(Late { ticks: 29, bound: 33 });
-    assert_eq!(joining::of_run(&mut open(&file(36))), Ok(Joining { crashed: 1, owed: 1, nearest: late }));
+    assert_eq!(joining::of_run(&mut open(&file(36)), Claim::Joined), Ok(Joining { crashed: 1, owed: 1, nearest: late }));
 }
 
 /// The next event by a plain search, as the paper lists the three classes.

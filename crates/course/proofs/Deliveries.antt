@@ -24,7 +24,7 @@ use Rattle.store.proofs.States.{take-fits}
 use Rattle.event.specs.Event.{NextIs, Turns, entry}
 use Rattle.event.proofs.Readiness.{ready-accepted, ready-sound}
 use Rattle.event.proofs.Turning.{turn-did}
-use Rattle.event.proofs.Doing.{event-tick, length-less, message-here, message-place, message-subject, message-count, message-turns}
+use Rattle.event.proofs.Doing.{event-tick, length-less, message-here, message-place, message-sender, message-subject, message-count, message-turns}
 use Rattle.event.proofs.Doing.{message-refused, message-done, turn-of}
 use Rattle.queue.specs.declared.Row.{Row}
 use Rattle.queue.specs.Rows.{places, rowAt}
@@ -66,6 +66,9 @@ module _ (b q : List ℕ) (c : Progress) (t : ℕ) (whole : List ℕ) (k : Under
 
     pub delivery-place : f .to < planIn b .n
     delivery-place = rw (apart-plan (k .apart)) (message-place whole (k .ready) t i next f is-flight)
+
+    pub delivery-sender : f .from < mostNodes
+    delivery-sender = message-sender whole (k .ready) t i next f is-flight
 
     pub delivery-subject : f .subject < mostNodes
     delivery-subject = message-subject whole (k .ready) t i next f is-flight

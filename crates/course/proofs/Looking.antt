@@ -318,8 +318,8 @@ module _ (p : Plan) (s : State) (t : ℕ) where
     },
   )
     where
-      none : (j : ℕ) → i ≤ j → nodeOf s j ≡ alone j 0
-      none j k = List·getD-eq-default (s .nodes) (alone j 0) (omega arith)
+      none : (j : ℕ) → i ≤ j → nodeOf s j ≡ alone j 0 0
+      none j k = List·getD-eq-default (s .nodes) (alone j 0 0) (omega arith)
 
       watch : (j : ℕ) → alive p (s .done) j ≡ true → nodeOf s j .watch ≢ 0 → Dec (j < i) → least < nodeOf s j .watch
       watch j v n (yes k) = u .watch j k v n

@@ -53,7 +53,7 @@ module _ {b q whole : List ℕ} {start end : ℕ} (s : Apart b q start end whole
   apart-nodes = ap (λ (z : State). z .nodes) apart-state
 
   pub apart-node : (i : ℕ) → nodeOf (stateIn b) i ≡ nodeOf (stateIn whole) i
-  apart-node i = ap (λ (l : List Node). getD l i (alone i 0)) apart-nodes
+  apart-node i = ap (λ (l : List Node). getD l i (alone i 0 0)) apart-nodes
 
   pub apart-acting : Ready whole → Acting b
   apart-acting r =

@@ -74,10 +74,10 @@ module _
     (nodes : s' .nodes ≡ set (s .nodes) y a)
     (inside : y < length (s .nodes)) where
   node-mine : nodeOf s' y ≡ a
-  node-mine = rw nodes (getD-set-same (s .nodes) y a (alone y 0) inside)
+  node-mine = rw nodes (getD-set-same (s .nodes) y a (alone y 0 0) inside)
 
   node-other : (j : ℕ) → j ≢ y → nodeOf s' j ≡ nodeOf s j
-  node-other j h = rw nodes (getD-set-other (s .nodes) y j a (alone j 0) h)
+  node-other j h = rw nodes (getD-set-other (s .nodes) y j a (alone j 0 0) h)
 
   pub timers-turn : (c d : Progress) (count : ℕ) → c .x ≤ y → Timers p s (c .bound) (c .x) → Later c d count a → Timers p s' (d .bound) (d .x)
   timers-turn c d count h t l = record {

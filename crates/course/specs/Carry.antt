@@ -21,6 +21,7 @@ unpacked r t = record {
   from = fromIn (r .word);
   to = toIn (r .word);
   subject = subjectIn (r .word);
+  list = r .list;
 }
 
 -- the rows in places 0 to n are these messages, in their own order

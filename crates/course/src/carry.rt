@@ -25,6 +25,7 @@ pub fn pack(m: Flight) -> Row
         due: m.due as u64,
         number: m.number,
         word,
+        list: m.list,
     }
 }
 
@@ -43,6 +44,7 @@ pub fn unpack(r: Row, t: u32) -> Flight
         from,
         to,
         subject,
+        list: r.list,
     }
 }
 

@@ -318,12 +318,12 @@ open-record-down s number nodes h w = record {
     by true false = refl
     by true true = refl
 
-pub deliver-down : (s : List ℕ) (tick kind sender subject : ℕ) (part : List ℕ)
-    → TurnsDown (deliverAnswer s tick kind sender subject part) (deliverPlaces s tick kind sender subject part)
-    ((deliverLeaves s tick kind sender subject part ≡ s) × (deliverSends s tick kind sender subject part ≡ part))
+pub deliver-down : (s : List ℕ) (tick kind sender subject list : ℕ) (part : List ℕ)
+    → TurnsDown (deliverAnswer s tick kind sender subject list part) (deliverPlaces s tick kind sender subject list part)
+    ((deliverLeaves s tick kind sender subject list part ≡ s) × (deliverSends s tick kind sender subject list part ≡ part))
 unfolding deliverAnswer deliverLeaves deliverSends deliverPlaces
-deliver-down s tick kind sender subject part = record {
-  first = rw (below (length part) 56) (answer-down _ _ _ _);
+deliver-down s tick kind sender subject list part = record {
+  first = rw (below (length part) 112) (answer-down _ _ _ _);
   untouched = λ h. call-left _ s part tick _ h;
 }
 
@@ -331,14 +331,14 @@ pub fire-down : (s : List ℕ) (tick : ℕ) (part : List ℕ)
     → TurnsDown (timersAnswer s tick part) (timersPlaces s tick part) ((timersLeaves s tick part ≡ s) × (timersSends s tick part ≡ part))
 unfolding timersAnswer timersLeaves timersSends timersPlaces
 fire-down s tick part = record {
-  first = rw (below (length part) 56) (timers-down _ _ _);
+  first = rw (below (length part) 112) (timers-down _ _ _);
   untouched = λ h. call-left _ s part tick _ h;
 }
 
 -- an accepted call leaves a record in range, a refused one leaves it as it was
 leaves-sound : (c : NodeCall) (tick : ℕ) (s part : List ℕ) → sound s ≡ true → sound (leaves c tick s part) ≡ true
 unfolding leaves
-leaves-sound (deliver kind sender subject) tick s part e = deliver-stays s tick kind sender subject part e
+leaves-sound (deliver kind sender subject list) tick s part e = deliver-stays s tick kind sender subject list part e
 leaves-sound timers tick s part e = timers-stay s tick part e
 
 all-sound : (cs : List RecordCall) (s : List ℕ) → sound s ≡ true → sound (recordAfterAll cs s) ≡ true

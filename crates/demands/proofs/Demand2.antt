@@ -118,7 +118,7 @@ list-small p pl s r x = go (decLt x (p .n))
   where
     go : Dec (x < p .n) → (nodeOf s x) .list < 2 ^ 64
     go (yes h) = omega (arith, r .fields x h .list, pow-le-pow-right {n = 2} (lit< tt) (pl .n≤))
-    go (no h) = rw (List·getD-eq-default (s .nodes) (alone x 0) {n = x} (rw (r .nodes) (omega arith))) (lit< tt)
+    go (no h) = rw (List·getD-eq-default (s .nodes) (alone x 0 0) {n = x} (rw (r .nodes) (omega arith))) (lit< tt)
 
 deed-list : (p : Plan) → Plain p → (s s' : State) → Sound p s' → (t : ℕ) (e : Event) → deedOf p s s' t e .list < 2 ^ 64
 unfolding deedOf crashDeed messageDeed watchDeed heartbeatDeed

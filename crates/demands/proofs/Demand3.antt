@@ -11,9 +11,9 @@ use Rattle.runfile.specs.File.{accepted, fileOf}
 use Rattle.runfile.proofs.RoundTrip.{accepted-plan}
 use Rattle.model.specs.Platform.{State, start, firstEvents, after}
 use Rattle.model.specs.Range.{Accepted}
-use Rattle.model.specs.Claims.{CrashedAre, Safe, Settles, Joins}
+use Rattle.model.specs.Claims.{CrashedAre, Safe, Settles, Joins, Completes}
 use Rattle.model.proofs.Plans.{plan-accepted}
-use Rattle.model.proofs.Theorems.{crashed, logarithm, safety, settling, joining}
+use Rattle.model.proofs.Theorems.{crashed, logarithm, safety, settling, joining, completing}
 use Rattle.limits.specs.Limits.{storeSize}
 use Rattle.store.specs.Store.{encode, planIn, stateIn, storeInRange}
 use Rattle.platform.specs.declared.Opened.the-variants.{Ready}
@@ -52,6 +52,7 @@ module _ (file store : List ℕ) (p : Plan) (ok : fileOf file ≡ accepted p) (s
         safe = subst (Safe p) (sym state) (safety p ac e);
         settles = subst (Settles p) (sym state) (settling p ac e);
         joins = subst (Joins p) (sym state) (joining p ac e);
+        completes = subst (Completes p) (sym state) (completing p ac e);
         inRange = ap storeInRange (called cs) ∙ in-range p (after p e) holds (after-small p good e);
       }
 

@@ -105,7 +105,7 @@ module _ (p : Plan) (good : planTest p ≡ true) (s : State) (r : Sound p s) (t 
   module _ (order : orderOf p ≡ numbers 0 (p .n)) (last : ℕ) (l : last ≤ t) (b : List ℕ) (ok : sound b ≡ true) (part : List ℕ)
       (long : partSize ≤ length part) where
     abbrev delivery : ℕ → NodeCall
-    delivery i = deliver ((messageAt s i) .kind) ((messageAt s i) .from) ((messageAt s i) .subject)
+    delivery i = deliver ((messageAt s i) .kind) ((messageAt s i) .from) ((messageAt s i) .subject) ((messageAt s i) .list)
 
     message-same : (i : ℕ) → Chosen p pl s t (message i)
         → ((m : InFlight) → List·Memᴰ m (s .flight) → m .kind ≡ R → alive p (s .done) (m .subject) ≡ false)
@@ -119,11 +119,12 @@ module _ (p : Plan) (good : planTest p ≡ true) (s : State) (r : Sound p s) (t 
         let k : Record = recordOf p (m .to) last (nodeOf s (m .to)) in
         let about : m .kind ≡ R → (m .subject < p .n) × (m .subject ≡ m .to → ⊥) =
         λ q. (f .subject, λ e. true≢false (sym a ∙ ap (alive p (s .done)) (sym e) ∙ reported m has q)) in
-        let u : delivered k t (m .kind) (m .from) (m .subject) ≡ received p s t m = rw (a, order) in
+        let u : delivered k t (m .kind) (m .from) (m .subject) (m .list) ≡ received p s t m = rw (a, order) in
         let after : Turn → State = taken p s t (m .to) (without i (s .flight)) in
         subst (λ (v : Turn). SameEvent p s (record { tick = t; event = message i }) (after v) (m .to) (delivery i) b part)
-        u (same (m .to) (f .to) last (message i) (delivered k t (m .kind) (m .from) (m .subject)) (delivery i) b part
-        (deliver-accepted b k ok d t l ends part long (m .kind) (m .from) (m .subject) (f .kind) (f .from) (f .apart) about))
+        u (same (m .to) (f .to) last (message i) (delivered k t (m .kind) (m .from) (m .subject) (m .list)) (delivery i) b part
+        (deliver-accepted b k ok d t l ends part long (m .kind) (m .from) (m .subject) (m .list) (f .kind) (f .from) (f .apart) about
+        (f .list .below)))
 
     watch-same : (x : ℕ) → Chosen p pl s t (watch x) → decode b ≡ recordOf p x last (nodeOf s x)
         → SameEvent p s (record { tick = t; event = watch x }) (apply p s t (watch x)) x timers b part

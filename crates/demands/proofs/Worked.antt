@@ -8,12 +8,12 @@ use Prim.Native.Nat.{ℕ, _≤_}
 use native.Mathlib.Omega.{arith}
 use lib.ListN.{length, replicate}
 use Rattle.fields.specs.Fields.{bytes, value, fieldAt, zeros}
-use Rattle.ring.specs.Ring.{keep, numbers, among, eachOnce, listed, listing, unlisted, passing, round, place, ahead}
+use Rattle.ring.specs.Ring.{keep, numbers, among, eachOnce, listed, listing, unlisting, merging, partOf, unlisted, passing, round, place, ahead}
 use Rattle.ring.specs.Ring.{firstUnlisted, back, next, count, powers, jumps, targets}
 use Rattle.node.specs.declared.Node.{Node}
-use Rattle.node.specs.Node.{reports, opening, onHeartbeat, onObserver, onReport, onHeartbeatDue, onMessage, leaving}
+use Rattle.node.specs.Node.{reports, opening, learnt, onHeartbeat, onObserver, onReport, onHeartbeatDue, onMessage, leaving}
 use Rattle.node.specs.Range.{nodeTest, apart, liveTest}
-use Rattle.host.specs.Record.{numbersBytes, neighboursBytes, ticksBytes, encode, decode, openable, inRange, sound}
+use Rattle.host.specs.Record.{numbersBytes, neighboursBytes, ticksBytes, markBytes, encode, decode, openable, inRange, sound}
 use Rattle.limits.specs.Limits.{recordSize, partSize}
 use Rattle.limits.specs.Refusals.{badRecord, accepted as taken}
 use Rattle.host.specs.Call.{answer, tickTaken, timersAnswer}
@@ -42,20 +42,20 @@ in-number-order = refl
 
 -- node 0 after eight events
 unfoldable pub node : Node
-node = record { emitter = 1; observer = 1; watch = 6; heartbeat = 4; list = 0 }
+node = record { emitter = 1; observer = 1; watch = 6; heartbeat = 4; list = 0; mark = 0 }
 
 pub ninth : (nodeOf (after two 8) 0 ≡ node)
     × (nextEvent two (after two 8) ≡ some (record { tick = 3; event = heartbeat 0 }))
     × (lastTick two 0 8 ≡ 3)
-unfolding two node keep numbers listed listing unlisted passing round place ahead firstUnlisted back next count powers jumps targets reports opening
-    onHeartbeat onObserver onReport onHeartbeatDue leaving onMessage ringOrder orderOf hits among alive start crashEntries messageEntries timerEntry
-    timerEntries pending earlier first upTo nextEvent delayIn delayOf numbered turned without received apply fits tried try left steps after
-    callTo tickOr ticked lastTick
+unfolding two node keep numbers listed listing unlisting merging unlisted passing round place ahead firstUnlisted back next count powers jumps targets
+    reports opening learnt onHeartbeat onObserver onReport onHeartbeatDue leaving onMessage ringOrder orderOf hits among alive start crashEntries
+    messageEntries timerEntry timerEntries pending earlier first upTo nextEvent delayIn delayOf numbered turned without received apply fits tried try
+    left steps after callTo tickOr ticked lastTick
 ninth = (refl, refl, refl)
 
 out-of-range : timersAnswer (encode (recordOf two 0 0 node)) 3 (replicate partSize 0) ≡ badRecord
-unfolding two node recordOf bytes value fieldAt zeros numbersBytes neighboursBytes ticksBytes encode decode openable
-    nodeTest apart liveTest inRange sound answer timersAnswer listed
+unfolding two node recordOf bytes value fieldAt zeros numbersBytes neighboursBytes ticksBytes markBytes encode decode
+    openable nodeTest apart liveTest inRange sound answer timersAnswer listed
 out-of-range = refl
 
 pub early-tick-refused : timersAnswer (encode (recordOf two 0 0 (nodeOf (after two 8) 0))) 3 (replicate partSize 0) ≡ badRecord
@@ -70,6 +70,6 @@ followed-so bytes size parts long =
 
 -- and the call of the ninth event takes it
 pub late-tick-taken : timersAnswer (encode (recordOf two 0 3 node)) 3 (replicate partSize 0) ≡ taken
-unfolding two node recordOf bytes value fieldAt zeros numbersBytes neighboursBytes ticksBytes encode decode openable
-    nodeTest apart liveTest inRange sound answer tickTaken timersAnswer listed
+unfolding two node recordOf bytes value fieldAt zeros numbersBytes neighboursBytes ticksBytes markBytes encode decode
+    openable nodeTest apart liveTest inRange sound answer tickTaken timersAnswer listed partOf
 late-tick-taken = refl

@@ -23,7 +23,7 @@ use Rattle.logline.specs.declared.Written.the-variants.{Bytes as LineBytes, Ref
 use Rattle.logline.specs.Line.{Ranges, upTo, unknown, ranges, within, readOf, fields as columnsOf, lineText, writtenOf, outOf}
 use Rattle.model.specs.Platform.{State, Entry, nextEvent, apply, Outcome, did, ended, refused, try, steps, eventCount, runAnswer, firstEvents, after}
 use Rattle.model.specs.Lines.{lineOf, eventLines, lastLine, linesText, linesFrom}
-use Rattle.model.specs.Claims.{CrashedAre, Safe, LogRoundedUp, K, Settles, Joins}
+use Rattle.model.specs.Claims.{CrashedAre, Safe, LogRoundedUp, K, Settles, Joins, Completes}
 use Rattle.host.specs.Record.{decode, openable, sound}
 use Rattle.host.specs.Call.{tickTaken, messageTaken, openAnswer, openLeaves, deliverAnswer, deliverLeaves, deliverSends}
 use Rattle.host.specs.Call.{timersAnswer, timersLeaves, timersSends}
@@ -114,13 +114,13 @@ dispatchPlaces part turnLength =
 unfoldable pub recordPlaces : List ℕ → ℕ → ℕ → ℕ → ℕ → List Place
 recordPlaces s number nodes h w = place (not (eqb (length s) recordSize)) 10 ∷ place (not (openable number nodes h w)) 3 ∷ []
 
-unfoldable pub deliverPlaces : List ℕ → ℕ → ℕ → ℕ → ℕ → List ℕ → List Place
-deliverPlaces s tick kind sender subject part =
+unfoldable pub deliverPlaces : List ℕ → ℕ → ℕ → ℕ → ℕ → ℕ → List ℕ → List Place
+deliverPlaces s tick kind sender subject list part =
     place (not (sound s)) 10 ∷ place (not (tickTaken (decode s) tick)) 12
-    ∷ place (not (messageTaken (decode s) kind sender subject)) 11 ∷ place (ltb (length part) 56) 9 ∷ []
+    ∷ place (not (messageTaken (decode s) kind sender subject list)) 11 ∷ place (ltb (length part) 112) 9 ∷ []
 
 unfoldable pub timersPlaces : List ℕ → ℕ → List ℕ → List Place
-timersPlaces s tick part = place (not (sound s)) 10 ∷ place (not (tickTaken (decode s) tick)) 12 ∷ place (ltb (length part) 56) 9 ∷ []
+timersPlaces s tick part = place (not (sound s)) 10 ∷ place (not (tickTaken (decode s) tick)) 12 ∷ place (ltb (length part) 112) 9 ∷ []
 
 -- a call on a record after it was opened, at a tick, with a message part; and the record after such calls, refused ones included, each with
 -- the record that the last one left
@@ -188,9 +188,9 @@ pub record Demand1 : Type 0 where
   -- a host's calls
   pub nodeOpen : (s : List ℕ) (number nodes h w : ℕ)
       → TurnsDown (openAnswer s number nodes h w) (recordPlaces s number nodes h w) (openLeaves s number nodes h w ≡ s)
-  pub nodeDeliver : (s : List ℕ) (tick kind sender subject : ℕ) (part : List ℕ)
-      → TurnsDown (deliverAnswer s tick kind sender subject part) (deliverPlaces s tick kind sender subject part)
-      ((deliverLeaves s tick kind sender subject part ≡ s) × (deliverSends s tick kind sender subject part ≡ part))
+  pub nodeDeliver : (s : List ℕ) (tick kind sender subject list : ℕ) (part : List ℕ)
+      → TurnsDown (deliverAnswer s tick kind sender subject list part) (deliverPlaces s tick kind sender subject list part)
+      ((deliverLeaves s tick kind sender subject list part ≡ s) × (deliverSends s tick kind sender subject list part ≡ part))
   pub nodeTimers : (s : List ℕ) (tick : ℕ) (part : List ℕ)
       → TurnsDown (timersAnswer s tick part) (timersPlaces s tick part) ((timersLeaves s tick part ≡ s) × (timersSends s tick part ≡ part))
   -- 'as is an opened record and every one that accepted calls then leave': no record that the rules lead to is refused by 10
@@ -288,6 +288,9 @@ pub record AfterCalls (p : Plan) (cs : List Call) (store : List ℕ) : Type 0 wh
   -- REQUEST 106: however close the crashes done came, the last of the f at tick c, where no event due by tick c + 2 × W × f + D is left every
   -- survivor's emitter and observer are the neighbouring survivors
   pub joins : Joins p (stateIn store)
+  -- REQUEST 107: with m survivors, at least one, and no event left that is due by (m − 1) × (H + D) ticks after that, every survivor lists exactly
+  -- the crashed nodes
+  pub completes : Completes p (stateIn store)
   -- it is in range, the cap on the next number included
   pub inRange : storeInRange store ≡ true
 

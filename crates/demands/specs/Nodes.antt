@@ -30,9 +30,9 @@ recordOf p x last n = record { number = x; nodes = p .n; h = p .h; w = p .w; las
 
 -- ---- the call of an event
 
--- a message delivered, by its kind, its sender and its subject; or the timers
+-- a message delivered, by its kind, its sender, its subject and the list that it carries; or the timers
 pub data NodeCall : Type 0 where
-  deliver : ℕ → ℕ → ℕ → NodeCall
+  deliver : ℕ → ℕ → ℕ → ℕ → NodeCall
   timers : NodeCall
 
 -- the call that an event of state s is to node x: a message that x gets while it is live, its watch, its heartbeat. Another
@@ -41,23 +41,23 @@ unfoldable pub callTo : Plan → State → ℕ → Event → Option NodeCall
 callTo p s x (crash k) = none
 callTo p s x (message i) =
     let m : InFlight = messageAt s i in
-    cond (eqb (m .to) x && alive p (s .done) x) (some (deliver (m .kind) (m .from) (m .subject))) none
+    cond (eqb (m .to) x && alive p (s .done) x) (some (deliver (m .kind) (m .from) (m .subject) (m .list))) none
 callTo p s x (watch y) = cond (eqb y x) (some timers) none
 callTo p s x (heartbeat y) = cond (eqb y x) (some timers) none
 
 -- what `kelbraut_node_deliver` or `kelbraut_node_timers` answers at a tick, where the record b and a message part are lent to it
 unfoldable pub answers : NodeCall → ℕ → List ℕ → List ℕ → ℕ
-answers (deliver kind sender subject) tick b part = deliverAnswer b tick kind sender subject part
+answers (deliver kind sender subject list) tick b part = deliverAnswer b tick kind sender subject list part
 answers timers tick b part = timersAnswer b tick part
 
 -- the record that it leaves
 unfoldable pub leaves : NodeCall → ℕ → List ℕ → List ℕ → List ℕ
-leaves (deliver kind sender subject) tick b part = deliverLeaves b tick kind sender subject part
+leaves (deliver kind sender subject list) tick b part = deliverLeaves b tick kind sender subject list part
 leaves timers tick b part = timersLeaves b tick part
 
 -- the message part that it leaves
 unfoldable pub sends : NodeCall → ℕ → List ℕ → List ℕ → List ℕ
-sends (deliver kind sender subject) tick b part = deliverSends b tick kind sender subject part
+sends (deliver kind sender subject list) tick b part = deliverSends b tick kind sender subject list part
 sends timers tick b part = timersSends b tick part
 
 -- ---- one event
@@ -146,6 +146,6 @@ pub record SameAsNodes (p : Plan) : Type 0 where
   -- an event leaves the fields of every node to which it is no call
   pub others : (k : ℕ) (e : Entry) (s' : State) → try p (after p k) ≡ did e s'
       → (x : ℕ) → callTo p (after p k) x (e .event) ≡ none → nodeOf s' x ≡ nodeOf (after p k) x
-  -- the whole run: any 64 lent bytes, any message parts of at least 56
+  -- the whole run: any 64 lent bytes, any message parts of at least 112
   pub run : (x : ℕ) → x < p .n → (bytes : List ℕ) → length bytes ≡ recordSize
       → (parts : ℕ → List ℕ) → ((i : ℕ) → partSize ≤ length (parts i)) → Follows p x bytes parts

@@ -1,10 +1,10 @@
--- Document 01's starred edges hold, and those of document 02's line Q, reported emitter and line K: each definition computes to what the table says.
--- Assumes nothing.
+-- Document 01's starred edges hold, and those of document 02's line Q, reported emitter, line K and heartbeats with a list: each definition computes
+-- to what the table says. Assumes nothing.
 use mathlib.Core.Path.{refl}
-use Rattle.ring.specs.Ring.{among, eachOnce, listingAll}
+use Rattle.ring.specs.Ring.{among, eachOnce, listingAll, unlisting, merging}
 use Rattle.ring.specs.Ring.{keep, numbers, listed, listing, passing, unlisted, place, round, ahead, firstUnlisted, back, next, count, powers}
 use Rattle.ring.specs.Ring.{jumps, targets}
-use Rattle.node.specs.Node.{reports, opening as nodeOpening, onHeartbeat, onObserver, onReport, onHeartbeatDue, leaving, onMessage}
+use Rattle.node.specs.Node.{reports, opening as nodeOpening, learnt, onHeartbeat, onObserver, onReport, onHeartbeatDue, leaving, onMessage}
 use Rattle.text.specs.Number.{digit, decimal}
 use Rattle.text.specs.Hex.{hexByte, hexValue}
 use Rattle.text.specs.Field.{ends, onto, numberFieldAt, listFieldAt}
@@ -16,18 +16,18 @@ use Rattle.logline.specs.Line.{ranges, within as lineWithin, formOf as lineForm
 use Rattle.model.specs.Platform.{alive, survivors, crashedList, start, crashEntries, messageEntries, timerEntry, timerEntries, pending, earlier}
 use Rattle.model.specs.Platform.{first, upTo, nextEvent, delayIn, numbered, taken, without, received, apply, fits, tried, try, delayOf as messageDelay}
 use Rattle.model.specs.Lines.{otherOf, lastLine, linesFrom, log, moves, crashDeed, messageDeed, watchDeed, heartbeatDeed, deedOf, deedLines}
-use Rattle.edges.specs.Edges.{dead, targetsOf, searchFrom, five, reportTo5, bytes, judged, logText, written, logOf, workedLog, Edges}
+use Rattle.edges.specs.Edges.{dead, targetsOf, searchFrom, five, reportTo5, beatTo5, bytes, judged, logText, written, logOf, workedLog, Edges}
 
 pub edges : Edges
-unfolding among eachOnce listingAll numbersThen ringOf fresh ringLine withRing ringOrder orderOf every ringRange keep numbers listed listing passing
-    unlisted place round ahead firstUnlisted back next count powers jumps targets dead targetsOf searchFrom five reportTo5 reports nodeOpening
-    onHeartbeat onObserver onReport onHeartbeatDue leaving onMessage digit decimal hexByte numberFieldAt ends within startRanges longEnough crashRange
-    delayRange risingFrom rising later hits noneTwice crashOrder above delayOrder fewDelays onto lines startPlan fieldThen pairOf crashOf delayOf
-    startOf formOf rowOf orElse withCrash withDelay startLine early crashLine delayLine firstLine laterLine stepThen laterLines allLines fileOf
-    lineText alive survivors withCrashed crashedList start crashEntries messageEntries timerEntry timerEntries pending earlier first upTo nextEvent
-    delayIn messageDelay numbered taken without received apply fits tried try otherOf lastLine linesFrom log bytes judged logText written logOf
-    workedLog moves crashDeed messageDeed watchDeed heartbeatDeed deedOf deedLines ranges lineWithin lineForm lineTried readOf lineWritten listFieldAt
-    hexValue
+unfolding among eachOnce listingAll unlisting merging numbersThen ringOf fresh ringLine withRing ringOrder orderOf every ringRange keep numbers listed
+    listing passing unlisted place round ahead firstUnlisted back next count powers jumps targets dead targetsOf searchFrom five reportTo5 beatTo5
+    reports nodeOpening learnt onHeartbeat onObserver onReport onHeartbeatDue leaving onMessage digit decimal hexByte numberFieldAt ends within
+    startRanges longEnough crashRange delayRange risingFrom rising later hits noneTwice crashOrder above delayOrder fewDelays onto lines startPlan
+    fieldThen pairOf crashOf delayOf startOf formOf rowOf orElse withCrash withDelay startLine early crashLine delayLine firstLine laterLine stepThen
+    laterLines allLines fileOf lineText alive survivors withCrashed crashedList start crashEntries messageEntries timerEntry timerEntries pending
+    earlier first upTo nextEvent delayIn messageDelay numbered taken without received apply fits tried try otherOf lastLine linesFrom log bytes judged
+    logText written logOf workedLog moves crashDeed messageDeed watchDeed heartbeatDeed deedOf deedLines ranges lineWithin lineForm lineTried readOf
+    lineWritten listFieldAt hexValue
 edges = record {
   worked-log = refl;
   lone-log = refl;
@@ -55,7 +55,6 @@ edges = record {
   emitter-reported = refl;
   last-emitter-reported = refl;
   other-reported = refl;
-  listed-reported = refl;
   itself-reported = refl;
   passes-two = refl;
   passes-three = refl;
@@ -67,4 +66,9 @@ edges = record {
   six-columns-refused = refl;
   part-80-written = refl;
   part-79-refused = refl;
+  list-carried = refl;
+  list-added = refl;
+  no-emitter-heard = refl;
+  named-reported = refl;
+  marked-reported = refl;
 }

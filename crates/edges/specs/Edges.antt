@@ -1,5 +1,6 @@
 -- The table of document 01's starred edges, an entry each with 01's words above it: what a definition gives there; and those of document
--- 02's line Q, of its reported emitter and of its line K. To add one, write its line here and `refl` for it in proofs/Starred.antt. Assumes nothing.
+-- 02's line Q, of its reported emitter, of its line K and of its heartbeats with a list. To add one, write its line here and `refl` for it in
+-- proofs/Starred.antt. Assumes nothing.
 use mathlib.Core.Path.{_≡_}
 use mathlib.Core.List.{List, [], _∷_, _++_}
 use Prim.Native.Nat.{ℕ}
@@ -8,7 +9,7 @@ use Prim.Native.String.{String, [] as empty, _∷_ as before}
 use Rattle.ring.specs.declared.NodeBefore.{NodeBefore}
 use Rattle.ring.specs.Ring.{numbers, listing, nodeBefore, place, back, backFrom, powers, targets}
 use Rattle.node.specs.declared.Node.{Node}
-use Rattle.node.specs.Node.{Turn, turn, due, O, R, message, silent, sending, alone, onMessage}
+use Rattle.node.specs.Node.{Turn, turn, due, H, O, R, message, beat, silent, sending, alone, onMessage, onHeartbeatDue}
 use Rattle.runfile.specs.File.{FileAnswer, accepted, turnedDown, fileOf}
 use Rattle.plans.specs.Plan.{startPlan, withRing, withDelay}
 use Rattle.logline.specs.declared.Line.{Line}
@@ -29,13 +30,17 @@ targetsOf n d i = targets (numbers 0 n) d (place (numbers 0 n) i)
 unfoldable pub searchFrom : ℕ → ℕ → ℕ → NodeBefore
 searchFrom n d i = backFrom (numbers 0 n) d i
 
--- node 5 of eight with these nodes listed and 4 as emitter, watch and heartbeat due at ticks 24 and 21
-unfoldable pub five : List ℕ → Node
-five nodes = record { emitter = 4; observer = 6; watch = due 24; heartbeat = due 21; list = dead nodes }
+-- node 5 of eight with these nodes listed, these marked and 4 as emitter, watch and heartbeat due at ticks 24 and 21
+unfoldable pub five : List ℕ → List ℕ → Node
+five nodes marked = record { emitter = 4; observer = 6; watch = due 24; heartbeat = due 21; list = dead nodes; mark = dead marked }
 
 -- what it does at tick 20 with a report of a subject from node 7, W being 10
-unfoldable pub reportTo5 : ℕ → List ℕ → Turn
-reportTo5 subject nodes = onMessage (numbers 0 8) 10 20 5 R 7 subject (five nodes)
+unfoldable pub reportTo5 : ℕ → List ℕ → List ℕ → Turn
+reportTo5 subject nodes marked = onMessage (numbers 0 8) 10 20 5 R 7 subject 0 (five nodes marked)
+
+-- and with a heartbeat that carries the list of these nodes
+unfoldable pub beatTo5 : ℕ → List ℕ → List ℕ → List ℕ → Turn
+beatTo5 from carried nodes marked = onMessage (numbers 0 8) 10 20 5 H from 0 (dead carried) (five nodes marked)
 
 -- the bytes of a text
 unfoldable pub bytes : String → List ℕ
@@ -121,18 +126,19 @@ pub record Edges : Type 0 where
   pub ring-after-crash-refused : judged "P,3,2,3,1,2\nC,1,0\nQ,1,0,2\n" ≡ turnedDown 2 3
   -- the report of document 02, #102: node 5 of eight, whose emitter is 4
   -- "such a report makes the node move in the same event: list, new emitter, watch due tick + 2 × W, O to the new emitter, then the R messages"
-  pub emitter-reported : reportTo5 4 (3 ∷ [])
+  pub emitter-reported : reportTo5 4 (3 ∷ []) []
       ≡ record {
-        node = record { emitter = 2; observer = 6; watch = due 40; heartbeat = due 21; list = dead (3 ∷ 4 ∷ []) };
+        node = record { emitter = 2; observer = 6; watch = due 40; heartbeat = due 21; list = dead (3 ∷ 4 ∷ []); mark = dead (4 ∷ []) };
         sends = message O 2 0 ∷ message R 6 4 ∷ message R 7 4 ∷ message R 1 4 ∷ [];
         passed = 2;
       }
   -- "if it is alone, it stops as at an expiry"
-  pub last-emitter-reported : reportTo5 4 (0 ∷ 1 ∷ 2 ∷ 3 ∷ 6 ∷ 7 ∷ []) ≡ turn (alone 5 (dead (0 ∷ 1 ∷ 2 ∷ 3 ∷ 4 ∷ 6 ∷ 7 ∷ []))) [] 7
-  -- a report of any other node as before: listed and relayed, and nothing where it is listed already or the node itself
-  pub other-reported : reportTo5 3 (2 ∷ []) ≡ sending (five (2 ∷ 3 ∷ [])) (message R 6 3 ∷ message R 7 3 ∷ message R 1 3 ∷ [])
-  pub listed-reported : reportTo5 3 (3 ∷ []) ≡ silent (five (3 ∷ []))
-  pub itself-reported : reportTo5 5 (3 ∷ []) ≡ silent (five (3 ∷ []))
+  pub last-emitter-reported : reportTo5 4 (0 ∷ 1 ∷ 2 ∷ 3 ∷ 6 ∷ 7 ∷ []) (3 ∷ [])
+      ≡ turn (alone 5 (dead (0 ∷ 1 ∷ 2 ∷ 3 ∷ 4 ∷ 6 ∷ 7 ∷ [])) (dead (3 ∷ 4 ∷ []))) [] 7
+  -- a report of any other node as before: listed and relayed, and nothing where it is the node itself
+  pub other-reported : reportTo5 3 (2 ∷ []) (2 ∷ [])
+      ≡ sending (five (2 ∷ 3 ∷ []) (2 ∷ 3 ∷ [])) (message R 6 3 ∷ message R 7 3 ∷ message R 1 3 ∷ [])
+  pub itself-reported : reportTo5 5 (3 ∷ []) (3 ∷ []) ≡ silent (five (3 ∷ []) (3 ∷ []))
   -- the line K of document 02, #103
   -- "how many listed nodes it passed, the one just left included"
   pub passes-two : searchFrom 5 (dead (3 ∷ 4 ∷ [])) 4 ≡ nodeBefore 2 2
@@ -150,3 +156,14 @@ pub record Edges : Type 0 where
   -- "Number 9 now reads under 80 for every log part"
   pub part-80-written : lineWritten (line letterK 6 0 1 2) 80 ≡ Bytes 25
   pub part-79-refused : lineWritten (line letterK 6 0 1 2) 79 ≡ Unwritten 9
+  -- the heartbeats of document 02, #107: node 5 of eight, whose emitter is 4
+  -- "Each H message carries its sender's list"
+  pub list-carried : onHeartbeatDue 3 21 (five (3 ∷ []) [])
+      ≡ sending (record { emitter = 4; observer = 6; watch = due 24; heartbeat = due 24; list = dead (3 ∷ []); mark = 0 }) (beat 6 (dead (3 ∷ [])) ∷ [])
+  -- "A receiver whose emitter sent it adds those nodes, never itself or the sender"; "nodes learnt this way aren't relayed from there"
+  pub list-added : beatTo5 4 (1 ∷ 4 ∷ 5 ∷ 7 ∷ []) (3 ∷ []) (3 ∷ [])
+      ≡ silent (record { emitter = 4; observer = 6; watch = due 30; heartbeat = due 21; list = dead (1 ∷ 3 ∷ 7 ∷ []); mark = dead (3 ∷ []) })
+  pub no-emitter-heard : beatTo5 7 (1 ∷ []) (3 ∷ []) (3 ∷ []) ≡ silent (five (3 ∷ []) (3 ∷ []))
+  -- "a node relays the first R of each subject it gets, also where a heartbeat named it earlier", and no other
+  pub named-reported : reportTo5 3 (3 ∷ []) [] ≡ sending (five (3 ∷ []) (3 ∷ [])) (message R 6 3 ∷ message R 7 3 ∷ message R 1 3 ∷ [])
+  pub marked-reported : reportTo5 3 (3 ∷ []) (3 ∷ []) ≡ silent (five (3 ∷ []) (3 ∷ []))

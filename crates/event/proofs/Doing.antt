@@ -6,12 +6,12 @@ use mathlib.Core.Logic.{_≢_}
 use mathlib.Core.Bool.{Bool, true, false, cond, not}
 use mathlib.Core.List.{List, [], _∷_, _++_, List·Memᴰ, List·Memᴰ·not-nil, List·Memᴰ·head, List·Memᴰ·tail}
 use mathlib.Core.Option.{Option, none, some}
-use native.Mathlib.Nat.{pow-le-pow-right}
 use native.Mathlib.Omega.{arith}
 use borrow.Author.Tests.{eq-eqb, ne-eqb}
-use lib.Dec.{eqb, lit<}
+use lib.Dec.{eqb}
 use lib.ListN.{length, getD, length-append, length-replicate}
 use Rattle.ring.specs.Ring.{listed}
+use Rattle.ring.proofs.Lists.{part-le}
 use Rattle.node.specs.declared.Node.{Node}
 use Rattle.node.specs.declared.Message.{Message}
 use Rattle.node.specs.declared.Turned.{Turned}
@@ -36,6 +36,7 @@ use Rattle.store.specs.declared.Flight.{Flight}
 use Rattle.store.specs.Store.{encode, planIn, stateIn}
 use Rattle.store.specs.Inside.{SmallNode, Fits, Held, flying, withTick, crashed, withoutMessage, messageOf}
 use Rattle.store.proofs.Store.{plan-encode, state-encode, held-encode}
+use Rattle.store.proofs.Fitting.{list-fits}
 use Rattle.store.proofs.States.{take-fits}
 use Rattle.event.specs.declared.Happened.{Happened}
 use Rattle.event.specs.declared.Happened.the-variants.{Did, Ended, Refused}
@@ -57,7 +58,8 @@ small-node p good t tick a r =
       observer = omega (arith, r .observer, l .n-high);
       watch = omega (arith, r .watch, l .w-high);
       heartbeat = omega (arith, r .heartbeat, l .h-high);
-      list = omega (arith, r .list, pow-le-pow-right {n = 2} (lit< tt) (l .n-high));
+      list = list-fits p good (r .list);
+      mark = omega (arith, list-fits p good (r .list), part-le (a .mark) (a .list) (r .mark));
     }
 
 getD-in : (ms ys : List Message) (z : Message) (j : ℕ) → j < length ms → List·Memᴰ (getD (ms ++ ys) j z) ms
@@ -128,7 +130,12 @@ module _ (b : List ℕ) (r : Ready b) (t : ℕ) (ev : Event) (next : NextIs b t 
   took-message : (x : ℕ) (v : Turn) → Takes x v → (m : Message) → List·Memᴰ m (v .sends) → SmallMessage m
   took-message x v k m h =
       let q : Sendable (planIn b .n) x m = k .sends m h in
-      record { kind = kind-fits (m .kind) (q .kind); to = omega (arith, q .to, pl .n≤); subject = omega (arith, q .subject, pl .n≤) }
+      record {
+        kind = kind-fits (m .kind) (q .kind);
+        to = omega (arith, q .to, pl .n≤);
+        subject = omega (arith, q .subject, pl .n≤);
+        list = list-fits (planIn b) (r .plan) (q .list .below);
+      }
 
 -- ---- a timer that is due, of a watch or of heartbeats
 
@@ -253,6 +260,9 @@ module _ (b : List ℕ) (r : Ready b) (t i : ℕ) (next : NextIs b t (message i)
     pub message-place : f .to < planIn b .n
     message-place = rw same-to (flight-range .to)
 
+    pub message-sender : f .from < mostNodes
+    message-sender = omega (arith, ap (λ (g : Flight). g .from) fe, flight-range .from, ready-accepted b r .plain .n≤)
+
     pub message-subject : f .subject < mostNodes
     message-subject = omega (arith, ap (λ (g : Flight). g .subject) fe, flight-range .subject, ready-accepted b r .plain .n≤)
 
@@ -278,17 +288,18 @@ module _ (b : List ℕ) (r : Ready b) (t i : ℕ) (next : NextIs b t (message i)
         q : Plain (planIn b)
         q = ready-accepted b r .plain
 
+        turn : Bool → Turn
+        turn c =
+            cond c (onMessage (orderOf (planIn b)) (planIn b .w) t (M .to) (M .kind) (M .from) (M .subject) (M .list) (nodeOf (stateIn b) (M .to)))
+            (silent (nodeOf (stateIn b) (M .to)))
+
         go : (c : Bool) → alive (planIn b) (stateIn b .done) (M .to) ≡ c
-            → SmallNode ((cond c (onMessage (orderOf (planIn b)) (planIn b .w) t (M .to) (M .kind) (M .from) (M .subject) (nodeOf (stateIn b) (M .to)))
-            (silent (nodeOf (stateIn b) (M .to)))) .node)
-            × ((m : Message) → List·Memᴰ m
-            ((cond c (onMessage (orderOf (planIn b)) (planIn b .w) t (M .to) (M .kind) (M .from) (M .subject) (nodeOf (stateIn b) (M .to)))
-            (silent (nodeOf (stateIn b) (M .to)))) .sends) → SmallMessage m)
+            → SmallNode (turn c .node) × ((m : Message) → List·Memᴰ m (turn c .sends) → SmallMessage m)
         go true e =
             let f = flight-range in
             let k =
             received-took (planIn b) q (stateIn b) (ready-sound b r) t (not-past b r t (message i) next) (at-end b r t (message i) next) (M .to) (f .to) e
-            (M .kind) (M .from) (M .subject) (f .kind) (f .from) (f .apart) (f .subject) in
+            (M .kind) (M .from) (M .subject) (M .list) (f .kind) (f .from) (f .apart) (f .subject) (f .list .below) in
             (took-node b r t (message i) next (M .to) _ k, took-message b r t (message i) next (M .to) _ k)
         go false e = (
           small-node (planIn b) (r .plan) (stateIn b .last) (omega (arith, not-past b r t (message i) next, event-tick b r t (message i) next))

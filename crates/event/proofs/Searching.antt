@@ -249,12 +249,12 @@ timer-least t (suc v) e = refl
 module _ (p : Plan) (ac : Accepted p) (d : ℕ) (ns : List Node) (x l : ℕ) where
   node-next : (live : Bool) → alive p d x ≡ live → x < length ns
       → leastTick l (timerEntries p d x (drop x ns)) ≡ leastTick (leastTick l
-      (cond live (timerEntry ((getD ns x (alone x 0)) .watch) (watch x) ++ timerEntry ((getD ns x (alone x 0)) .heartbeat) (heartbeat x)) []))
+      (cond live (timerEntry ((getD ns x (alone x 0 0)) .watch) (watch x) ++ timerEntry ((getD ns x (alone x 0 0)) .heartbeat) (heartbeat x)) []))
       (timerEntries p d (x + 1) (drop (x + 1) ns))
   unfolding timerEntries
-  node-next live e h = rw (add-one x, drop-cons ns x (alone x 0) h, e) (least-append l _ _)
+  node-next live e h = rw (add-one x, drop-cons ns x (alone x 0 0) h, e) (least-append l _ _)
 
-  pub live-next : (a : Node) → x < length ns → a ≡ getD ns x (alone x 0) → listed (crashedList p d) x ≡ false
+  pub live-next : (a : Node) → x < length ns → a ≡ getD ns x (alone x 0 0) → listed (crashedList p d) x ≡ false
       → leastTick l (timerEntries p d x (drop x ns)) ≡ leastTick (timerTick (timerTick l (a .watch)) (a .heartbeat))
       (timerEntries p d (x + 1) (drop (x + 1) ns))
   live-next a h e un =
@@ -317,7 +317,7 @@ module _ (t : ℕ) (rest : List Entry) where
   timer-skip zero e h = refl
   timer-skip (suc u) e h = rw (ne-eqb u t (λ q. h (omega arith)))
 
-module _ (p : Plan) (ac : Accepted p) (d : ℕ) (ns : List Node) (t x : ℕ) (a : Node) (h : x < length ns) (is : a ≡ getD ns x (alone x 0)) where
+module _ (p : Plan) (ac : Accepted p) (d : ℕ) (ns : List Node) (t x : ℕ) (a : Node) (h : x < length ns) (is : a ≡ getD ns x (alone x 0 0)) where
   abbrev Others : List Entry
   Others = timerEntries p d (x + 1) (drop (x + 1) ns)
 
@@ -325,8 +325,8 @@ module _ (p : Plan) (ac : Accepted p) (d : ℕ) (ns : List Node) (t x : ℕ) (a 
       (timerEntry (a .heartbeat) (heartbeat x) ++ Others)
   unfolding timerEntries
   mine un =
-      rw (add-one x, drop-cons ns x (alone x 0) h, live-of p ac d x un, is)
-      (append-assoc (timerEntry ((getD ns x (alone x 0)) .watch) (watch x)) (timerEntry ((getD ns x (alone x 0)) .heartbeat) (heartbeat x)) _)
+      rw (add-one x, drop-cons ns x (alone x 0 0) h, live-of p ac d x un, is)
+      (append-assoc (timerEntry ((getD ns x (alone x 0 0)) .watch) (watch x)) (timerEntry ((getD ns x (alone x 0 0)) .heartbeat) (heartbeat x)) _)
 
   pub watch-hit : listed (crashedList p d) x ≡ false → a .watch ≡ t + 1 → firstAt t (timerEntries p d x (drop x ns)) ≡ some (entry t (watch x))
   watch-hit un e = ap (firstAt t) (mine un) ∙ timer-hit t _ (a .watch) (watch x) e
@@ -343,7 +343,7 @@ module _ (p : Plan) (ac : Accepted p) (d : ℕ) (ns : List Node) (t x : ℕ) whe
   pub dead-skip : x < length ns → listed (crashedList p d) x ≡ true → firstAt t (timerEntries p d x (drop x ns)) ≡ firstAt t
       (timerEntries p d (x + 1) (drop (x + 1) ns))
   unfolding timerEntries
-  dead-skip h un = rw (add-one x, drop-cons ns x (alone x 0) h, dead-of p ac d x un)
+  dead-skip h un = rw (add-one x, drop-cons ns x (alone x 0 0) h, dead-of p ac d x un)
 
   pub nodes-end : length ns ≤ x → firstAt t (timerEntries p d x (drop x ns)) ≡ none
   unfolding timerEntries firstAt

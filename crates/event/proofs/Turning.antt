@@ -129,8 +129,8 @@ pub received-few : (p : Plan) → length (orderOf p) ≤ mostNodes → (s : Stat
     → length ((received p s t m) .sends) ≤ mostSent
 unfolding received
 received-few p few s t m =
-    go (alive p (s .done) (m .to)) (onMessage (orderOf p) (p .w) t (m .to) (m .kind) (m .from) (m .subject) (nodeOf s (m .to)))
-    (message-few (orderOf p) few (p .w) t (m .to) (m .kind) (m .from) (m .subject) (nodeOf s (m .to)))
+    go (alive p (s .done) (m .to)) (onMessage (orderOf p) (p .w) t (m .to) (m .kind) (m .from) (m .subject) (m .list) (nodeOf s (m .to)))
+    (message-few (orderOf p) few (p .w) t (m .to) (m .kind) (m .from) (m .subject) (m .list) (nodeOf s (m .to)))
   where
     go : (c : Bool) (u : Turn) → length (u .sends) ≤ mostSent → length ((cond c u (silent (nodeOf s (m .to)))) .sends) ≤ mostSent
     go true u h = h
@@ -142,7 +142,8 @@ joined-fit : (p : Plan) (s : State) → Fits p s → (t x : ℕ) (m : Message) �
     → SmallMessage m → t + delayOf p (s .next) < 256 ^ 4 → Fits p (joined p s t x m)
 unfolding joined stamped numberTaken
 joined-fit p s f t x m room next place small late =
-    message-fits p (numberTaken s) (number-fits p s f next) (stamped p (s .next) t x m) room (omega arith) (small .kind) place (small .to) (small .subject) late
+    message-fits p (numberTaken s) (number-fits p s f next) (stamped p (s .next) t x m) room (omega arith) (small .kind) place (small .to)
+    (small .subject) late (small .list)
 
 -- ---- sending, step by step
 

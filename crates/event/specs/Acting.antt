@@ -20,7 +20,7 @@ pub record Acting (b : List ℕ) : Type 0 where
 
 -- a message that node x sends at tick t with number k
 unfoldable pub stamped : Plan → (k t x : ℕ) → Message → InFlight
-stamped p k t x m = record { number = k; kind = m .kind; from = x; to = m .to; subject = m .subject; due = t + delayOf p k }
+stamped p k t x m = record { number = k; kind = m .kind; from = x; to = m .to; subject = m .subject; due = t + delayOf p k; list = m .list }
 
 -- it joins those in flight, with the next number
 unfoldable pub joined : Plan → State → (t x : ℕ) → Message → State

@@ -77,6 +77,7 @@ pub record SmallMessage (m : Message) : Type 0 where
   pub kind : m .kind < 256
   pub to : m .to < 256
   pub subject : m .subject < 256
+  pub list : m .list < 256 ^ 8
 
 -- the store after node x has sent the messages of its turn u at tick t, and after the whole turn
 abbrev pub sendsLeft : List ℕ → ℕ → ℕ → Turned → List ℕ

@@ -11,7 +11,7 @@ use Rattle.fields.proofs.Fields.{put-then, sets-append}
 use Rattle.node.specs.declared.Node.{Node}
 use Rattle.host.specs.declared.Record.{Record}
 use Rattle.limits.specs.Limits.{recordSize}
-use Rattle.host.specs.Record.{spareFrom, numbersBytes, neighboursBytes, ticksBytes, encode}
+use Rattle.host.specs.Record.{spareFrom, numbersBytes, neighboursBytes, ticksBytes, markBytes, encode}
 
 -- ---- lengths
 
@@ -27,10 +27,14 @@ pub length-ticks : (last : ℕ) (n : Node) → length (ticksBytes last n) ≡ 12
 unfolding ticksBytes
 length-ticks last n = simp (length-append, length-bytes)
 
+pub length-mark : (n : Node) → length (markBytes n) ≡ 12
+unfolding markBytes
+length-mark n = simp (length-append, length-bytes)
+
 pub length-encode : (r : Record) → length (encode r) ≡ recordSize
 unfolding encode
 length-encode r =
-    simp (length-append, length-numbers r, length-neighbours (r .node), length-ticks (r .last) (r .node), length-replicate)
+    simp (length-append, length-numbers r, length-neighbours (r .node), length-ticks (r .last) (r .node), length-mark (r .node), length-replicate)
 
 -- ---- writing
 
@@ -49,18 +53,26 @@ pub put-ticks : (s : List ℕ) (last : ℕ) (n : Node)
 unfolding ticksBytes putAt
 put-ticks s last n = put-then s 16 4 last 20 _ refl ∙ put-then _ 20 4 (n .watch) 24 _ refl
 
+pub put-mark : (s : List ℕ) (n : Node) → sets s 28 (markBytes n) ≡ putAt (putAt s 28 4 0) 32 8 (n .mark)
+unfolding markBytes putAt
+put-mark s n = put-then s 28 4 0 32 _ refl
+
 -- the parts put one after another, and zeros in the rest
 pub put-record : (s : List ℕ) (r : Record) → length s ≡ recordSize
-    → cleared (sets (sets (sets s 0 (numbersBytes r)) 6 (neighboursBytes (r .node))) 16 (ticksBytes (r .last) (r .node))) spareFrom recordSize ≡ encode r
+    → cleared (sets (sets (sets (sets s 0 (numbersBytes r)) 6 (neighboursBytes (r .node))) 16 (ticksBytes (r .last) (r .node))) 28
+    (markBytes (r .node))) spareFrom recordSize ≡ encode r
 unfolding cleared encode
 put-record s r l =
     let a : List ℕ = numbersBytes r in
     let b : List ℕ = neighboursBytes (r .node) in
     let c : List ℕ = ticksBytes (r .last) (r .node) in
-    let all : List ℕ = a ++ (b ++ c) in
-    let size : length all ≡ spareFrom = simp (length-append, length-numbers r, length-neighbours (r .node), length-ticks (r .last) (r .node)) in
-    let e : sets (sets (sets s 0 a) 6 b) 16 c ≡ sets s 0 all =
-    sym (sets-append a (b ++ c) s 0 ∙ rw (length-numbers r) (sets-append b c (sets s 0 a) 6 ∙ rw (length-neighbours (r .node)))) in
+    let d : List ℕ = markBytes (r .node) in
+    let all : List ℕ = a ++ (b ++ (c ++ d)) in
+    let size : length all ≡ spareFrom =
+    simp (length-append, length-numbers r, length-neighbours (r .node), length-ticks (r .last) (r .node), length-mark (r .node)) in
+    let e : sets (sets (sets (sets s 0 a) 6 b) 16 c) 28 d ≡ sets s 0 all =
+    sym (sets-append a (b ++ (c ++ d)) s 0 ∙ rw (length-numbers r) (sets-append b (c ++ d) (sets s 0 a) 6
+    ∙ rw (length-neighbours (r .node)) (sets-append c d (sets (sets s 0 a) 6 b) 16 ∙ rw (length-ticks (r .last) (r .node))))) in
     let f : sets s 0 all ≡ all ++ drop spareFrom s = sets-eq all s 0 (omega arith) ∙ rw size in
-    let d : drop recordSize (sets s 0 all) ≡ [] = drop-of-length-le (sets s 0 all) {i = recordSize} (rw (length-sets s 0 all) (omega arith)) in
-    rw (e, d, append-nil, f, take-at all (drop spareFrom s) spareFrom size) (simp append-assoc)
+    let z : drop recordSize (sets s 0 all) ≡ [] = drop-of-length-le (sets s 0 all) {i = recordSize} (rw (length-sets s 0 all) (omega arith)) in
+    rw (e, z, append-nil, f, take-at all (drop spareFrom s) spareFrom size) (simp append-assoc)

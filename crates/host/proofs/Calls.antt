@@ -87,47 +87,47 @@ module _ (s : List ℕ) (number nodes h w : ℕ) where
 
 -- ---- delivery
 
-module _ (s : List ℕ) (tick kind sender subject : ℕ) (part : List ℕ) (r : Record) (rq : r ≡ decode s) where
+module _ (s : List ℕ) (tick kind sender subject list : ℕ) (part : List ℕ) (r : Record) (rq : r ≡ decode s) where
   abbrev pub Delivered : ℕ → List ℕ → List ℕ → Type 0
   Delivered a s′ part′ =
-      (a ≡ deliverAnswer s tick kind sender subject part) × (s′ ≡ deliverLeaves s tick kind sender subject part)
-      × (part′ ≡ deliverSends s tick kind sender subject part)
+      (a ≡ deliverAnswer s tick kind sender subject list part) × (s′ ≡ deliverLeaves s tick kind sender subject list part)
+      × (part′ ≡ deliverSends s tick kind sender subject list part)
 
   d-tick : (v : Bool) → tickTaken r tick ≡ v → tickTaken (decode s) tick ≡ v
   d-tick v e = rw (← rq) e
 
-  d-message : (v : Bool) → messageTaken r kind sender subject ≡ v → messageTaken (decode s) kind sender subject ≡ v
+  d-message : (v : Bool) → messageTaken r kind sender subject list ≡ v → messageTaken (decode s) kind sender subject list ≡ v
   d-message v e = rw (← rq) e
 
   pub deliver-tick : sound s ≡ true → tickTaken r tick ≡ false → Delivered badTick s part
   unfolding deliverLeaves deliverSends deliverAnswer
   deliver-tick e f = refused _ s part tick _ badTick (answer-tick _ _ _ _ e (d-tick false f)) refl
 
-  pub deliver-message : sound s ≡ true → tickTaken r tick ≡ true → messageTaken r kind sender subject ≡ false → Delivered badMessage s part
+  pub deliver-message : sound s ≡ true → tickTaken r tick ≡ true → messageTaken r kind sender subject list ≡ false → Delivered badMessage s part
   unfolding deliverLeaves deliverSends deliverAnswer
   deliver-message e f g = refused _ s part tick _ badMessage (answer-message _ _ _ _ e (d-tick true f) (d-message false g)) refl
 
-  pub deliver-part : sound s ≡ true → tickTaken r tick ≡ true → messageTaken r kind sender subject ≡ true → length part < partSize
+  pub deliver-part : sound s ≡ true → tickTaken r tick ≡ true → messageTaken r kind sender subject list ≡ true → length part < partSize
       → Delivered shortPart s part
   unfolding deliverLeaves deliverSends deliverAnswer
   deliver-part e f g h =
       refused _ s part tick _ shortPart (answer-part _ _ _ _ e (d-tick true f) (d-message true g) (lt-leb partSize (length part) h)) refl
 
   pub deliver-taken : (about : ℕ) (t : Turned) (s′ part′ : List ℕ) → sound s ≡ true → tickTaken r tick ≡ true
-      → messageTaken r kind sender subject ≡ true
-      → partSize ≤ length part → Known kind → about ≡ cond (eqb kind R) subject 0 → t ≡ turned (delivered r tick kind sender about)
+      → messageTaken r kind sender subject list ≡ true
+      → partSize ≤ length part → Known kind → about ≡ cond (eqb kind R) subject 0 → t ≡ turned (delivered r tick kind sender about list)
       → s′ ≡ encode (withTurn r tick (t .node)) → part′ ≡ putMessages part (r .number) (take (t .count) (t .sent))
       → Delivered accepted s′ part′
   unfolding deliverLeaves deliverSends deliverAnswer
   deliver-taken about t s′ part′ e f g h k aq tq sq pq =
       taken _ s part tick _ t r s′ part′ (answer-accepted _ _ _ _ e (d-tick true f) (d-message true g) (le-leb partSize (length part) h)) rq
-      (tq ∙ ap turned (ap (delivered r tick kind sender) aq ∙ delivered-subject r tick kind sender subject k ∙ rw rq)) sq pq
+      (tq ∙ ap turned (ap (λ (x : ℕ). delivered r tick kind sender x list) aq ∙ delivered-subject r tick kind sender subject list k ∙ rw rq)) sq pq
 
-pub deliver-record : (s : List ℕ) (tick kind sender subject : ℕ) (part : List ℕ) → sound s ≡ false
-    → (badRecord ≡ deliverAnswer s tick kind sender subject part) × (s ≡ deliverLeaves s tick kind sender subject part)
-    × (part ≡ deliverSends s tick kind sender subject part)
+pub deliver-record : (s : List ℕ) (tick kind sender subject list : ℕ) (part : List ℕ) → sound s ≡ false
+    → (badRecord ≡ deliverAnswer s tick kind sender subject list part) × (s ≡ deliverLeaves s tick kind sender subject list part)
+    × (part ≡ deliverSends s tick kind sender subject list part)
 unfolding deliverLeaves deliverSends deliverAnswer
-deliver-record s tick kind sender subject part e = refused _ s part tick _ badRecord (answer-record _ _ _ _ e) refl
+deliver-record s tick kind sender subject list part e = refused _ s part tick _ badRecord (answer-record _ _ _ _ e) refl
 
 -- ---- timers
 
@@ -161,8 +161,8 @@ timers-record s tick part e = refused _ s part tick _ badRecord (answer-record _
 
 -- ---- what the calls below a record that is taken ask for
 
-pub kind-taken : (r : Record) (kind sender subject : ℕ) → messageTaken r kind sender subject ≡ true → Known kind
-kind-taken r kind sender subject g = message-facts r kind sender subject g .known
+pub kind-taken : (r : Record) (kind sender subject list : ℕ) → messageTaken r kind sender subject list ≡ true → Known kind
+kind-taken r kind sender subject list g = message-facts r kind sender subject list g .known
 
 pub sound-size : (s : List ℕ) → sound s ≡ true → length s ≡ recordSize
 sound-size s e = sound-facts s e .size
@@ -178,6 +178,10 @@ module _ (s : List ℕ) (r : Record) (tick : ℕ) (e : sound s ≡ true) (rq : r
   few : (t : Turned) (u : Turn) → t ≡ turned u → length (u .sends) ≤ mostSent → t .count ≤ mostSent
   few t u q h = rw (turned-count t u q) h
 
+  -- what the test of a message asks for
+  pub ring-fits : (1 ≤ r .nodes) × (r .nodes ≤ mostNodes)
+  ring-fits = (range .openable .some, range .openable .most)
+
   pub timer-asks : (1 ≤ r .nodes) × (r .nodes ≤ mostNodes) × (r .h ≤ mostH) × (r .w ≤ mostW) × (tick ≤ mostTick) × (r .node .emitter < mostNodes)
   timer-asks =
       let o = range .openable in
@@ -186,12 +190,15 @@ module _ (s : List ℕ) (r : Record) (tick : ℕ) (e : sound s ≡ true) (rq : r
   pub timer-few : (t : Turned) → t ≡ turned (fired r tick) → t .count ≤ mostSent
   timer-few t q = few t (fired r tick) q (fired-takes r range tick .few)
 
-  module _ (kind sender subject : ℕ) (g : messageTaken r kind sender subject ≡ true) where
-    facts : MessageTaken r kind sender subject
-    facts = message-facts r kind sender subject g
+  module _ (kind sender subject list : ℕ) (g : messageTaken r kind sender subject list ≡ true) where
+    facts : MessageTaken r kind sender subject list
+    facts = message-facts r kind sender subject list g
+
+    sender-below : sender < mostNodes
+    sender-below = omega (arith, range .openable .most, facts .from .0)
 
     pub sender-fits : sender < 256
-    sender-fits = omega (arith, range .openable .most, facts .from .0)
+    sender-fits = omega (arith, sender-below)
 
     pub about-fits : kind ≡ R → subject < mostNodes
     about-fits q = omega (arith, range .openable .most, facts .about q .0)
@@ -205,11 +212,12 @@ module _ (s : List ℕ) (r : Record) (tick : ℕ) (e : sound s ≡ true) (rq : r
           go true q = about-fits (eqb-true kind R q)
           go false q = omega arith
 
-      pub message-asks : (1 ≤ r .nodes) × (r .nodes ≤ mostNodes) × (r .w ≤ mostW) × (tick ≤ mostTick) × (about < mostNodes)
-      message-asks = let o = range .openable in (o .some, o .most, o .w-most, tick-fits, about-below)
+      pub message-asks : (1 ≤ r .nodes) × (r .nodes ≤ mostNodes) × (r .number < r .nodes) × (r .w ≤ mostW) × (tick ≤ mostTick)
+          × (sender < mostNodes) × (about < mostNodes)
+      message-asks = let o = range .openable in (o .some, o .most, o .below, o .w-most, tick-fits, sender-below, about-below)
 
-      pub message-few : (t : Turned) → t ≡ turned (delivered r tick kind sender about) → t .count ≤ mostSent
+      pub message-few : (t : Turned) → t ≡ turned (delivered r tick kind sender about list) → t .count ≤ mostSent
       message-few t q =
-          let same : delivered r tick kind sender about ≡ delivered r tick kind sender subject =
-          rw aq (delivered-subject r tick kind sender subject (facts .known)) in
-          few t (delivered r tick kind sender subject) (q ∙ ap turned same) (delivered-takes r range tick kind sender subject facts .few)
+          let same : delivered r tick kind sender about list ≡ delivered r tick kind sender subject list =
+          rw aq (delivered-subject r tick kind sender subject list (facts .known)) in
+          few t (delivered r tick kind sender subject list) (q ∙ ap turned same) (delivered-takes r range tick kind sender subject list facts .few)

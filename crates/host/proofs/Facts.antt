@@ -2,7 +2,7 @@
 use mathlib.Core.Path.{_≡_, refl, sym, ap, _∙_}
 use mathlib.Core.Bool.{Bool, true, false, true≢false, not, _&&_, _||_, and-eq-true-iff}
 use mathlib.Core.List.{List}
-use Prim.Native.Nat.{ℕ, _≤_, _<_}
+use Prim.Native.Nat.{ℕ, _^_, _≤_, _<_}
 use native.Mathlib.Omega.{arith}
 use native.Mathlib.Decide.{ℕ-discrete}
 use borrow.Author.Tests.{ltb-true, leb-true, eqb-true, eqb-false, lt-ltb, le-leb, eq-eqb, ne-eqb, not-true}
@@ -15,7 +15,7 @@ use Rattle.node.specs.Node.{R}
 use Rattle.node.specs.Range.{NodeRange, LiveRange, Known, nodeTest, kindTest}
 use Rattle.node.proofs.Tests.{node-facts, facts-node, live-facts, facts-live, kind-facts, facts-kind}
 use Rattle.host.specs.declared.Record.{Record}
-use Rattle.host.specs.Record.{spareFrom, decode, openable, inRange, sound}
+use Rattle.host.specs.Record.{gapFrom, markAt, spareFrom, decode, openable, inRange, sound}
 use Rattle.host.specs.Call.{tickTaken, otherNode, messageTaken, answer}
 use Rattle.limits.specs.Refusals.{accepted}
 
@@ -96,6 +96,7 @@ module _ (r : Record) where
 
 pub record Sound (s : List ℕ) : Type 0 where
   pub size : length s ≡ recordSize
+  pub gap : zeros (slice gapFrom markAt s) ≡ true
   pub spare : zeros (slice spareFrom recordSize s) ≡ true
   pub fields : InRange (decode s)
 
@@ -103,8 +104,9 @@ pub sound-facts : (s : List ℕ) → sound s ≡ true → Sound s
 unfolding sound
 sound-facts s e =
     let a = and-eq-true-iff (eqb (length s) recordSize) _ .0 e in
-    let b = and-eq-true-iff (zeros (slice spareFrom recordSize s)) _ .0 (a .1) in
-    record { size = eqb-true (length s) recordSize (a .0); spare = b .0; fields = in-range-facts (decode s) (b .1) }
+    let b = and-eq-true-iff (zeros (slice gapFrom markAt s)) _ .0 (a .1) in
+    let c = and-eq-true-iff (zeros (slice spareFrom recordSize s)) _ .0 (b .1) in
+    record { size = eqb-true (length s) recordSize (a .0); gap = b .0; spare = c .0; fields = in-range-facts (decode s) (c .1) }
 
 -- ---- a tick and a message that are taken
 
@@ -124,26 +126,29 @@ pub facts-other : (r : Record) (i : ℕ) → (i < r .nodes) × (i ≡ r .number 
 unfolding otherNode
 facts-other r i f = rw (lt-ltb i (r .nodes) (f .0), ne-eqb i (r .number) (f .1))
 
-pub record MessageTaken (r : Record) (kind sender subject : ℕ) : Type 0 where
+pub record MessageTaken (r : Record) (kind sender subject list : ℕ) : Type 0 where
   pub known : Known kind
   pub from : (sender < r .nodes) × (sender ≡ r .number → ⊥)
   pub about : kind ≡ R → (subject < r .nodes) × (subject ≡ r .number → ⊥)
+  pub within : list < 2 ^ (r .nodes)
 
-module _ (r : Record) (kind sender subject : ℕ) where
-  pub message-facts : messageTaken r kind sender subject ≡ true → MessageTaken r kind sender subject
+module _ (r : Record) (kind sender subject list : ℕ) where
+  pub message-facts : messageTaken r kind sender subject list ≡ true → MessageTaken r kind sender subject list
   unfolding messageTaken
   message-facts e =
       let a = and-eq-true-iff (kindTest kind) _ .0 e in
       let b = and-eq-true-iff (otherNode r sender) _ .0 (a .1) in
+      let c = and-eq-true-iff (not (eqb kind R) || otherNode r subject) _ .0 (b .1) in
       record {
         known = kind-facts kind (a .0);
         from = other-facts r sender (b .0);
-        about = λ q. other-facts r subject (ap (λ (k : ℕ). not (eqb k R) || otherNode r subject) (sym q) ∙ b .1);
+        about = λ q. other-facts r subject (ap (λ (k : ℕ). not (eqb k R) || otherNode r subject) (sym q) ∙ c .0);
+        within = ltb-true list (2 ^ (r .nodes)) (c .1);
       }
 
-  pub facts-message : MessageTaken r kind sender subject → messageTaken r kind sender subject ≡ true
+  pub facts-message : MessageTaken r kind sender subject list → messageTaken r kind sender subject list ≡ true
   unfolding messageTaken
-  facts-message m = rw (facts-kind kind (m .known), facts-other r sender (m .from)) (go (ℕ-discrete kind R))
+  facts-message m = rw (facts-kind kind (m .known), facts-other r sender (m .from), go (ℕ-discrete kind R), lt-ltb list (2 ^ (r .nodes)) (m .within))
     where
       go : Dec (kind ≡ R) → (not (eqb kind R) || otherNode r subject) ≡ true
       go (yes q) = rw (eq-eqb kind R q) (facts-other r subject (m .about q))

@@ -26,11 +26,13 @@ length-sent sender (m ∷ ms) =
 
 pub put-message : (part : List ℕ) (at sender : ℕ) (m : Message)
     → sets part at (messageBytes sender m)
-    ≡ putAt (putAt (putAt (putAt (putAt part at 1 (m .kind)) (at + 1) 1 (m .to)) (at + 2) 1 sender) (at + 3) 1 (m .subject)) (at + 4) 4 0
+    ≡ putAt (putAt (putAt (putAt (putAt (putAt part at 1 (m .kind)) (at + 1) 1 (m .to)) (at + 2) 1 sender) (at + 3) 1 (m .subject)) (at + 4) 4 0)
+    (at + 8) 8 (m .list)
 unfolding messageBytes putAt
 put-message part at sender m =
     put-then part at 1 (m .kind) (at + 1) _ refl ∙ put-then _ (at + 1) 1 (m .to) (at + 2) _ (omega arith)
     ∙ put-then _ (at + 2) 1 sender (at + 3) _ (omega arith) ∙ put-then _ (at + 3) 1 (m .subject) (at + 4) _ (omega arith)
+    ∙ put-then _ (at + 4) 4 0 (at + 8) _ (omega arith)
 
 -- ---- the loop that puts them
 

@@ -13,19 +13,20 @@ use Rattle.host.proofs.Turns.{delivered-takes, fired-takes}
 
 -- what a turn sends is sendable, as node number of nodes
 module _ (r : Record) (f : InRange r) (tick : ℕ) where
-  pub delivered-sends : (kind sender subject : ℕ) → MessageTaken r kind sender subject
-      → (m : Message) → List·Memᴰ m (delivered r tick kind sender subject .sends) → Sendable (r .nodes) (r .number) m
-  delivered-sends kind sender subject t = (delivered-takes r f tick kind sender subject t) .sends
+  pub delivered-sends : (kind sender subject list : ℕ) → MessageTaken r kind sender subject list
+      → (m : Message) → List·Memᴰ m (delivered r tick kind sender subject list .sends) → Sendable (r .nodes) (r .number) m
+  delivered-sends kind sender subject list t = (delivered-takes r f tick kind sender subject list t) .sends
 
   pub fired-sends : (m : Message) → List·Memᴰ m (fired r tick .sends) → Sendable (r .nodes) (r .number) m
   fired-sends = (fired-takes r f tick) .sends
 
 -- a message that node `me` may send is taken by the record of its receiver in the same ring
 pub sent-is-taken : (me : ℕ) (m : Message) (to : Record) → me < to .nodes → Sendable (to .nodes) me m → m .to ≡ to .number
-    → messageTaken to (m .kind) me (m .subject) ≡ true
+    → messageTaken to (m .kind) me (m .subject) (m .list) ≡ true
 sent-is-taken me m to l s e =
-    facts-message to (m .kind) me (m .subject) (record {
+    facts-message to (m .kind) me (m .subject) (m .list) (record {
       known = s .kind;
       from = (l, λ q. s .apart (e ∙ sym q));
       about = λ q. (s .subject, λ z. s .about q (z ∙ sym e));
+      within = s .list .below;
     })

@@ -1,13 +1,14 @@
 -- What the code's tests answer is what the definitions say. Assumes nothing.
 use mathlib.Core.Path.{_≡_, refl, sym, ap, _∙_}
-use mathlib.Core.Bool.{Bool, true, false, cond, _&&_}
+use mathlib.Core.Bool.{Bool, true, false, cond, not, _&&_, _||_}
 use mathlib.Core.List.{List}
-use Prim.Native.Nat.{ℕ, _+_, _≤_, _<_}
+use Prim.Native.Nat.{ℕ, _+_, _-_, _^_, _≤_, _<_}
 use native.Mathlib.Numerals.{add-one}
 use native.Mathlib.Omega.{arith}
-use borrow.Author.Tests.{ne-eqb, lt-ltb, le-leb, lt-leb}
-use lib.Dec.{eqb, leb}
+use borrow.Author.Tests.{ne-eqb, lt-ltb, le-ltb, le-leb, lt-leb}
+use lib.Dec.{eqb, leb, ltb}
 use lib.ListN.{length, take}
+use lib.Pow.{pow-pos}
 use Rattle.ring.proofs.Rows.{length-numbers, take-numbers}
 use Rattle.limits.specs.Limits.{mostH, mostW, mostTick, mostNodes}
 use Rattle.ring.specs.Ring.{numbers}
@@ -66,35 +67,49 @@ module _ (all : List ℕ) (n : ℕ) (e : all ≡ numbers 0 mostNodes) (h : n ≤
 
 -- ---- a message
 
-module _ (r : Record) (kind sender subject : ℕ) where
-  pub message-from : otherNode r sender ≡ false → messageTaken r kind sender subject ≡ false
+always : (b : Bool) → (b && true) ≡ b
+always true = refl
+always false = refl
+
+never : (b : Bool) → (b && false) ≡ false
+never true = refl
+never false = refl
+
+module _ (r : Record) (kind sender subject list : ℕ) where
+  pub message-from : otherNode r sender ≡ false → messageTaken r kind sender subject list ≡ false
   unfolding messageTaken
   message-from e = rw e (never (kindTest kind))
-    where
-      never : (b : Bool) → (b && false) ≡ false
-      never true = refl
-      never false = refl
 
-  module _ (e : otherNode r sender ≡ true) where
-    pub message-heartbeat : kind ≡ H → messageTaken r kind sender subject ≡ true
-    unfolding messageTaken kindTest
-    message-heartbeat q = rw (q, e)
+  -- the set of all nodes of the ring, with which a list is compared
+  module _ (e : otherNode r sender ≡ true) (all : ℕ) (set : all ≡ 2 ^ (r .nodes) - 1) where
+    pub message-beyond : all < list → messageTaken r kind sender subject list ≡ false
+    unfolding messageTaken
+    message-beyond h =
+        rw (e, le-ltb list (2 ^ (r .nodes)) (omega arith), never (not (eqb kind R) || otherNode r subject)) (never (kindTest kind))
 
-    pub message-observer : kind ≡ O → messageTaken r kind sender subject ≡ true
-    unfolding messageTaken kindTest
-    message-observer q = rw (q, e)
+    module _ (h : list ≤ all) where
+      within : ltb list (2 ^ (r .nodes)) ≡ true
+      within = lt-ltb list (2 ^ (r .nodes)) (omega (arith, pow-pos (r .nodes)))
 
-    pub message-report : kind ≡ R → messageTaken r kind sender subject ≡ otherNode r subject
-    unfolding messageTaken kindTest
-    message-report q = rw (q, e)
+      pub message-heartbeat : kind ≡ H → messageTaken r kind sender subject list ≡ true
+      unfolding messageTaken kindTest
+      message-heartbeat q = rw (q, e, within)
 
-  pub message-unknown : (kind ≡ H → ⊥) → (kind ≡ O → ⊥) → (kind ≡ R → ⊥) → messageTaken r kind sender subject ≡ false
+      pub message-observer : kind ≡ O → messageTaken r kind sender subject list ≡ true
+      unfolding messageTaken kindTest
+      message-observer q = rw (q, e, within)
+
+      pub message-report : kind ≡ R → messageTaken r kind sender subject list ≡ otherNode r subject
+      unfolding messageTaken kindTest
+      message-report q = rw (q, e, within) (always (otherNode r subject))
+
+  pub message-unknown : (kind ≡ H → ⊥) → (kind ≡ O → ⊥) → (kind ≡ R → ⊥) → messageTaken r kind sender subject list ≡ false
   unfolding messageTaken kindTest
   message-unknown h o p = rw (ne-eqb kind H h, ne-eqb kind O o, ne-eqb kind R p)
 
 -- only a report's subject counts
-pub delivered-subject : (r : Record) (tick kind sender subject : ℕ) → Known kind
-    → delivered r tick kind sender (cond (eqb kind R) subject 0) ≡ delivered r tick kind sender subject
+pub delivered-subject : (r : Record) (tick kind sender subject list : ℕ) → Known kind
+    → delivered r tick kind sender (cond (eqb kind R) subject 0) list ≡ delivered r tick kind sender subject list
 unfolding delivered
-delivered-subject r tick kind sender subject k =
-    subject-counts (numbers 0 (r .nodes)) (r .w) tick (r .number) kind sender subject (r .node) k
+delivered-subject r tick kind sender subject list k =
+    subject-counts (numbers 0 (r .nodes)) (r .w) tick (r .number) kind sender subject list (r .node) k

@@ -43,11 +43,11 @@ module _ (r : Record) (f : InRange r) (tick : ℕ) where
   abbrev pub Takes : Turn → Type 0
   Takes u = Took (r .nodes) (r .h) (r .w) (r .last) tick (r .number) (r .node) u
 
-  pub delivered-takes : (kind sender subject : ℕ) → MessageTaken r kind sender subject → Takes (delivered r tick kind sender subject)
+  pub delivered-takes : (kind sender subject list : ℕ) → MessageTaken r kind sender subject list → Takes (delivered r tick kind sender subject list)
   unfolding delivered
-  delivered-takes kind sender subject m =
+  delivered-takes kind sender subject list m =
       message-took (r .nodes) order ring (r .number) (f .openable .below) (f .openable .most) (r .h) (r .w) (r .last) tick (r .node) (f .fields) (f .live)
-      kind sender subject (m .known) (m .from .0) (m .from .1) (λ q. m .about q .0)
+      kind sender subject list (m .known) (m .from .0) (m .from .1) (λ q. m .about q .0) (m .within)
 
   pub fired-takes : Takes (fired r tick)
   unfolding fired

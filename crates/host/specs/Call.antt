@@ -1,8 +1,8 @@
--- The three calls of a host in C, as document 01 states them: what each answers, and what it leaves in the record and in the
--- message part. The ring of a record is in number order. Assumes nothing.
+-- The three calls of a host in C, as document 01 states them, with the list that document 02, #107, lets a message carry: what each
+-- answers, and what it leaves in the record and in the message part. The ring of a record is in number order. Assumes nothing.
 use mathlib.Core.Bool.{Bool, true, cond, not, _&&_, _||_}
 use mathlib.Core.List.{List, [], _∷_, _++_}
-use Prim.Native.Nat.{ℕ, _-_, _*_}
+use Prim.Native.Nat.{ℕ, _-_, _*_, _^_}
 use lib.Dec.{eqb, leb, ltb}
 use lib.ListN.{length, drop, replicate}
 use Rattle.fields.specs.Fields.{bytes}
@@ -31,22 +31,24 @@ tickTaken r tick = leb (r .last) tick && leb tick mostTick
 unfoldable pub otherNode : Record → ℕ → Bool
 otherNode r i = ltb i (r .nodes) && not (eqb i (r .number))
 
--- a message that is not of "unknown kind; sender not below N or the node itself; on R, subject not below N or the node itself"
-unfoldable pub messageTaken : Record → ℕ → ℕ → ℕ → Bool
-messageTaken r kind sender subject =
-    kindTest kind && (otherNode r sender && (not (eqb kind R) || otherNode r subject))
+-- a message that is not of "unknown kind; sender not below N or the node itself; on R, subject not below N or the node itself", nor with
+-- "a list with a bit from N on", whatever its kind
+unfoldable pub messageTaken : Record → ℕ → ℕ → ℕ → ℕ → Bool
+messageTaken r kind sender subject list =
+    kindTest kind && (otherNode r sender && ((not (eqb kind R) || otherNode r subject) && ltb list (2 ^ (r .nodes))))
 
--- ---- messages: "at most seven of 8 bytes, are put into the first 56 bytes of a lent part, unused ones zero"
+-- ---- messages: "at most seven .. are put into the first .. bytes of a lent part, unused ones zero", by 02, #107, of 16 and 112 bytes
 
--- the 8 bytes of a message: its kind, its receiver, its sender, its subject, and four that are zero
+-- the 16 bytes of a message: its kind, its receiver, its sender, its subject, four that are zero, and its list, the lowest byte first
 unfoldable pub messageBytes : ℕ → Message → List ℕ
-messageBytes sender m = bytes 1 (m .kind) ++ (bytes 1 (m .to) ++ (bytes 1 sender ++ (bytes 1 (m .subject) ++ bytes 4 0)))
+messageBytes sender m =
+    bytes 1 (m .kind) ++ (bytes 1 (m .to) ++ (bytes 1 sender ++ (bytes 1 (m .subject) ++ (bytes 4 0 ++ bytes 8 (m .list)))))
 
 unfoldable pub sentBytes : ℕ → List Message → List ℕ
 sentBytes sender [] = []
 sentBytes sender (m ∷ ms) = messageBytes sender m ++ sentBytes sender ms
 
--- a lent part with the messages in it; what follows the first 56 bytes is left
+-- a lent part with the messages in it; what follows the first 112 bytes is left
 unfoldable pub putMessages : List ℕ → ℕ → List Message → List ℕ
 putMessages part sender ms = sentBytes sender ms ++ (replicate (partSize - length ms * messageSize) 0 ++ drop partSize part)
 
@@ -76,20 +78,21 @@ openLeaves s number nodes h w = cond (eqb (openAnswer s number nodes h w) accept
 
 -- ---- "one delivers a message"
 
-unfoldable pub delivered : Record → ℕ → ℕ → ℕ → ℕ → Turn
-delivered r tick kind sender subject = onMessage (numbers 0 (r .nodes)) (r .w) tick (r .number) kind sender subject (r .node)
+unfoldable pub delivered : Record → ℕ → ℕ → ℕ → ℕ → ℕ → Turn
+delivered r tick kind sender subject list =
+    onMessage (numbers 0 (r .nodes)) (r .w) tick (r .number) kind sender subject list (r .node)
 
-unfoldable pub deliverAnswer : List ℕ → ℕ → ℕ → ℕ → ℕ → List ℕ → ℕ
-deliverAnswer s tick kind sender subject part =
-    answer (sound s) (tickTaken (decode s) tick) (messageTaken (decode s) kind sender subject) (leb partSize (length part))
+unfoldable pub deliverAnswer : List ℕ → ℕ → ℕ → ℕ → ℕ → ℕ → List ℕ → ℕ
+deliverAnswer s tick kind sender subject list part =
+    answer (sound s) (tickTaken (decode s) tick) (messageTaken (decode s) kind sender subject list) (leb partSize (length part))
 
-unfoldable pub deliverLeaves : List ℕ → ℕ → ℕ → ℕ → ℕ → List ℕ → List ℕ
-deliverLeaves s tick kind sender subject part =
-    recordAfter (deliverAnswer s tick kind sender subject part) s tick (delivered (decode s) tick kind sender subject)
+unfoldable pub deliverLeaves : List ℕ → ℕ → ℕ → ℕ → ℕ → ℕ → List ℕ → List ℕ
+deliverLeaves s tick kind sender subject list part =
+    recordAfter (deliverAnswer s tick kind sender subject list part) s tick (delivered (decode s) tick kind sender subject list)
 
-unfoldable pub deliverSends : List ℕ → ℕ → ℕ → ℕ → ℕ → List ℕ → List ℕ
-deliverSends s tick kind sender subject part =
-    partAfter (deliverAnswer s tick kind sender subject part) s part (delivered (decode s) tick kind sender subject)
+unfoldable pub deliverSends : List ℕ → ℕ → ℕ → ℕ → ℕ → ℕ → List ℕ → List ℕ
+deliverSends s tick kind sender subject list part =
+    partAfter (deliverAnswer s tick kind sender subject list part) s part (delivered (decode s) tick kind sender subject list)
 
 -- ---- "one does the watch if due by this tick, else the heartbeat if due, else nothing"
 

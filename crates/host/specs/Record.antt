@@ -1,5 +1,5 @@
--- The node record of document 01, "a 64-byte node record, which also holds its own number, N, H, W and the last tick": what it
--- holds, its bytes and the range of each field. docs/LAYOUTS.md has the same as a table. Assumes nothing.
+-- The node record of document 01, "a 64-byte node record, which also holds its own number, N, H, W and the last tick", and by document 02, #107, "a second
+-- 64-bit mark": what it holds, its bytes and the range of each field. docs/LAYOUTS.md has the same as a table. Assumes nothing.
 use mathlib.Core.Bool.{Bool, _&&_}
 use mathlib.Core.List.{List, _++_}
 use Prim.Native.Nat.{ℕ, _-_}
@@ -14,9 +14,17 @@ use Rattle.host.specs.declared.Record.{Record}
 
 -- ---- bytes
 
--- the bytes from here on are spare
+-- between the timers and the mark are spare bytes, from here on
+abbrev pub gapFrom : ℕ
+gapFrom = 28
+
+-- the mark's place
+abbrev pub markAt : ℕ
+markAt = 32
+
+-- the bytes from here to the end are spare
 abbrev pub spareFrom : ℕ
-spareFrom = 28
+spareFrom = 40
 
 -- the bytes of a record, each number with its lowest byte first: its own number, N, H and W
 unfoldable pub numbersBytes : Record → List ℕ
@@ -30,9 +38,14 @@ neighboursBytes n = bytes 1 (n .emitter) ++ (bytes 1 (n .observer) ++ bytes 8 (n
 unfoldable pub ticksBytes : ℕ → Node → List ℕ
 ticksBytes last n = bytes 4 last ++ (bytes 4 (n .watch) ++ bytes 4 (n .heartbeat))
 
+-- four that are zero, and its mark
+unfoldable pub markBytes : Node → List ℕ
+markBytes n = bytes 4 0 ++ bytes 8 (n .mark)
+
 unfoldable pub encode : Record → List ℕ
 encode r =
-    numbersBytes r ++ (neighboursBytes (r .node) ++ (ticksBytes (r .last) (r .node) ++ replicate (recordSize - spareFrom) 0))
+    numbersBytes r ++ (neighboursBytes (r .node) ++ (ticksBytes (r .last) (r .node)
+    ++ (markBytes (r .node) ++ replicate (recordSize - spareFrom) 0)))
 
 -- the record in 64 bytes
 unfoldable pub decode : List ℕ → Record
@@ -48,6 +61,7 @@ decode s = record {
     watch = fieldAt s 20 4;
     heartbeat = fieldAt s 24 4;
     list = fieldAt s 8 8;
+    mark = fieldAt s markAt 8;
   };
 }
 
@@ -67,4 +81,5 @@ inRange r =
 
 -- the bytes of a record that a call takes: 64, the spare ones zero, each field in its range
 unfoldable pub sound : List ℕ → Bool
-sound s = eqb (length s) recordSize && (zeros (slice spareFrom recordSize s) && inRange (decode s))
+sound s =
+    eqb (length s) recordSize && (zeros (slice gapFrom markAt s) && (zeros (slice spareFrom recordSize s) && inRange (decode s)))

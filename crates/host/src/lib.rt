@@ -22,7 +22,7 @@ ghost use lib.ListN.{length, take};
 ghost use lib.Seq.{sets};
 ghost use Rattle.limits.specs.Limits.{mostNodes, mostH, mostW, mostTick, mostSent, recordSize, messageSize, partSize};
 ghost use Rattle.node.specs.Node.{turned, R};
-ghost use Rattle.host.specs.Record.{encode, numbersBytes, neighboursBytes, ticksBytes, decode, openable, inRange, sound};
+ghost use Rattle.host.specs.Record.{encode, numbersBytes, neighboursBytes, ticksBytes, markBytes, decode, openable, inRange, sound};
 ghost use Rattle.host.specs.Call.{tickTaken, otherNode, messageTaken, messageBytes, putMessages, openAnswer, openedRecord, openLeaves, delivered};
 ghost use Rattle.host.specs.Call.{deliverAnswer, deliverLeaves, deliverSends, dueBy, fired, timersAnswer, timersLeaves, timersSends, withTurn};
 
@@ -39,8 +39,12 @@ pub struct Record {
 // The highest tick, in the width of a record's.
 const MOST_TICK: u32 = limits::MOST_TICK as u32;
 
-// Where the spare bytes of a record begin.
-const SPARE_FROM: usize = 28;
+// The mark of a record, and where the spare bytes before and after it begin.
+const GAP_FROM: usize = 28;
+
+const MARK_AT: usize = 32;
+
+const SPARE_FROM: usize = 40;
 
 // ---- a record's bytes
 
@@ -54,12 +58,14 @@ fn read_node(s: &[u8]) -> Node
     let list = fields::get(s, 8, 8);
     let watch = fields::get(s, 20, 4) as u32;
     let heartbeat = fields::get(s, 24, 4) as u32;
+    let mark = fields::get(s, MARK_AT, 8);
     Node {
         emitter,
         observer,
         watch,
         heartbeat,
         list,
+        mark,
     }
 }
 
@@ -115,6 +121,15 @@ fn write_ticks(s: &mut [u8], last: u32, n: Node)
     fields::put(s, 24, 4, n.heartbeat as u64);
 }
 
+// Four bytes that are zero, and its mark.
+fn write_mark(s: &mut [u8], n: Node)
+    requires { ⌜ length (now s) ≡ recordSize ⌝ }
+    ensures { λ _. ⌜ now (s .exit) ≡ sets (now (s .entry)) 28 (markBytes n) ⌝ }
+{
+    fields::put(s, GAP_FROM, 4, 0);
+    fields::put(s, MARK_AT, 8, n.mark);
+}
+
 // A record's 64 bytes.
 fn write_record(s: &mut [u8], r: Record)
     requires { ⌜ length (now s) ≡ recordSize ⌝ }
@@ -124,6 +139,7 @@ fn write_record(s: &mut [u8], r: Record)
     write_numbers(s, r);
     write_neighbours(s, n);
     write_ticks(s, r.last, n);
+    write_mark(s, n);
     fields::clear(s, SPARE_FROM, RECORD_SIZE);
 }
 
@@ -177,6 +193,9 @@ fn is_sound(s: &[u8]) -> bool
     if s.len() != RECORD_SIZE {
         return false;
     }
+    if !fields::is_zero(s, GAP_FROM, MARK_AT) {
+        return false;
+    }
     if !fields::is_zero(s, SPARE_FROM, RECORD_SIZE) {
         return false;
     }
@@ -203,11 +222,15 @@ fn is_other(r: Record, i: u64) -> bool
     i != r.number as u64
 }
 
-// Whether a message is of a known kind, H (72), O (79) or R (82), from another node and, on R, of another.
-fn takes_message(r: Record, kind: u64, sender: u64, subject: u64) -> bool
-    ensures { λ b. ⌜ b ≡ messageTaken r kind sender subject ⌝ }
+// Whether a message is of a known kind, H (72), O (79) or R (82), from another node and, on R, of another, with a list of the ring's nodes.
+fn takes_message(r: Record, kind: u64, sender: u64, subject: u64, list: u64) -> bool
+    requires { ⌜ (1 ≤ r .nodes) × (r .nodes ≤ mostNodes) ⌝ }
+    ensures { λ b. ⌜ b ≡ messageTaken r kind sender subject list ⌝ }
 {
     if !is_other(r, sender) {
+        return false;
+    }
+    if ring::all_nodes(r.nodes) < list {
         return false;
     }
     match kind {
@@ -220,7 +243,7 @@ fn takes_message(r: Record, kind: u64, sender: u64, subject: u64) -> bool
 
 // ---- the messages sent
 
-// A message's eight bytes, put from `at` on.
+// A message's 16 bytes, put from `at` on.
 fn put_message(part: &mut [u8], at: usize, sender: u8, m: Message)
     requires { ⌜ at + messageSize ≤ length (now part) ⌝ }
     ensures { λ _. ⌜ now (part .exit) ≡ sets (now (part .entry)) at (messageBytes sender m) ⌝ }
@@ -230,9 +253,10 @@ fn put_message(part: &mut [u8], at: usize, sender: u8, m: Message)
     fields::put(part, at + 2, 1, sender as u64);
     fields::put(part, at + 3, 1, m.subject as u64);
     fields::put(part, at + 4, 4, 0);
+    fields::put(part, at + 8, 8, m.list);
 }
 
-// The first `count` messages in the first 56 bytes of a part, the unused places zero.
+// The first `count` messages in the first 112 bytes of a part, the unused places zero.
 fn put_messages(sent: [Message; 7], count: usize, sender: u8, part: &mut [u8])
     requires { ⌜ (count ≤ mostSent) × (partSize ≤ length (now part)) ⌝ }
     ensures { λ _. ⌜ now (part .exit) ≡ putMessages (now (part .entry)) sender (take count sent) ⌝ }
@@ -249,9 +273,10 @@ fn put_messages(sent: [Message; 7], count: usize, sender: u8, part: &mut [u8])
 // ---- what the rules give
 
 // The record's node after a message, with what it sends.
-fn message_turn(r: Record, tick: u32, kind: u8, sender: u8, subject: u8) -> Turned
-    requires { ⌜ (1 ≤ r .nodes) × (r .nodes ≤ mostNodes) × (r .w ≤ mostW) × (tick ≤ mostTick) × (subject < mostNodes) ⌝ }
-    ensures { λ t. ⌜ t ≡ turned (delivered r tick kind sender subject) ⌝ }
+fn message_turn(r: Record, tick: u32, kind: u8, sender: u8, subject: u8, list: u64) -> Turned
+    requires { ⌜ (1 ≤ r .nodes) × (r .nodes ≤ mostNodes) × (r .number < r .nodes) × (r .w ≤ mostW) × (tick ≤ mostTick)
+        × (sender < mostNodes) × (subject < mostNodes) ⌝ }
+    ensures { λ t. ⌜ t ≡ turned (delivered r tick kind sender subject list) ⌝ }
 {
     let all = ring::number_order();
     let n = r.nodes as usize;
@@ -263,6 +288,7 @@ fn message_turn(r: Record, tick: u32, kind: u8, sender: u8, subject: u8) -> Turn
         kind,
         sender,
         subject,
+        list,
         r.node,
     )
 }
@@ -372,11 +398,12 @@ pub extern "C" fn kelbraut_node_deliver(
     kind: u64,
     sender: u64,
     subject: u64,
+    list: u64,
     messages: &mut [u8],
 ) -> u64
-    ensures { λ r. ⌜ (r ≡ deliverAnswer (now (bytes .entry)) tick kind sender subject (now (messages .entry)))
-        × (now (bytes .exit) ≡ deliverLeaves (now (bytes .entry)) tick kind sender subject (now (messages .entry)))
-        × (now (messages .exit) ≡ deliverSends (now (bytes .entry)) tick kind sender subject (now (messages .entry))) ⌝ }
+    ensures { λ r. ⌜ (r ≡ deliverAnswer (now (bytes .entry)) tick kind sender subject list (now (messages .entry)))
+        × (now (bytes .exit) ≡ deliverLeaves (now (bytes .entry)) tick kind sender subject list (now (messages .entry)))
+        × (now (messages .exit) ≡ deliverSends (now (bytes .entry)) tick kind sender subject list (now (messages .entry))) ⌝ }
 {
     if !is_sound(bytes) {
         return BAD_RECORD;
@@ -385,7 +412,7 @@ pub extern "C" fn kelbraut_node_deliver(
     if !takes_tick(r, tick) {
         return BAD_TICK;
     }
-    if !takes_message(r, kind, sender, subject) {
+    if !takes_message(r, kind, sender, subject, list) {
         return BAD_MESSAGE;
     }
     if messages.len() < PART_SIZE {
@@ -397,6 +424,7 @@ pub extern "C" fn kelbraut_node_deliver(
         kind as u8,
         sender as u8,
         subject_of(kind, subject),
+        list,
     );
     leave(bytes, messages, r, tick as u32, t);
     0

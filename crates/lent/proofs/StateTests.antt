@@ -1,5 +1,5 @@
 -- What the tests of a store's state answer is what the definitions say. Assumes nothing.
-use Prim.Native.Nat.{ℕ, suc, _+_, _-_, _≤_, _<_}
+use Prim.Native.Nat.{ℕ, suc, _+_, _-_, _^_, _≤_, _<_}
 use mathlib.Core.Path.{_≡_, refl, sym, ap, _∙_}
 use mathlib.Core.Bool.{Bool, true, false, not, _&&_, and-comm}
 use mathlib.Core.List.{List, [], _∷_}
@@ -9,6 +9,7 @@ use native.Mathlib.Decide.{decLt}
 use borrow.Author.Tests.{lt-ltb, le-ltb, le-leb, lt-leb, eq-eqb, ne-eqb, not-true, not-false}
 use lib.Dec.{eqb, leb}
 use lib.ListN.{length, getD, drop, drop-of-length-le}
+use lib.Pow.{pow-pos}
 use lib.Seq.{drop-cons}
 use Rattle.ring.specs.Ring.{listed}
 use Rattle.node.specs.declared.Node.{Node}
@@ -21,7 +22,7 @@ use Rattle.model.specs.Platform.{State, InFlight, alive, crashedList, noMessage
 use Rattle.plans.specs.Plain.{noCrash, rowAt}
 use Rattle.model.specs.Range.{Accepted, nodesTest, messageTest, flightTest, undoneTest, soundTest, nodeHere}
 use Rattle.model.proofs.Plans.{plan-accepted}
-use Rattle.node.specs.Range.{nodeTest, liveTest, notOverdue, timersTest, kindTest}
+use Rattle.node.specs.Range.{nodeTest, liveTest, notOverdue, timersTest, kindTest, carriedTest}
 use Rattle.model.proofs.SettledNode.{crashed-listed}
 use Rattle.store.specs.declared.CrashRow.{CrashRow}
 use Rattle.store.specs.declared.Flight.{Flight}
@@ -65,14 +66,15 @@ module _ (p : Plan) (ac : Accepted p) (done t x : ℕ) (a : Node) where
 
 module _ (p : Plan) (done t : ℕ) (ns : List Node) (x : ℕ) where
   module _ (h : x < length ns) where
-    nodes-on : nodesTest p done t x (drop x ns) ≡ (nodeHere p done t x (getD ns x (alone x 0)) && nodesTest p done t (suc x) (drop (suc x) ns))
+    nodes-on : nodesTest p done t x (drop x ns) ≡ (nodeHere p done t x (getD ns x (alone x 0 0)) && nodesTest p done t (suc x) (drop (suc x) ns))
     unfolding nodesTest
-    nodes-on = rw (drop-cons ns x (alone x 0) h)
+    nodes-on = rw (drop-cons ns x (alone x 0 0) h)
 
-    pub nodes-stop : nodeHere p done t x (getD ns x (alone x 0)) ≡ false → nodesTest p done t x (drop x ns) ≡ false
+    pub nodes-stop : nodeHere p done t x (getD ns x (alone x 0 0)) ≡ false → nodesTest p done t x (drop x ns) ≡ false
     nodes-stop e = nodes-on ∙ and-left _ e
 
-    pub nodes-turn : nodeHere p done t x (getD ns x (alone x 0)) ≡ true → nodesTest p done t x (drop x ns) ≡ nodesTest p done t (x + 1) (drop (x + 1) ns)
+    pub nodes-turn : nodeHere p done t x (getD ns x (alone x 0 0)) ≡ true
+        → nodesTest p done t x (drop x ns) ≡ nodesTest p done t (x + 1) (drop (x + 1) ns)
     nodes-turn e = nodes-on ∙ ap (λ (b : Bool). b && nodesTest p done t (suc x) (drop (suc x) ns)) e ∙ rw (add-one x)
 
   pub nodes-end : length ns ≤ x → nodesTest p done t x (drop x ns) ≡ true
@@ -98,6 +100,24 @@ module _ (k : ℕ) where
   unfolding kindTest
   kind-none h o r = rw (ne-eqb k H h, ne-eqb k O o, ne-eqb k R r)
 
+-- the list that it carries, where `all` is the set of all n nodes
+module _ (n kind list : ℕ) {all : ℕ} (is : all ≡ 2 ^ n - 1) where
+  pub list-over : all < list → false ≡ carriedTest n kind list
+  unfolding carriedTest
+  list-over h = rw (le-ltb list (2 ^ n) (omega arith))
+
+  module _ (l≤ : list ≤ all) where
+    inside : list < 2 ^ n
+    inside = omega (arith, pow-pos n)
+
+    pub list-heartbeat : kind ≡ H → true ≡ carriedTest n kind list
+    unfolding carriedTest
+    list-heartbeat e = rw (lt-ltb list (2 ^ n) inside, eq-eqb kind H e)
+
+    pub list-other : (kind ≡ H → ⊥) → eqb list 0 ≡ carriedTest n kind list
+    unfolding carriedTest
+    list-other h = rw (lt-ltb list (2 ^ n) inside, ne-eqb kind H h)
+
 module _ (p : Plan) (t : ℕ) (m : InFlight) where
   pub kind-out : kindTest (m .kind) ≡ false → false ≡ messageTest p t m
   unfolding messageTest
@@ -119,7 +139,8 @@ module _ (p : Plan) (t : ℕ) (m : InFlight) where
         subject-out h = rw (known, lt-ltb (m .from) (p .n) (omega arith), lt-ltb (m .to) (p .n) (omega arith), le-ltb (m .subject) (p .n) (omega arith))
 
         module _ (s< : m .subject < n) where
-          apart-on : messageTest p t m ≡ (not (eqb (m .from) (m .to)) && (leb t (m .due) && leb (m .due) (t + p .d)))
+          apart-on : messageTest p t m
+              ≡ (not (eqb (m .from) (m .to)) && (leb t (m .due) && (leb (m .due) (t + p .d) && carriedTest (p .n) (m .kind) (m .list))))
           unfolding messageTest
           apart-on = rw (known, lt-ltb (m .from) (p .n) (omega arith), lt-ltb (m .to) (p .n) (omega arith), lt-ltb (m .subject) (p .n) (omega arith))
 
@@ -130,8 +151,13 @@ module _ (p : Plan) (t : ℕ) (m : InFlight) where
             pub due-before : m .due < t → false ≡ messageTest p t m
             due-before h = rw (apart-on, ne-eqb (m .from) (m .to) apart, lt-leb t (m .due) h)
 
-            pub due-last : t ≤ m .due → (d : ℕ) → d ≡ p .d → leb (m .due) (t + d) ≡ messageTest p t m
-            due-last h d e = rw (apart-on, ne-eqb (m .from) (m .to) apart, le-leb t (m .due) h, e)
+            module _ (t≤ : t ≤ m .due) (d : ℕ) (delay : d ≡ p .d) where
+              pub due-after : t + d < m .due → false ≡ messageTest p t m
+              due-after h = rw (apart-on, ne-eqb (m .from) (m .to) apart, le-leb t (m .due) t≤, lt-leb (m .due) (t + p .d) (omega arith))
+
+              pub list-last : m .due ≤ t + d → {r : Bool} → r ≡ carriedTest n (m .kind) (m .list) → r ≡ messageTest p t m
+              list-last h e =
+                  rw (apart-on, ne-eqb (m .from) (m .to) apart, le-leb t (m .due) t≤, le-leb (m .due) (t + p .d) (omega arith), ← count) e
 
 -- ---- the messages from place i on
 

@@ -9,7 +9,7 @@ use Rattle.plans.specs.Plan.{planTest}
 use Rattle.limits.specs.Limits.{mostNext, storeSize}
 use Rattle.model.specs.Range.{soundTest, storeTest}
 use Rattle.store.specs.Columns.{Field, restZero, restTest, roomTest, unusedTest}
-use Rattle.store.specs.Store.{spareHead, ringNodes, spareNodes, spareTail, crashTicks, crashNodes, delayNumbers, delayTicks}
+use Rattle.store.specs.Store.{spareHead, ringNodes, spareTail, crashTicks, crashNodes, delayNumbers, delayTicks}
 use Rattle.store.specs.Store.{ringParts, nodeParts, crashParts, delayParts, messageParts, columns, planIn, stateIn, storeInRange}
 use Rattle.store.specs.Inside.{Sized}
 use Rattle.store.proofs.Store.{length-nodes, room-parts, room-counts}
@@ -41,9 +41,9 @@ module _ (b : List ℕ) where
   rowsRest f g n = restZero b f n && restZero b g n
 
   pub unused-here : unusedTest b (columns (planIn b) (stateIn b))
-      ≡ ((restZero b spareHead 0 && restZero b ringNodes (length (planIn b .ring))) && (restTest nodeParts b (planIn b .n) && (restZero b spareNodes 0
+      ≡ ((restZero b spareHead 0 && restZero b ringNodes (length (planIn b .ring))) && (restTest nodeParts b (planIn b .n)
       && (rowsRest crashTicks crashNodes (length (planIn b .crashes)) && (rowsRest delayNumbers delayTicks (length (planIn b .delays))
-      && (restTest messageParts b (length (stateIn b .flight)) && restZero b spareTail 0))))))
+      && (restTest messageParts b (length (stateIn b .flight)) && restZero b spareTail 0)))))
   unfolding restTest ringParts crashParts delayParts
   unused-here =
       unused-parts b (planIn b) (stateIn b)

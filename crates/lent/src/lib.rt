@@ -78,7 +78,10 @@ fn nodes_rest(s: &[u8], n: usize) -> bool
     if !rest_zero(s, layout::HEARTBEATS, 4, layout::MOST_NODES, n) {
         return false;
     }
-    rest_zero(s, layout::DEAD_LISTS, 8, layout::MOST_NODES, n)
+    if !rest_zero(s, layout::DEAD_LISTS, 8, layout::MOST_NODES, n) {
+        return false;
+    }
+    rest_zero(s, layout::MARKS, 8, layout::MOST_NODES, n)
 }
 
 // The places beyond the last of n rows are zero, C rows or L rows: a column of 4 bytes starts at `at`, one of 1 byte at `then`.
@@ -112,7 +115,10 @@ fn messages_rest(s: &[u8], n: usize) -> bool
     if !rest_zero(s, layout::MESSAGE_RECEIVERS, 1, layout::MOST_IN_FLIGHT, n) {
         return false;
     }
-    rest_zero(s, layout::MESSAGE_SUBJECTS, 1, layout::MOST_IN_FLIGHT, n)
+    if !rest_zero(s, layout::MESSAGE_SUBJECTS, 1, layout::MOST_IN_FLIGHT, n) {
+        return false;
+    }
+    rest_zero(s, layout::MESSAGE_LISTS, 8, layout::MOST_IN_FLIGHT, n)
 }
 
 // Every unused byte is zero.
@@ -124,9 +130,6 @@ fn unused_zero(s: &[u8]) -> bool
         return false;
     }
     if !nodes_rest(s, plan::node_count(s)) {
-        return false;
-    }
-    if !fields::is_zero(s, layout::SPARE_NODES, layout::CRASH_TICKS) {
         return false;
     }
     if !rows_rest(

@@ -7,13 +7,13 @@ use store::nodes;
 use store::plan;
 ghost use mathlib.Core.Path.{_≡_};
 ghost use mathlib.Core.Bool.{true, _&&_};
-ghost use Prim.Native.Nat.{_<_};
+ghost use Prim.Native.Nat.{_<_, _≤_};
 ghost use lib.Dec.{leb};
 ghost use lib.ListN.{drop};
 ghost use Rattle.plans.specs.Plan.{planTest};
-ghost use Rattle.node.specs.Range.{nodeTest, liveTest, notOverdue, timersTest, kindTest};
+ghost use Rattle.node.specs.Range.{nodeTest, liveTest, notOverdue, timersTest, kindTest, carriedTest};
 ghost use Rattle.model.specs.Platform.{crashedList, nodeOf};
-ghost use Rattle.limits.specs.Limits.{mostNext};
+ghost use Rattle.limits.specs.Limits.{mostNodes, mostNext};
 ghost use Rattle.model.specs.Range.{nodeHere, nodesTest, messageTest, flightTest, undoneTest, soundTest};
 ghost use Rattle.store.specs.Store.{planIn, stateIn};
 ghost use Rattle.store.specs.Inside.{Sized, messageOf};
@@ -103,6 +103,20 @@ fn is_kind(letter: u8) -> bool
     }
 }
 
+// Whether a message of a kind may carry a list, in a ring of n nodes.
+fn is_carried(n: u8, kind: u8, list: u64) -> bool
+    requires { ⌜ (1 ≤ n) × (n ≤ mostNodes) ⌝ }
+    ensures { λ r. ⌜ r ≡ carriedTest n kind list ⌝ }
+{
+    if ring::all_nodes(n) < list {
+        return false;
+    }
+    if kind == b'H' {
+        return true;
+    }
+    list == 0
+}
+
 // Whether a message is in range.
 fn message_fits(s: &[u8], t: u32, m: Flight) -> bool
     requires { ⌜ Planned (now s) t ⌝ }
@@ -127,7 +141,10 @@ fn message_fits(s: &[u8], t: u32, m: Flight) -> bool
     if m.due < t {
         return false;
     }
-    m.due <= t + plan::longest_delay(s)
+    if t + plan::longest_delay(s) < m.due {
+        return false;
+    }
+    is_carried(n, m.kind, m.list)
 }
 
 // Whether all messages are in range and their numbers rise and are below `next`.

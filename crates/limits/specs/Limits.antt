@@ -53,12 +53,13 @@ mostTurn = 1000
 abbrev pub recordSize : ℕ
 recordSize = 64
 
--- the messages that a node call sends: 'at most seven of 8 bytes'
+-- the messages that a node call sends: 'at most seven'
 abbrev pub mostSent : ℕ
 mostSent = 7
 
+-- document 02, #107: 'a message becomes 16'
 abbrev pub messageSize : ℕ
-messageSize = 8
+messageSize = 16
 
 -- ---- lent parts
 
@@ -70,7 +71,7 @@ mostBytes = 65536
 abbrev pub logRoom : ℕ
 logRoom = 80
 
--- of a message part: 'under 56 for messages' gets 9
+-- of a message part: document 02, #107, 'under 112 for messages' gets 9
 abbrev pub partSize : ℕ
 partSize = mostSent * messageSize
 

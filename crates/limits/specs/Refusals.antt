@@ -37,7 +37,7 @@ badStore = 7
 abbrev pub tooMany : ℕ
 tooMany = 8
 
--- 'log, file or message part: .. under 56 for messages, under 65,536 for a run file', and by 02, #103, 'under 80 for every log part'
+-- 'log, file or message part: .. under 65,536 for a run file', by 02, #103, 'under 80 for every log part' and by #107 'under 112 for messages'
 abbrev pub shortPart : ℕ
 shortPart = 9
 
@@ -45,7 +45,8 @@ shortPart = 9
 abbrev pub badRecord : ℕ
 badRecord = 10
 
--- 'message: unknown kind; sender not below N or the node itself; on R, subject not below N or the node itself'
+-- 'message: unknown kind; sender not below N or the node itself; on R, subject not below N or the node itself', and by 02, #107, 'a list with a
+-- bit from N on'
 abbrev pub badMessage : ℕ
 badMessage = 11
 

@@ -33,7 +33,7 @@ pub const RECORD_SIZE: usize = 64;
 
 pub const MOST_SENT: usize = 7;
 
-pub const MESSAGE_SIZE: usize = 8;
+pub const MESSAGE_SIZE: usize = 16;
 
 // Lent parts: the longest run file, and the least length for an event's lines, for messages and for a run file.
 pub const MOST_BYTES: usize = 65536;

@@ -13,7 +13,7 @@ use Rattle.node.specs.Node.{H, O}
 use Rattle.model.specs.Platform.{InFlight}
 use Rattle.ring.proofs.GoingBack.{iter, iter-out}
 use Rattle.model.proofs.Events.{Seen, View, Live, Dead, _∈_, Params, Crash, Watched, Report, Leaves, Moves, Alone, Step, crash, drop, idle, beat}
-use Rattle.model.proofs.Events.{watched, report, moves, alone, sends, crashed, left}
+use Rattle.model.proofs.Events.{watched, report, moves, alone, sends, crashed, moving, left}
 use Rattle.model.proofs.Invariant.{Inv, Covered, byHeartbeat, byTimer, byObserver, byCrash}
 use Rattle.model.proofs.EveryEvent.{live-not-dead}
 use Rattle.model.proofs.OneNode.{OnEach, each}
@@ -22,7 +22,7 @@ use Rattle.model.proofs.CrashDone.{crash-now}
 use Rattle.model.proofs.ObserverDelivered.{observer-all}
 use Rattle.model.proofs.ReportDelivered.{report-all}
 use Rattle.model.proofs.EmitterLeft.{leaves-late, moves-all, moves-sames}
-use Rattle.model.proofs.Phases.{crashedIn, Up, Quiet, drop-quiet, idle-quiet, beat-quiet, sends-quiet}
+use Rattle.model.proofs.Phases.{crashedIn, Up, Copied, Quiet, drop-quiet, idle-quiet, beat-quiet, sends-quiet}
 use Rattle.model.proofs.WatchExpires.{first}
 use Rattle.model.proofs.ReportRounds.{iter-up}
 use Rattle.model.proofs.SpacedRuns.{Last, none, at, after, Passed, JoinedIn, joined-in}
@@ -100,9 +100,9 @@ module _ (p : Params) where
     quiet-unmoved t q =
         record { alive = λ j. q .core j .alive; emitter = λ j. q .core j .emitter; watch = q .watch; old = λ m h k. old m k (q .came m h) }
       where
-        old : (m : InFlight) → m .kind ≡ O → (m ∈ s .flight) ⊎ (m .kind ≡ H) → m ∈ s .flight
+        old : (m : InFlight) → m .kind ≡ O → (m ∈ s .flight) ⊎ ((m .kind ≡ H) × Copied s m) → m ∈ s .flight
         old m k (inl h) = h
-        old m k (inr q) = absurd (omega arith)
+        old m k (inr q) = absurd (omega (arith, q .0))
 
     watched-unmoved : (m : InFlight) → Watched p s s' m → Unmoved (m .due)
     watched-unmoved m e = record {
@@ -112,11 +112,11 @@ module _ (p : Params) where
       old = λ g h k. came0 (s .flight) g (e .frame .came g h);
     }
 
-    report-unmoved : (m : InFlight) (list' : ℕ → Bool) (out : List InFlight) → Report p s s' m list' out → Unmoved (m .due)
-    report-unmoved m list' out e = record {
-      alive = report-all p s s' i m list' out e (λ j n n'. n' .alive ≡ n .alive) (sym (e .live)) (λ j. refl);
-      emitter = report-all p s s' i m list' out e (λ j n n'. n' .emitter ≡ n .emitter) refl (λ j. refl);
-      watch = λ j. inl (report-all p s s' i m list' out e (λ j n n'. n' .watch ≡ n .watch) refl (λ j. refl) j);
+    report-unmoved : (m : InFlight) (list' mark' : ℕ → Bool) (out : List InFlight) → Report p s s' m list' mark' out → Unmoved (m .due)
+    report-unmoved m list' mark' out e = record {
+      alive = report-all p s s' i m list' mark' out e (λ j n n'. n' .alive ≡ n .alive) (sym (e .live)) (λ j. refl);
+      emitter = report-all p s s' i m list' mark' out e (λ j n n'. n' .emitter ≡ n .emitter) refl (λ j. refl);
+      watch = λ j. inl (report-all p s s' i m list' mark' out e (λ j n n'. n' .watch ≡ n .watch) refl (λ j. refl) j);
       old = λ g h k. old g k (e .frame .came g h);
     }
       where
@@ -151,16 +151,19 @@ module _ (p : Params) where
           let on : (s .node x) .watchOn ≡ true = i .timers x (e .live) .on (e .apart) .0 in
           omega (arith, e .least .watch≥ x (e .live) on, w .watch x (e .live) (e .apart) (leaves-late p s s' i t x gone list' y e .dead))
 
-      moves-since : (t x : ℕ) (gone : List InFlight) (list' : ℕ → Bool) (y : ℕ) (o : InFlight) (out : List InFlight)
-          → Moves p s s' t x gone list' y o out → Since c s'
-      moves-since t x gone list' y o out e = record {
+      moves-since : (t x : ℕ) (gone : List InFlight) (list' mark' : ℕ → Bool) (y : ℕ) (o : InFlight) (out : List InFlight)
+          → Moves p s s' t x gone list' mark' y o out → Since c s'
+      moves-since t x gone list' mark' y o out e = record {
         dead = λ k d. w .dead k (sym (same k) ∙ d);
-        watch = λ j l ne d. moves-all p s s' i t x gone list' y o out e (λ j n n'. Waits c s j n') (λ l ne d. on) (w .watch) j l ne (sym (same _) ∙ d);
+        watch = λ j l ne d. all (λ j n n'. Waits c s j n') (λ l ne d. on) (w .watch) j l ne (sym (same _) ∙ d);
         observer = λ m h k. by m k (e .frame .came m h);
       }
         where
+          all : OnEach s s' x (moving p (s .node x) list' mark' y t)
+          all = moves-all p s s' i t x gone list' mark' y o out e
+
           same : (k : ℕ) → (s' .node k) .alive ≡ (s .node k) .alive
-          same k = moves-sames p s s' i t x gone list' y o out e k .alive
+          same k = moves-sames p s s' i t x gone list' mark' y o out e k .alive
 
           -- the new emitter is further back
           on : t + 2 * p .W ≤ c + waits (p .gap x y)
@@ -176,14 +179,14 @@ module _ (p : Params) where
               new (inl q) = rw (q, e .o-by, e .o-to) (omega (arith, e .o-within, on))
               new (inr h) = absurd (omega (arith, e .rs .kinds m h))
 
-      alone-since : (t x : ℕ) (list' : ℕ → Bool) → Alone p s s' t x list' → Since c s'
-      alone-since t x list' e = record {
+      alone-since : (t x : ℕ) (list' mark' : ℕ → Bool) → Alone p s s' t x list' mark' → Since c s'
+      alone-since t x list' mark' e = record {
         dead = λ k d. w .dead k (sym (same k) ∙ d);
         watch = λ j l ne d. all (λ j n n'. Waits c s j n') (λ l ne. absurd (ne refl)) (w .watch) j l ne (sym (same _) ∙ d);
         observer = λ m h k. w .observer m (came0 (s .flight) m (e .frame .came m h)) k;
       }
         where
-          all : OnEach s s' x (left p x list')
+          all : OnEach s s' x (left p x list' mark')
           all = each p s s' t x _ [] [] (e .frame)
 
           same : (k : ℕ) → (s' .node k) .alive ≡ (s .node k) .alive
@@ -211,12 +214,12 @@ module _ (p : Params) where
     step-since i near i' l (crash t k e) w = crash-since s s' i t k e near i'
     step-since i near i' l (drop m e) w = quiet i _ (drop-quiet p s s' i m e) l w
     step-since i near i' l (idle m e) w = quiet i _ (idle-quiet p s s' i m e) l w
-    step-since i near i' l (beat m e) w = quiet i _ (beat-quiet p s s' i m e) l w
+    step-since i near i' l (beat m a e) w = quiet i _ (beat-quiet p s s' i m a e) l w
     step-since i near i' l (sends t x m e) w = quiet i _ (sends-quiet p s s' i t x m e) l w
     step-since i near i' l (watched m e) w = unmoved i _ (watched-unmoved s s' i m e) l w
-    step-since i near i' l (report m a o e) w = unmoved i _ (report-unmoved s s' i m a o e) l w
-    step-since i near i' l (moves t x g a y o r e) w = keeps l (λ c w. moves-since s s' i c w t x g a y o r e) w
-    step-since i near i' l (alone t x a e) w = keeps l (λ c w. alone-since s s' i c w t x a e) w
+    step-since i near i' l (report m a k o e) w = unmoved i _ (report-unmoved s s' i m a k o e) l w
+    step-since i near i' l (moves t x g a k y o r e) w = keeps l (λ c w. moves-since s s' i c w t x g a k y o r e) w
+    step-since i near i' l (alone t x a k e) w = keeps l (λ c w. alone-since s s' i c w t x a k e) w
 
   -- ---- once all that is due by c + 2 × W × f + D is done
 
@@ -233,7 +236,7 @@ module _ (p : Params) where
     nearer j k h = (i .base .listed j k (i .base .between j k h)) .dead
 
     -- no emitter is crashed any more
-    emitter-up : (j : ℕ) → Up p s j → Up p s (em j)
+    pub emitter-up : (j : ℕ) → Up p s j → Up p s (em j)
     emitter-up j uj = go (ℕ-discrete (em j) j) ((s .node (em j)) .alive) refl
       where
         go : Dec (em j ≡ j) → (b : Bool) → (s .node (em j)) .alive ≡ b → Up p s (em j)
@@ -252,7 +255,7 @@ module _ (p : Params) where
             few = row j (p .gap j (em j)) (uj .0) (p .gap≤N j (em j) (uj .0) (i .base .inN j n .1)) (λ k. dead k (decLt (p .gap j k) (p .gap j (em j))))
 
     -- a survivor that is observed by a survivor knows it: the O has arrived
-    observer-known : (y j : ℕ) → Up p s y → Live s j → em y ≡ j → (s .node j) .observer ≡ y
+    pub observer-known : (y j : ℕ) → Up p s y → Live s j → em y ≡ j → (s .node j) .observer ≡ y
     observer-known y j uy lj e = go (ℕ-discrete j y)
       where
         by : j ≢ y → Covered p (s .flight) y j ((s .node y) .watch) (s .node j) → (s .node j) .observer ≡ y

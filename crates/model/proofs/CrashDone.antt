@@ -24,6 +24,7 @@ module _ (p : Params) (s s' : View) (i : Inv p s) where
       died = λ h. inr (e .plan, omega (arith, e .at));
       list = λ a h. h;
       list' = λ a h. inl h;
+      mark = λ a h. inl h;
       emitter = inl refl;
       observer = inl refl;
       new = λ m h. absurd (List·Memᴰ·not-nil h);

@@ -8,13 +8,13 @@ use native.Mathlib.Decide.{ℕ-discrete}
 use Rattle.node.specs.Node.{O, R}
 use Rattle.model.specs.Platform.{InFlight}
 use Rattle.model.proofs.Events.{Seen, View, Live, Dead, _∈_, Params, Crash, crashed}
-use Rattle.model.proofs.Invariant.{Inv}
+use Rattle.model.proofs.Invariant.{Inv, Gone}
 use Rattle.model.proofs.EveryEvent.{live-not-dead}
 use Rattle.model.proofs.OneState.{not-alone, one-watcher, live-unlisted}
 use Rattle.model.proofs.OneNode.{OnEach, each}
 use Rattle.model.proofs.WatchKept.{came0}
 use Rattle.model.proofs.CrashDone.{crash-alike}
-use Rattle.model.proofs.Phases.{Up, Calm, Unnoticed}
+use Rattle.model.proofs.Phases.{Told, Up, Calm, Unnoticed}
 
 module _ (p : Params) (s s' : View) (i : Inv p s) where
   module _ (t z : ℕ) (e : Crash p s s' t z) (c : Calm p s) where
@@ -84,7 +84,8 @@ module _ (p : Params) (s s' : View) (i : Inv p s) where
           at = e .at;
           of = em-same q ∙ eq;
           lists = λ j k u d nk. rw (list-same j) (c .lists j k (up' j u) (dead' k d nk));
-          unknown = λ j u h. live-unlisted p s (i .base) j z (rw (list-same j) at h) (e .live);
+          unknown = λ j h. live-unlisted p s (i .base) j z (rw (list-same j) at h) (e .live);
+          untold = λ h. live-not-dead (e .live) ((carried-gone h) .dead);
           emitter = λ j u nq.
               rw (em-same j) (up _ (c .emitter j (up' j u)) (λ r. nq (one-watcher p s (i .base) j q z ((up' j u) .1) (uq .1) r eq (not-z j (u .1)) n)));
           observer = λ j u. rw (observer-same j) (obs j u (ℕ-discrete ((s .node j) .observer) z));
@@ -95,6 +96,10 @@ module _ (p : Params) (s s' : View) (i : Inv p s) where
               (omega (arith, c .watch j (up' j u) (λ r. ne (em-same j ∙ r)), i .base .undone z (e .live) (e .plan), e .at));
         }
       where
+        -- z lived until now, so nothing in flight carries it
+        carried-gone : Told s' z → Gone p s z
+        carried-gone h = i .base .carried (h .m) (came0 (s .flight) (h .m) (e .frame .came (h .m) (h .has))) (h .kind) z (h .carries)
+
         obs : (j : ℕ) → Up p s' j → Dec ((s .node j) .observer ≡ z)
             → (Up p s' ((s .node j) .observer) × ((s' .node ((s .node j) .observer)) .emitter ≡ j)) ⊎ ((s' .node z) .emitter ≡ j)
         obs j u (yes r) = inr (em-same z ∙ (rw r at ((c .observer j (up' j u)) .1)))

@@ -13,7 +13,7 @@ use Rattle.model.proofs.Events.{View, Live, Lists, _∈_, Params, Cause
 use Rattle.model.proofs.Invariant.{Tied, Inv, Answered, Covered, byHeartbeat, byTimer, byObserver, byCrash}
 use Rattle.model.proofs.EveryEvent.{live-not-dead, NewMessage, GoneBy, Alike, base'}
 use Rattle.model.proofs.OneState.{live-unlisted, emitter-beats}
-use Rattle.model.proofs.OneNode.{OnEach, each, alike, timers}
+use Rattle.model.proofs.OneNode.{OnEach, each, alike, timers, adds-lists}
 use Rattle.model.proofs.WatchKept.{stays, stays0, came0, Same, covered-map, same-node}
 
 module _ (p : Params) (s s' : View) (i : Inv p s) where
@@ -93,9 +93,9 @@ module _ (p : Params) (s s' : View) (i : Inv p s) where
         go _ (byExpiry on due none) h = stays0 (s' .flight) m h
         go _ (byReport g h to k about due) r = stays (s' .flight) g m r (λ q. nr (ap (λ v. v .kind) q ∙ k))
 
-  module _ (t x : ℕ) (gone : List InFlight) (list' : ℕ → Bool) (y : ℕ) (o : InFlight) (out : List InFlight)
-      (e : Moves p s s' t x gone list' y o out) where
-    pub moves-all : OnEach s s' x (moving p (s .node x) list' y t)
+  module _ (t x : ℕ) (gone : List InFlight) (list' mark' : ℕ → Bool) (y : ℕ) (o : InFlight) (out : List InFlight)
+      (e : Moves p s s' t x gone list' mark' y o out) where
+    pub moves-all : OnEach s s' x (moving p (s .node x) list' mark' y t)
     moves-all = each p s s' t x _ gone (o ∷ out) (e .frame)
 
     moves-now : s .last ≤ t
@@ -112,6 +112,7 @@ module _ (p : Params) (s s' : View) (i : Inv p s) where
       observer = λ k. inl (rw (e .o-by, e .frame .here) (sym (e .o-to)));
       report = λ k. absurd (omega (arith, e .o-kind));
       N = λ k. absurd (omega (arith, e .o-kind));
+      carried = λ q. absurd (omega (arith, e .o-kind));
     })
     moves-new m (inr h) = record {
       due = omega (arith, (e .rs .each m h) .after);
@@ -123,6 +124,7 @@ module _ (p : Params) (s s' : View) (i : Inv p s) where
       observer = λ k. absurd (omega (arith, e .rs .kinds m h));
       report = λ k. rw (e .rs .subject m h) (leaves-late t x gone list' y (e .leaves));
       N = λ k. (rw (e .rs .each m h .by) (i .base .inN x (e .leaves .apart) .0), (e .rs .each m h) .inN);
+      carried = λ q. absurd (omega (arith, e .rs .kinds m h));
     }
 
     pub moves-alike : Alike p s s' t
@@ -131,6 +133,7 @@ module _ (p : Params) (s s' : View) (i : Inv p s) where
       died = λ h. absurd (true≢false h);
       list = e .leaves .adds .kept;
       list' = leaves-list' t x gone list' y (e .leaves);
+      mark = adds-lists p _ _ _ _ _ (e .leaves .adds) (e .marks);
       emitter = inr record {
         inN = rw (e .frame .here) ((i .base .inN x (e .leaves .apart)) .0, e .leaves .back .inN);
         left = rw (e .frame .here) (e .leaves .adds .is);
@@ -144,7 +147,7 @@ module _ (p : Params) (s s' : View) (i : Inv p s) where
     moves-sames = moves-all (λ j n n'. Same n n') record { alive = sym (e .leaves .live); observer = refl; heartbeat = refl } (λ j. same-node _)
 
     -- the new emitter, live or not
-    moves-here : (b : Bool) → (s .node y) .alive ≡ b → Covered p (s' .flight) x y ((moving p (s .node x) list' y t) .watch) (s .node y)
+    moves-here : (b : Bool) → (s .node y) .alive ≡ b → Covered p (s' .flight) x y ((moving p (s .node x) list' mark' y t) .watch) (s .node y)
     moves-here true la = byObserver la o (e .frame .add o (List·Memᴰ·head refl)) (e .o-kind) (e .o-by) (e .o-to) (omega (arith, e .o-within, p .W≥))
     moves-here false da = byCrash da (omega (arith, (i .base .dead y da) .1, moves-now, p .W≥))
 
@@ -204,7 +207,7 @@ module _ (p : Params) (s s' : View) (i : Inv p s) where
       covered = moves-covered;
     }
 
-  module _ (t x : ℕ) (list' : ℕ → Bool) (e : Alone p s s' t x list') where
+  module _ (t x : ℕ) (list' mark' : ℕ → Bool) (e : Alone p s s' t x list' mark') where
     alone-now : s .last ≤ t
     alone-now = leaves-now t x [] list' x (e .leaves)
 
@@ -217,6 +220,7 @@ module _ (p : Params) (s s' : View) (i : Inv p s) where
       died = λ h. absurd (true≢false h);
       list = e .leaves .adds .kept;
       list' = leaves-list' t x [] list' x (e .leaves);
+      mark = adds-lists p _ _ _ _ _ (e .leaves .adds) (e .marks);
       emitter = inr record {
         inN = rw (e .frame .here) (alone-N, alone-N);
         left = rw (e .frame .here) (e .leaves .adds .is);

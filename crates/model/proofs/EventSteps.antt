@@ -9,10 +9,11 @@ use lib.ListN.{length}
 use Rattle.ring.specs.Ring.{keep, numbers, listed, listing, place, targets, InOrder}
 use Rattle.ring.proofs.Neighbours.{found-back}
 use Rattle.node.specs.declared.Node.{Node}
-use Rattle.node.specs.Node.{H, O, R, Turn, silent, alone, due, reports, onMessage, message, sending, leftList, newEmitter, moved, withObserver, withWatch}
-use Rattle.node.specs.Node.{withHeartbeat, withList}
+use Rattle.node.specs.Node.{H, O, R, Turn, silent, alone, due, reports, onMessage, sending, leftList, leftMark, newEmitter, moved, withObserver, withWatch}
+use Rattle.node.specs.Node.{withHeartbeat, withList, beat as beatTo}
+use Rattle.node.specs.declared.Message.{Message}
 use Rattle.node.proofs.Moves.{Heard, renews, unheard, Reported, known, own, leaves, relays, Messaged, beats, observes, tells, messaged, beaten}
-use Rattle.node.proofs.Moves.{other-is-report}
+use Rattle.node.proofs.Moves.{other-is-report, heardList, toldNode, toldSends}
 use Rattle.node.proofs.Moves.{movedSends, Left, stops, moves, left}
 use Rattle.plans.specs.Plan.{Crash, Plan, orderOf}
 use Rattle.model.specs.Platform.{InFlight, State, Event, alive, survivors, delayOf, numbered, nodeOf, taken, messageAt, without, received, apply}
@@ -34,7 +35,7 @@ use Rattle.model.proofs.SpacedRuns.{Last, none as never, at, after, Spa
 use Rattle.plans.proofs.Rows.{hit-of}
 use Rattle.model.proofs.NextEvent.{next-alive, alive-other, alive-hit, Chosen}
 use Rattle.model.proofs.RangesKept.{delay-ok, without-in, without-has, at-mem, in-n}
-use Rattle.model.proofs.Viewed.{tick-of, P, on-of, seen, view, least, frame, told, adds}
+use Rattle.model.proofs.Viewed.{tick-of, P, on-of, seen, view, least, frame, told, adds, learns}
 
 -- the last crash of the first k
 abbrev pub lastOf : Plan → ℕ → Last
@@ -83,6 +84,10 @@ module _ (p : Plan) (ac : Accepted p) where
       abbrev y : ℕ
       y = newEmitter (orderOf p) nx
 
+      -- alone, where it is the last
+      abbrev lone : Node
+      lone = alone x (leftList nx) (leftMark nx)
+
       un : listed (leftList nx) x ≡ false
       un = listing-other (nx .list) (nx .emitter) x other ((r .live x alive-x) .lists)
 
@@ -108,9 +113,10 @@ module _ (p : Plan) (ac : Accepted p) where
           stop : (gone : List InFlight) → Cause (P p ac) (view p s) t x gone → Leaves (P p ac) (view p s) t x gone (listed (leftList nx)) y
               → ((g : InFlight) → List·Memᴰ g (s .flight) → List·Memᴰ g gone ⊎ List·Memᴰ g rest) → Does (taken p s t x rest u)
           stop _ (byExpiry on due none) l kp = record {
-            step = aloneS t x (listed (leftList nx)) record {
+            step = aloneS t x (listed (leftList nx)) (listed (leftMark nx)) record {
               leaves = rw e at l;
-              frame = frame p ac s r t x [] rest (silent (alone x (leftList nx))) _ xN a b (live-is x alive-x (alone x (leftList nx))) kp old;
+              marks = adds p ac s r (nx .mark) (nx .emitter);
+              frame = frame p ac s r t x [] rest (silent lone) _ xN a b (live-is x alive-x lone) kp old;
             };
             last = refl;
             spaced = λ sp. tt;
@@ -118,10 +124,11 @@ module _ (p : Plan) (ac : Accepted p) where
           }
           stop _ (byReport m h to k about due) l kp = absurd (report-not-alone (P p ac) (view p s) (view p s) i t x _ _ y l m h to k due e)
       leaves-does u (moves ne) = record {
-        step = moves-on t x gone (listed (leftList nx)) _
-            (record { number = s .next; kind = O; from = x; to = y; subject = 0; due = t + delayOf p (s .next) })
+        step = moves-on t x gone (listed (leftList nx)) (listed (leftMark nx)) _
+            (record { number = s .next; kind = O; from = x; to = y; subject = 0; due = t + delayOf p (s .next); list = 0 })
             (numbered p t x (suc (s .next)) (reports (nx .emitter) (targets (orderOf p) (leftList nx) (place (orderOf p) x)))) record {
               leaves = leaving;
+              marks = adds p ac s r (nx .mark) (nx .emitter);
               other = ne;
               o-by = refl;
               o-after = omega (arith, (delay-ok p (ac .plain) (s .next)) .0);
@@ -129,8 +136,8 @@ module _ (p : Plan) (ac : Accepted p) where
               o-kind = refl;
               o-to = refl;
               rs = told p ac s r x t (nx .emitter) (leftList nx) (suc (s .next)) xN un;
-              frame = frame p ac s r t x gone rest (sending (moved (p .w) t y (leftList nx) nx) (movedSends (orderOf p) (p .w) t x nx)) _ xN a b
-                  (live-is x alive-x (moved (p .w) t y (leftList nx) nx)) keeps old;
+              frame = frame p ac s r t x gone rest (sending (moved (p .w) t y nx) (movedSends (orderOf p) (p .w) t x nx)) _ xN a b
+                  (live-is x alive-x (moved (p .w) t y nx)) keeps old;
             };
         last = refl;
         spaced = λ sp. tt;
@@ -175,10 +182,25 @@ module _ (p : Plan) (ac : Accepted p) where
       timer-least : NotBefore p s (suc t) (suc t) t → AtTimer (P p ac) (view p s) t
       timer-least nb = least p ac s r (suc t) (suc t) t nb
 
+      -- the heartbeat that x sends, and the same in flight
+      abbrev beat-of : ℕ → Message
+      beat-of x = beatTo ((nodeOf s x) .observer) ((nodeOf s x) .list)
+
+      abbrev numberedBeat : ℕ → InFlight
+      numberedBeat x = record {
+        number = s .next;
+        kind = H;
+        from = x;
+        to = (nodeOf s x) .observer;
+        subject = 0;
+        due = t + delayOf p (s .next);
+        list = (nodeOf s x) .list;
+      }
+
       beat-does : (x : ℕ) → Chosen p (ac .plain) s t (beatE x) → Does (apply p s t (beatE x))
       unfolding Chosen apply taken numbered
       beat-does x ch = rw (beaten (p .h) t (nodeOf s x)) (record {
-        step = sends t x (record { number = s .next; kind = H; from = x; to = (nodeOf s x) .observer; subject = 0; due = t + delayOf p (s .next) }) record {
+        step = sends t x (numberedBeat x) record {
           live = ch .1;
           on = (on-of ((nodeOf s x) .heartbeat) t (ch .2)) .0;
           due = (on-of ((nodeOf s x) .heartbeat) t (ch .2)) .1;
@@ -187,8 +209,9 @@ module _ (p : Plan) (ac : Accepted p) where
           within = omega (arith, (delay-ok p (ac .plain) (s .next)) .1);
           kind = refl;
           to = refl;
+          carries = λ k. refl;
           least = timer-least (ch .3);
-          frame = frame p ac s r t x [] (s .flight) (sending (withHeartbeat (nodeOf s x) (due (t + p .h))) (message H ((nodeOf s x) .observer) 0 ∷ [])) _
+          frame = frame p ac s r t x [] (s .flight) (sending (withHeartbeat (nodeOf s x) (due (t + p .h))) (beat-of x ∷ [])) _
               (in-n p (ac .plain) s r x (ch .0)) a b (live-is x (ch .1) (withHeartbeat (nodeOf s x) (due (t + p .h)))) (λ g h. inr h) (λ g h. h);
         };
         last = refl;
@@ -259,7 +282,7 @@ module _ (p : Plan) (ac : Accepted p) where
       }
 
       idles : alive p (s .done) x ≡ true
-          → ((m .kind ≡ H) × (n .emitter ≢ m .from)) ⊎ ((m .kind ≡ R) × ((listed (n .list) (m .subject) ≡ true) ⊎ (m .subject ≡ m .to)))
+          → ((m .kind ≡ H) × (n .emitter ≢ m .from)) ⊎ ((m .kind ≡ R) × ((listed (n .mark) (m .subject) ≡ true) ⊎ (m .subject ≡ m .to)))
           → Goes (silent n)
       unfolding taken numbered
       idles l why = record {
@@ -269,11 +292,22 @@ module _ (p : Plan) (ac : Accepted p) where
         more = omega arith;
       }
 
-      heartbeat-does : alive p (s .done) x ≡ true → m .kind ≡ H → (u : Turn) → Heard (p .w) (m .due) (m .from) n u → Goes u
+      abbrev heard-list : ℕ
+      heard-list = heardList (p .w) (m .due) x (m .from) (m .list) n
+
+      heartbeat-does : alive p (s .done) x ≡ true → m .kind ≡ H → (u : Turn) → Heard (p .w) (m .due) x (m .from) (m .list) n u → Goes u
       unfolding taken numbered
       heartbeat-does l k0 u (unheard e) = idles l (inl (k0, e))
-      heartbeat-does l k0 u (renews e) = let v : Node = withWatch n (due (m .due + p .w)) in record {
-        step = beat m record { has = has; live = l; kind = k0; of = e; least = dl; frame = fr (silent v) _ (live-is x l v) };
+      heartbeat-does l k0 u (renews e) = let v : Node = withList (withWatch n (due (m .due + p .w))) heard-list in record {
+        step = beat m (listed heard-list) record {
+          has = has;
+          live = l;
+          kind = k0;
+          of = e;
+          learns = learns p ac s r x m (n .list);
+          least = dl;
+          frame = fr (silent v) _ (live-is x l v);
+        };
         last = refl;
         spaced = λ sp. tt;
         more = omega arith;
@@ -303,17 +337,19 @@ module _ (p : Plan) (ac : Accepted p) where
           (without-in (s .flight) k) v g
       report-does l k2 u (relays fresh ne other) =
           let list : ℕ = listing (n .list) (m .subject) in
+          let told-node : Node = toldNode (orderOf p) (p .w) (m .due) x (m .subject) n in
           let un : listed list x ≡ false = listing-other (n .list) (m .subject) x ne ((r .live x l) .lists) in
           record {
-            step = report m (listed list) _ record {
+            step = report m (listed list) (listed (listing (n .mark) (m .subject))) _ record {
               has = has;
               live = l;
               kind = k2;
               adds = adds p ac s r (n .list) (m .subject);
+              marks = adds p ac s r (n .mark) (m .subject);
               fresh = fresh;
               rs = told p ac s r x (m .due) (m .subject) list (s .next) (fl .to) un;
               least = dl;
-              frame = fr (sending (withList n list) (reports (m .subject) (targets (orderOf p) list (place (orderOf p) x)))) _ (live-is x l (withList n list));
+              frame = fr (sending told-node (toldSends (orderOf p) (p .w) (m .due) x (m .subject) n)) _ (live-is x l told-node);
             };
             last = refl;
             spaced = λ sp. tt;
@@ -323,10 +359,10 @@ module _ (p : Plan) (ac : Accepted p) where
       message-does : Does (apply p s (m .due) (messageE k))
       unfolding apply received
       message-does =
-          go (alive p (s .done) x) refl (onMessage (orderOf p) (p .w) (m .due) x (m .kind) (m .from) (m .subject) n)
-          (messaged (orderOf p) (p .w) (m .due) x (m .kind) (m .from) (m .subject) n)
+          go (alive p (s .done) x) refl (onMessage (orderOf p) (p .w) (m .due) x (m .kind) (m .from) (m .subject) (m .list) n)
+          (messaged (orderOf p) (p .w) (m .due) x (m .kind) (m .from) (m .subject) (m .list) n)
         where
-          go : (c : Bool) → alive p (s .done) x ≡ c → (u : Turn) → Messaged (orderOf p) (p .w) (m .due) x (m .kind) (m .from) (m .subject) n u
+          go : (c : Bool) → alive p (s .done) x ≡ c → (u : Turn) → Messaged (orderOf p) (p .w) (m .due) x (m .kind) (m .from) (m .subject) (m .list) n u
               → Goes (cond c u (silent n))
           go false l u h = drops l
           go true l u (beats e v h) = heartbeat-does l e v h

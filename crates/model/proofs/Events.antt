@@ -5,13 +5,14 @@ use mathlib.Core.Logic.{_⊎_, _≢_}
 use mathlib.Core.List.{List, [], _∷_, List·Memᴰ}
 use mathlib.Core.Bool.{Bool, true, false}
 use Prim.Native.Nat.{ℕ, suc, _+_, _*_, _^_, _≤_, _<_}
+use Rattle.ring.specs.Ring.{listed}
 use Rattle.node.specs.Node.{H, O, R}
 use Rattle.model.specs.Platform.{InFlight}
 use Rattle.ring.proofs.GoingBack.{iter, First}
 
 -- ---- states
 
--- a node, its timers as on or off and a tick, its dead list as a test
+-- a node, its timers as on or off and a tick, its dead list and its mark as tests
 pub record Seen : Type 0 where
   pub alive : Bool
   pub emitter : ℕ
@@ -21,6 +22,7 @@ pub record Seen : Type 0 where
   pub heartbeatOn : Bool
   pub heartbeat : ℕ
   pub list : ℕ → Bool
+  pub mark : ℕ → Bool
 
 -- the last event's tick, the nodes, the messages in flight
 pub record View : Type 0 where
@@ -38,17 +40,25 @@ Dead s j = (s .node j) .alive ≡ false
 abbrev pub Lists : View → ℕ → ℕ → Type 0
 Lists s j k = (s .node j) .list k ≡ true
 
+-- j has marked k
+abbrev pub Marks : View → ℕ → ℕ → Type 0
+Marks s j k = (s .node j) .mark k ≡ true
+
+-- the list that m carries has k
+abbrev pub Carries : InFlight → ℕ → Type 0
+Carries m k = listed (m .list) k ≡ true
+
 infix 40 _∈_
 abbrev pub _∈_ : InFlight → List InFlight → Type 0
 m ∈ l = List·Memᴰ m l
 
 -- ---- what a run file fixes, and the laws of its ring
 
--- a message that changes nothing: H not from the emitter, R of a listed node or of the receiver
+-- a message that changes nothing: H not from the emitter, R of a marked node or of the receiver
 abbrev pub Ignored : View → InFlight → Type 0
 Ignored s m =
     ((m .kind ≡ H) × ((s .node (m .to)) .emitter ≢ m .from))
-    ⊎ ((m .kind ≡ R) × (Lists s (m .to) (m .subject) ⊎ (m .subject ≡ m .to)))
+    ⊎ ((m .kind ≡ R) × (Marks s (m .to) (m .subject) ⊎ (m .subject ≡ m .to)))
 
 -- c k is the tick of node k's crash, where one is planned; gap j k is how many steps back from j the node k stands, a full round for j
 -- itself; cnt is the count of unlisted nodes, ahead l x k the node k unlisted nodes ahead of x
@@ -149,11 +159,12 @@ module _ (p : Params) where
         heartbeatOn = n .heartbeatOn;
         heartbeat = n .heartbeat;
         list = n .list;
+        mark = n .mark;
       }
 
-  -- a heartbeat from the emitter came at t
-  abbrev pub beaten : Seen → ℕ → Seen
-  beaten n t =
+  -- a heartbeat from the emitter came at t, and its list became l
+  abbrev pub beaten : Seen → (ℕ → Bool) → ℕ → Seen
+  beaten n l t =
       record {
         alive = true;
         emitter = n .emitter;
@@ -162,17 +173,28 @@ module _ (p : Params) where
         watch = t + p .W;
         heartbeatOn = n .heartbeatOn;
         heartbeat = n .heartbeat;
-        list = n .list;
+        list = l;
+        mark = n .mark;
       }
 
   -- an O of a came at t
   abbrev pub watching : Seen → ℕ → ℕ → Seen
   watching n a t =
-      record { alive = true; emitter = n .emitter; observer = a; watchOn = n .watchOn; watch = n .watch; heartbeatOn = true; heartbeat = t; list = n .list }
+      record {
+        alive = true;
+        emitter = n .emitter;
+        observer = a;
+        watchOn = n .watchOn;
+        watch = n .watch;
+        heartbeatOn = true;
+        heartbeat = t;
+        list = n .list;
+        mark = n .mark;
+      }
 
-  -- its list became l
-  abbrev pub listing : Seen → (ℕ → Bool) → Seen
-  listing n l =
+  -- its list became l, its mark k
+  abbrev pub listing : Seen → (ℕ → Bool) → (ℕ → Bool) → Seen
+  listing n l k =
       record {
         alive = true;
         emitter = n .emitter;
@@ -182,11 +204,12 @@ module _ (p : Params) where
         heartbeatOn = n .heartbeatOn;
         heartbeat = n .heartbeat;
         list = l;
+        mark = k;
       }
 
-  -- it left its emitter at t: the list became l, the emitter e
-  abbrev pub moving : Seen → (ℕ → Bool) → ℕ → ℕ → Seen
-  moving n l e t =
+  -- it left its emitter at t: the list became l, the mark k, the emitter e
+  abbrev pub moving : Seen → (ℕ → Bool) → (ℕ → Bool) → ℕ → ℕ → Seen
+  moving n l k e t =
       record {
         alive = true;
         emitter = e;
@@ -196,11 +219,12 @@ module _ (p : Params) where
         heartbeatOn = n .heartbeatOn;
         heartbeat = n .heartbeat;
         list = l;
+        mark = k;
       }
 
   -- alone
-  abbrev pub left : ℕ → (ℕ → Bool) → Seen
-  left x l = record { alive = true; emitter = x; observer = x; watchOn = false; watch = 0; heartbeatOn = false; heartbeat = 0; list = l }
+  abbrev pub left : ℕ → (ℕ → Bool) → (ℕ → Bool) → Seen
+  left x l k = record { alive = true; emitter = x; observer = x; watchOn = false; watch = 0; heartbeatOn = false; heartbeat = 0; list = l; mark = k }
 
   -- its heartbeat was sent at t
   abbrev pub sending : Seen → ℕ → Seen
@@ -214,6 +238,7 @@ module _ (p : Params) where
         heartbeatOn = true;
         heartbeat = t + p .H;
         list = n .list;
+        mark = n .mark;
       }
 
   -- ---- the events
@@ -240,14 +265,21 @@ module _ (p : Params) where
     pub least : AtMessage s (m .due)
     pub frame : Frame s s' (m .due) (m .to) (s .node (m .to)) (m ∷ []) []
 
+  -- list' is the list of node x with what m carries added, without x and the sender
+  pub record Learns (x : ℕ) (m : InFlight) (list list' : ℕ → Bool) : Type 0 where
+    pub kept : (a : ℕ) → list a ≡ true → list' a ≡ true
+    pub takes : (a : ℕ) → Carries m a → a ≢ x → a ≢ m .from → list' a ≡ true
+    pub only : (a : ℕ) → list' a ≡ true → (list a ≡ true) ⊎ (Carries m a × (a ≢ x) × (a ≢ m .from))
+
   -- a heartbeat from the emitter
-  pub record Beat (s s' : View) (m : InFlight) : Type 0 where
+  pub record Beat (s s' : View) (m : InFlight) (list' : ℕ → Bool) : Type 0 where
     pub has : m ∈ s .flight
     pub live : Live s (m .to)
     pub kind : m .kind ≡ H
     pub of : (s .node (m .to)) .emitter ≡ m .from
+    pub learns : Learns (m .to) m ((s .node (m .to)) .list) list'
     pub least : AtMessage s (m .due)
-    pub frame : Frame s s' (m .due) (m .to) (beaten (s .node (m .to)) (m .due)) (m ∷ []) []
+    pub frame : Frame s s' (m .due) (m .to) (beaten (s .node (m .to)) list' (m .due)) (m ∷ []) []
 
   -- message O
   pub record Watched (s s' : View) (m : InFlight) : Type 0 where
@@ -257,16 +289,17 @@ module _ (p : Params) where
     pub least : AtMessage s (m .due)
     pub frame : Frame s s' (m .due) (m .to) (watching (s .node (m .to)) (m .from) (m .due)) (m ∷ []) []
 
-  -- a report of a node that is not listed yet and is not the emitter
-  pub record Report (s s' : View) (m : InFlight) (list' : ℕ → Bool) (out : List InFlight) : Type 0 where
+  -- a report of a node that is not marked yet and is not the emitter
+  pub record Report (s s' : View) (m : InFlight) (list' mark' : ℕ → Bool) (out : List InFlight) : Type 0 where
     pub has : m ∈ s .flight
     pub live : Live s (m .to)
     pub kind : m .kind ≡ R
     pub adds : Adds ((s .node (m .to)) .list) list' (m .subject)
-    pub fresh : (s .node (m .to)) .list (m .subject) ≡ false
+    pub marks : Adds ((s .node (m .to)) .mark) mark' (m .subject)
+    pub fresh : (s .node (m .to)) .mark (m .subject) ≡ false
     pub rs : Reports (m .to) (m .due) (m .subject) list' out
     pub least : AtMessage s (m .due)
-    pub frame : Frame s s' (m .due) (m .to) (listing (s .node (m .to)) list') (m ∷ []) out
+    pub frame : Frame s s' (m .due) (m .to) (listing (s .node (m .to)) list' mark') (m ∷ []) out
 
   -- why x leaves its emitter at t, and the message that is delivered by it: the watch is due, and no message is; or a report of the emitter
   pub data Cause (s : View) (t x : ℕ) : List InFlight → Type 0 where
@@ -284,8 +317,9 @@ module _ (p : Params) where
     pub least : AtMessage s t
 
   -- x moves to e: o is the O, out are the reports
-  pub record Moves (s s' : View) (t x : ℕ) (gone : List InFlight) (list' : ℕ → Bool) (e : ℕ) (o : InFlight) (out : List InFlight) : Type 0 where
+  pub record Moves (s s' : View) (t x : ℕ) (gone : List InFlight) (list' mark' : ℕ → Bool) (e : ℕ) (o : InFlight) (out : List InFlight) : Type 0 where
     pub leaves : Leaves s t x gone list' e
+    pub marks : Adds ((s .node x) .mark) mark' ((s .node x) .emitter)
     pub other : e ≢ x
     pub o-by : o .from ≡ x
     pub o-after : t < o .due
@@ -293,12 +327,13 @@ module _ (p : Params) where
     pub o-kind : o .kind ≡ O
     pub o-to : o .to ≡ e
     pub rs : Reports x t ((s .node x) .emitter) list' out
-    pub frame : Frame s s' t x (moving (s .node x) list' e t) gone (o ∷ out)
+    pub frame : Frame s s' t x (moving (s .node x) list' mark' e t) gone (o ∷ out)
 
   -- x is alone, by its expired watch
-  pub record Alone (s s' : View) (t x : ℕ) (list' : ℕ → Bool) : Type 0 where
+  pub record Alone (s s' : View) (t x : ℕ) (list' mark' : ℕ → Bool) : Type 0 where
     pub leaves : Leaves s t x [] list' x
-    pub frame : Frame s s' t x (left x list') [] []
+    pub marks : Adds ((s .node x) .mark) mark' ((s .node x) .emitter)
+    pub frame : Frame s s' t x (left x list' mark') [] []
 
   -- the heartbeat of x is due at t: it sends m
   pub record Sends (s s' : View) (t x : ℕ) (m : InFlight) : Type 0 where
@@ -310,6 +345,7 @@ module _ (p : Params) where
     pub within : m .due ≤ t + p .D
     pub kind : m .kind ≡ H
     pub to : m .to ≡ (s .node x) .observer
+    pub carries : (a : ℕ) → listed (m .list) a ≡ (s .node x) .list a
     pub least : AtTimer s t
     pub frame : Frame s s' t x (sending (s .node x) t) [] (m ∷ [])
 
@@ -317,10 +353,10 @@ module _ (p : Params) where
     crash : (t k : ℕ) → Crash s s' t k → Step s s'
     drop : (m : InFlight) → Drop s s' m → Step s s'
     idle : (m : InFlight) → Idle s s' m → Step s s'
-    beat : (m : InFlight) → Beat s s' m → Step s s'
+    beat : (m : InFlight) (list' : ℕ → Bool) → Beat s s' m list' → Step s s'
     watched : (m : InFlight) → Watched s s' m → Step s s'
-    report : (m : InFlight) (list' : ℕ → Bool) (out : List InFlight) → Report s s' m list' out → Step s s'
-    moves : (t x : ℕ) (gone : List InFlight) (list' : ℕ → Bool) (e : ℕ) (o : InFlight) (out : List InFlight)
-        → Moves s s' t x gone list' e o out → Step s s'
-    alone : (t x : ℕ) (list' : ℕ → Bool) → Alone s s' t x list' → Step s s'
+    report : (m : InFlight) (list' mark' : ℕ → Bool) (out : List InFlight) → Report s s' m list' mark' out → Step s s'
+    moves : (t x : ℕ) (gone : List InFlight) (list' mark' : ℕ → Bool) (e : ℕ) (o : InFlight) (out : List InFlight)
+        → Moves s s' t x gone list' mark' e o out → Step s s'
+    alone : (t x : ℕ) (list' mark' : ℕ → Bool) → Alone s s' t x list' mark' → Step s s'
     sends : (t x : ℕ) (m : InFlight) → Sends s s' t x m → Step s s'

@@ -6,7 +6,7 @@ use Prim.Native.Nat.{ℕ, _+_, _≤_, _<_}
 use native.Mathlib.Omega.{arith}
 use Rattle.node.specs.Node.{H, O, R}
 use Rattle.model.specs.Platform.{InFlight}
-use Rattle.model.proofs.Events.{View, Live, Dead, Lists, _∈_, Params}
+use Rattle.model.proofs.Events.{View, Live, Dead, Lists, Marks, Carries, _∈_, Params}
 use Rattle.model.proofs.Invariant.{Tied, Gone, Base}
 
 pub not-true : (b : Bool) → (b ≡ true → ⊥) → b ≡ false
@@ -35,6 +35,7 @@ module _ (p : Params) where
     pub observer : m .kind ≡ O → Tied p s' (m .from) (m .to)
     pub report : m .kind ≡ R → GoneBy s t (m .subject)
     pub N : m .kind ≡ R → (m .from < p .N) × (m .to < p .N)
+    pub carried : m .kind ≡ H → (k : ℕ) → Carries m k → GoneBy s t k
 
   -- what every event does alike
   pub record Alike (s s' : View) (t : ℕ) : Type 0 where
@@ -44,6 +45,7 @@ module _ (p : Params) where
     pub died : (k : ℕ) → Dead s' k → Dead s k ⊎ ((p .planned k ≡ true) × (p .c k ≤ t))
     pub list : (j k : ℕ) → Lists s j k → Lists s' j k
     pub list' : (j k : ℕ) → Lists s' j k → Lists s j k ⊎ GoneBy s t k
+    pub mark : (j k : ℕ) → Marks s' j k → Marks s j k ⊎ Lists s' j k
     pub emitter : (j : ℕ) → ((s' .node j) .emitter ≡ (s .node j) .emitter) ⊎ Moved s s' j
     pub observer : (a : ℕ)
         → ((s' .node a) .observer ≡ (s .node a) .observer) ⊎ (Tied p s ((s' .node a) .observer) a ⊎ Tied p s' ((s' .node a) .observer) a)
@@ -98,6 +100,13 @@ module _ (p : Params) where
           go (inl o) = gone-mono k (i .listed j k o)
           go (inr g) = late k g
 
+      marked : (j k : ℕ) → Marks s' j k → Lists s' j k
+      marked j k h = go (f .mark j k h)
+        where
+          go : Marks s j k ⊎ Lists s' j k → Lists s' j k
+          go (inl o) = f .list j k (i .marked j k o)
+          go (inr l) = l
+
       observer : (a : ℕ) → Tied p s' ((s' .node a) .observer) a
       observer a = go (f .observer a)
         where
@@ -115,6 +124,7 @@ module _ (p : Params) where
         observer : m .kind ≡ O → Tied p s' (m .from) (m .to)
         report : m .kind ≡ R → Gone p s' (m .subject)
         N : m .kind ≡ R → (m .from < p .N) × (m .to < p .N)
+        carried : m .kind ≡ H → (k : ℕ) → Carries m k → Gone p s' k
 
       -- a message of before, or a new one
       msg : (m : InFlight) → (m ∈ s .flight) ⊎ NewMessage s s' t m → All m
@@ -126,6 +136,7 @@ module _ (p : Params) where
         observer = n .observer;
         report = λ k. late (m .subject) (n .report k);
         N = n .N;
+        carried = λ q k c. late k (n .carried q k c);
       }
       msg m (inl o) = record {
         due = f .message≥ m o;
@@ -135,6 +146,7 @@ module _ (p : Params) where
         observer = λ k. reached-mono (m .from) (m .to) (i .m-O m o k);
         report = λ k. gone-mono (m .subject) (i .reported m o k);
         N = i .m-N m o;
+        carried = λ q k c. gone-mono k (i .carried m o q k c);
       }
 
       all : (m : InFlight) → m ∈ s' .flight → All m
@@ -147,6 +159,8 @@ module _ (p : Params) where
         between = between;
         listed = listed;
         reported = λ m h k. (all m h) .report k;
+        carried = λ m h. (all m h) .carried;
+        marked = marked;
         m-due = λ m h. rw (f .last') ((all m h) .due);
         m-from = λ m h. (all m h) .from;
         m-H = λ m h. (all m h) .heartbeat;

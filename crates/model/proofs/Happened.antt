@@ -91,7 +91,7 @@ module _ (p : Plan) (pl : Plain p) (s : State) (t x : ℕ) (h : x < length (s .n
   watch-there q = ap (λ (c : List Entry). nextCrash (drop (s .done) (p .crashes)) ++ (messageEntries 0 (s .flight) ++ c)) mine ∙ simp append-assoc
     where
       mine : timerEntries p (s .done) 0 (s .nodes) ≡ Before ++ (Mine ++ timerEntries p (s .done) (suc x) (drop (suc x) (s .nodes)))
-      mine = rw (zero-add x, l, q) at (timer-split p (s .done) (alone x 0) (s .nodes) 0 x h)
+      mine = rw (zero-add x, l, q) at (timer-split p (s .done) (alone x 0 0) (s .nodes) 0 x h)
 
   not-among : List·Memᴰ beat (Others ++ Before) → ⊥
   not-among m = three (List·Memᴰ·append-cases Others m)
@@ -101,14 +101,14 @@ module _ (p : Plan) (pl : Plain p) (s : State) (t x : ℕ) (h : x < length (s .n
       two (inr m) = let r = msg-in (s .flight) 0 beat m in let z : _≡_ {A = ℕ} 0 1 = cc (ap (λ (a : Entry). a .event) (r .2)) in omega arith
 
       timer : (r : Ticks p (s .done) 0 (take x (s .nodes)) beat)
-          → ((heartbeat x ≡ watch (0 + r .i)) × ((getD (take x (s .nodes)) (r .i) (alone 0 0)) .watch ≡ suc t))
-          ⊎ ((heartbeat x ≡ heartbeat (0 + r .i)) × ((getD (take x (s .nodes)) (r .i) (alone 0 0)) .heartbeat ≡ suc t)) → ⊥
+          → ((heartbeat x ≡ watch (0 + r .i)) × ((getD (take x (s .nodes)) (r .i) (alone 0 0 0)) .watch ≡ suc t))
+          ⊎ ((heartbeat x ≡ heartbeat (0 + r .i)) × ((getD (take x (s .nodes)) (r .i) (alone 0 0 0)) .heartbeat ≡ suc t)) → ⊥
       timer r (inl q) = let z : _≡_ {A = ℕ} 0 1 = cc (q .0) in omega arith
       timer r (inr q) = let z : x ≡ 0 + r .i = cc (q .0) in omega (arith, r .less, length-take x (s .nodes))
 
       three : List·Memᴰ beat Others ⊎ List·Memᴰ beat Before → ⊥
       three (inl m) = two (List·Memᴰ·append-cases (nextCrash (drop (s .done) (p .crashes))) m)
-      three (inr m) = let r = timer-in p (s .done) (take x (s .nodes)) 0 beat m in timer r (r .which (alone 0 0))
+      three (inr m) = let r = timer-in p (s .done) (take x (s .nodes)) 0 beat m in timer r (r .which (alone 0 0 0))
 
   -- where a node's heartbeat is the next event, its watch is not due at that tick
   pub watch-first : nextEvent p s ≡ some (entry t (heartbeat x)) → (nodeOf s x) .watch ≢ suc t

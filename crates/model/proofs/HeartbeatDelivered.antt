@@ -1,6 +1,6 @@
 -- A heartbeat from the emitter keeps the invariant. Assumes nothing.
 use mathlib.Core.Path.{_≡_, refl, ap, sym, _∙_}
-use mathlib.Core.Logic.{inl, _≢_}
+use mathlib.Core.Logic.{_⊎_, inl, inr, _≢_}
 use mathlib.Core.List.{[], _∷_, List·Memᴰ·not-nil}
 use mathlib.Core.Bool.{Bool, true, false, true≢false}
 use Prim.Native.Nat.{ℕ, _+_, _≤_}
@@ -8,27 +8,35 @@ use native.Mathlib.Omega.{arith}
 use native.Mathlib.Decide.{ℕ-discrete}
 use Rattle.node.specs.Node.{H, O}
 use Rattle.model.specs.Platform.{InFlight}
-use Rattle.model.proofs.Events.{Seen, View, Live, Params, Beat, beaten}
-use Rattle.model.proofs.Invariant.{Inv, Covered, byTimer, byCrash}
-use Rattle.model.proofs.EveryEvent.{Alike, base'}
+use Rattle.model.proofs.Events.{Seen, View, Live, Lists, Carries, Params, Beat, beaten}
+use Rattle.model.proofs.Invariant.{Inv, Gone, Covered, byTimer, byCrash}
+use Rattle.model.proofs.EveryEvent.{GoneBy, Alike, base'}
 use Rattle.model.proofs.OneState.{emitter-beats}
 use Rattle.model.proofs.OneNode.{OnEach, each, alike, timers}
 use Rattle.model.proofs.WatchKept.{stays, came0, other-kind, Same, covered-map, answered-map, same-node}
 
 module _ (p : Params) (s s' : View) (i : Inv p s) where
-  module _ (m : InFlight) (e : Beat p s s' m) where
-    beat-all : OnEach s s' (m .to) (beaten p (s .node (m .to)) (m .due))
+  module _ (m : InFlight) (list' : ℕ → Bool) (e : Beat p s s' m list') where
+    beat-all : OnEach s s' (m .to) (beaten p (s .node (m .to)) list' (m .due))
     beat-all = each p s s' (m .due) (m .to) _ (m ∷ []) [] (e .frame)
 
     beat-now : s .last ≤ m .due
     beat-now = i .base .m-due m (e .has)
 
+    -- what it learns was gone when the heartbeat was sent
+    learnt-gone : (a : ℕ) → Lists s (m .to) a ⊎ (Carries m a × (a ≢ m .to) × (a ≢ m .from)) → Lists s (m .to) a ⊎ GoneBy p s (m .due) a
+    learnt-gone a (inl h) = inl h
+    learnt-gone a (inr h) =
+        let g : Gone p s a = i .base .carried m (e .has) (e .kind) a (h .0) in
+        inr record { dead = g .dead; long = omega (arith, g .long, beat-now) }
+
     beat-alike : Alike p s s' (m .due)
     beat-alike = alike p s s' (m .due) (m .to) _ (m ∷ []) [] (e .frame) (e .least) (omega arith) (omega arith) beat-now record {
       alive = λ h. e .live;
       died = λ h. absurd (true≢false h);
-      list = λ a h. h;
-      list' = λ a h. inl h;
+      list = e .learns .kept;
+      list' = λ a h. learnt-gone a (e .learns .only a h);
+      mark = λ a h. inl h;
       emitter = inl refl;
       observer = inl refl;
       new = λ m h. absurd (List·Memᴰ·not-nil h);

@@ -9,8 +9,8 @@ use native.Mathlib.Decide.{ℕ-discrete}
 use Rattle.node.specs.Node.{H}
 use Rattle.model.specs.Platform.{InFlight}
 use Rattle.model.proofs.Events.{Seen, View, Live, _∈_, Params, Sends, sending}
-use Rattle.model.proofs.Invariant.{Inv, Answered, Covered, byHeartbeat, byTimer, byObserver, byCrash}
-use Rattle.model.proofs.EveryEvent.{live-not-dead, Alike, base'}
+use Rattle.model.proofs.Invariant.{Inv, Gone, Answered, Covered, byHeartbeat, byTimer, byObserver, byCrash}
+use Rattle.model.proofs.EveryEvent.{live-not-dead, GoneBy, Alike, base'}
 use Rattle.model.proofs.OneNode.{OnEach, each, alike, timers}
 use Rattle.model.proofs.WatchKept.{stays0, covered-map, same-node}
 
@@ -22,12 +22,16 @@ module _ (p : Params) (s s' : View) (i : Inv p s) where
     sends-now : s .last ≤ t
     sends-now = omega (arith, (i .timers x (e .live)) .heartbeat≥ (e .on), e .due)
 
+    gone-by : (k : ℕ) → Gone p s k → GoneBy p s t k
+    gone-by k g = record { dead = g .dead; long = omega (arith, g .long, sends-now) }
+
     sends-alike : Alike p s s' t
     sends-alike = alike p s s' t x _ [] (m ∷ []) (e .frame) (e .least) (omega arith) (omega arith) sends-now record {
       alive = λ h. e .live;
       died = λ h. absurd (true≢false h);
       list = λ a h. h;
       list' = λ a h. inl h;
+      mark = λ a h. inl h;
       emitter = inl refl;
       observer = inl refl;
       new = λ g h. rw (List·Memᴰ·eq-of-singleton h) (record {
@@ -38,6 +42,7 @@ module _ (p : Params) (s s' : View) (i : Inv p s) where
         observer = λ k. absurd (omega (arith, e .kind));
         report = λ k. absurd (omega (arith, e .kind));
         N = λ k. absurd (omega (arith, e .kind));
+        carried = λ q k c. gone-by k (i .base .listed x k (sym (e .carries k) ∙ c));
       });
     }
 

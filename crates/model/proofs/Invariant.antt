@@ -6,7 +6,7 @@ use mathlib.Core.Bool.{true, false}
 use Prim.Native.Nat.{ℕ, _+_, _≤_, _<_}
 use Rattle.node.specs.Node.{H, O, R}
 use Rattle.model.specs.Platform.{InFlight}
-use Rattle.model.proofs.Events.{Seen, View, Live, Dead, Lists, _∈_, Params}
+use Rattle.model.proofs.Events.{Seen, View, Live, Dead, Lists, Marks, Carries, _∈_, Params}
 
 -- a live node whose heartbeat is on its way to a live node that observes it has that node as its observer
 abbrev pub Answered : View → Type 0
@@ -45,6 +45,10 @@ module _ (p : Params) where
     pub listed : (j k : ℕ) → Lists s j k → Gone s k
     -- and so is the subject of a report
     pub reported : (m : InFlight) → m ∈ s .flight → m .kind ≡ R → Gone s (m .subject)
+    -- and so are the nodes of a list that is carried
+    pub carried : (m : InFlight) → m ∈ s .flight → m .kind ≡ H → (k : ℕ) → Carries m k → Gone s k
+    -- a marked node is listed
+    pub marked : (j k : ℕ) → Marks s j k → Lists s j k
     -- no message is due before the last event
     pub m-due : (m : InFlight) → m ∈ s .flight → s .last ≤ m .due
     -- a message is due less than D ticks after its sender's crash

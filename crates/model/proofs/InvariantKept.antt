@@ -24,11 +24,11 @@ module _ (p : Params) where
   step-inv s s' i (crash t k e) = crash-inv p s s' i t k e
   step-inv s s' i (drop m e) = drop-inv p s s' i m e
   step-inv s s' i (idle m e) = idle-inv p s s' i m e
-  step-inv s s' i (beat m e) = beat-inv p s s' i m e
+  step-inv s s' i (beat m list' e) = beat-inv p s s' i m list' e
   step-inv s s' i (watched m e) = observer-inv p s s' i m e
-  step-inv s s' i (report m list' out e) = report-inv p s s' i m list' out e
-  step-inv s s' i (moves t x gone list' y o out e) = moves-inv p s s' i t x gone list' y o out e
-  step-inv s s' i (alone t x list' e) = alone-inv p s s' i t x list' e
+  step-inv s s' i (report m list' mark' out e) = report-inv p s s' i m list' mark' out e
+  step-inv s s' i (moves t x gone list' mark' y o out e) = moves-inv p s s' i t x gone list' mark' y o out e
+  step-inv s s' i (alone t x list' mark' e) = alone-inv p s s' i t x list' mark' e
   step-inv s s' i (sends t x m e) = sends-inv p s s' i t x m e
 
   -- the opening: each node observes the one before and sends to the one after
@@ -37,6 +37,7 @@ module _ (p : Params) where
     pub flight : s .flight ≡ []
     pub live : (j : ℕ) → Live s j
     pub empty : (j k : ℕ) → (s .node j) .list k ≡ false
+    pub unmarked : (j k : ℕ) → (s .node j) .mark k ≡ false
     pub inN : (j : ℕ) → (s .node j) .emitter ≢ j → (j < p .N) × ((s .node j) .emitter < p .N)
     pub before : (j k : ℕ) → p .gap j ((s .node j) .emitter) ≤ p .gap j k
     pub mutual-l : (j : ℕ) → (s .node ((s .node j) .emitter)) .observer ≡ j
@@ -53,6 +54,8 @@ module _ (p : Params) where
       between = λ j k h. absurd (omega (arith, o .before j k));
       listed = λ j k l. absurd (live-not-dead l (o .empty j k));
       reported = λ m h. absurd (none m h);
+      carried = λ m h. absurd (none m h);
+      marked = λ j k l. absurd (live-not-dead l (o .unmarked j k));
       m-due = λ m h. absurd (none m h);
       m-from = λ m h. absurd (none m h);
       m-H = λ m h. absurd (none m h);

@@ -48,6 +48,8 @@ pub mod SpacedRuns
 
 -- the wait for each crashed emitter, and once it is over the neighbours
 pub mod CloseCrashes
+-- then heartbeats bring each list one survivor on, and once they have gone round the lists are complete
+pub mod ListsSpread
 -- ---- the platform's definitions: the next event and the ranges
 
 -- nothing is left before the next event

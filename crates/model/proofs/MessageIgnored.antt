@@ -28,6 +28,7 @@ module _ (p : Params) (s s' : View) (i : Inv p s) where
       died = λ h. inl h;
       list = λ a h. h;
       list' = λ a h. inl h;
+      mark = λ a h. inl h;
       emitter = inl refl;
       observer = inl refl;
       new = λ m h. absurd (List·Memᴰ·not-nil h);

@@ -9,6 +9,7 @@ use native.Mathlib.Omega.{arith}
 use borrow.Author.Tests.{eq-eqb, ne-eqb}
 use lib.Dec.{eqb}
 use Rattle.ring.specs.Ring.{listed}
+use Rattle.ring.proofs.Lists.{part-lists}
 use Rattle.node.specs.declared.Node.{Node}
 use Rattle.node.specs.Node.{Turn, R, silent, onMessage, onWatchDue, onHeartbeatDue}
 use Rattle.node.specs.Range.{Known}
@@ -58,7 +59,8 @@ module _ (p : Plan) (pl : Plain p) (s : State) (r : Sound p s) (t : ℕ) where
   report-goes : (x subject : ℕ) → x < p .n → alive p (s .done) x ≡ true → (u : Turn) → Reported order (p .w) t x subject (nodeOf s x) u
       → moves (nodeOf s x) (u .node) ≡ (eqb subject (nodeOf s x .emitter) && not (eqb subject x))
   report-goes x subject xN a u (known e) =
-      let other : subject ≢ nodeOf s x .emitter = λ q. true≢false (sym e ∙ (ap (listed (nodeOf s x .list)) q ∙ r .fields x xN .unlisted)) in
+      let there : listed (nodeOf s x .list) subject ≡ true = part-lists (nodeOf s x .mark) (nodeOf s x .list) subject (r .fields x xN .mark) e in
+      let other : subject ≢ nodeOf s x .emitter = λ q. true≢false (sym there ∙ (ap (listed (nodeOf s x .list)) q ∙ r .fields x xN .unlisted)) in
       stays (nodeOf s x) (nodeOf s x) refl ∙ rw (ne-eqb subject (nodeOf s x .emitter) other)
   report-goes x subject xN a u (own e) =
       stays (nodeOf s x) (nodeOf s x) refl ∙ sym (and-right (eqb subject (nodeOf s x .emitter)) (ap not (eq-eqb subject x e)))
@@ -68,11 +70,11 @@ module _ (p : Plan) (pl : Plain p) (s : State) (r : Sound p s) (t : ℕ) where
 
   -- a message to a live node
   message-goes : (m : InFlight) → FlightRange p (s .last) m → alive p (s .done) (m .to) ≡ true
-      → moves (nodeOf s (m .to)) (onMessage order (p .w) t (m .to) (m .kind) (m .from) (m .subject) (nodeOf s (m .to)) .node)
+      → moves (nodeOf s (m .to)) (onMessage order (p .w) t (m .to) (m .kind) (m .from) (m .subject) (m .list) (nodeOf s (m .to)) .node)
       ≡ (eqb (m .kind) R && (eqb (m .subject) (nodeOf s (m .to) .emitter) && not (eqb (m .subject) (m .to))))
-  message-goes m f a = go _ (m .kind) (f .kind) (messaged order (p .w) t (m .to) (m .kind) (m .from) (m .subject) (nodeOf s (m .to)))
+  message-goes m f a = go _ (m .kind) (f .kind) (messaged order (p .w) t (m .to) (m .kind) (m .from) (m .subject) (m .list) (nodeOf s (m .to)))
     where
-      go : (u : Turn) (kind : ℕ) → Known kind → Messaged order (p .w) t (m .to) kind (m .from) (m .subject) (nodeOf s (m .to)) u
+      go : (u : Turn) (kind : ℕ) → Known kind → Messaged order (p .w) t (m .to) kind (m .from) (m .subject) (m .list) (nodeOf s (m .to)) u
           → moves (nodeOf s (m .to)) (u .node)
           ≡ (eqb kind R && (eqb (m .subject) (nodeOf s (m .to) .emitter) && not (eqb (m .subject) (m .to))))
       go u kind k (beats e v (renews q)) = stays (nodeOf s (m .to)) (v .node) refl ∙ rw e
@@ -97,7 +99,7 @@ module _ (p : Plan) (pl : Plain p) (s : State) (r : Sound p s) (t : ℕ) where
       n = nodeOf s (m .to)
 
       turn : Bool → Turn
-      turn b = cond b (onMessage order (p .w) t (m .to) (m .kind) (m .from) (m .subject) n) (silent n)
+      turn b = cond b (onMessage order (p .w) t (m .to) (m .kind) (m .from) (m .subject) (m .list) n) (silent n)
 
       go : (b : Bool) → alive p (s .done) (m .to) ≡ b
           → messageDeed t m b n (turn b .node) (turn b .passed) .moved

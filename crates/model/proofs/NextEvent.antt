@@ -375,12 +375,12 @@ module _ (p : Plan) (pl : Plain p) (s : State) where
   abbrev pub C : List Entry
   C = timersOf p s
 
-  pub node-on : (f : Node → ℕ) → ((x : ℕ) → f (alone x 0) ≡ 0) → (j : ℕ) → f (nodeOf s j) ≢ 0 → j < length (s .nodes)
+  pub node-on : (f : Node → ℕ) → ((x : ℕ) → f (alone x 0 0) ≡ 0) → (j : ℕ) → f (nodeOf s j) ≢ 0 → j < length (s .nodes)
   node-on f z j h = go (decLt j (length (s .nodes)))
     where
       go : Dec (j < length (s .nodes)) → j < length (s .nodes)
       go (yes a) = a
-      go (no a) = absurd (h (ap f (List·getD-eq-default (s .nodes) (alone j 0) {n = j} (omega arith)) ∙ z j))
+      go (no a) = absurd (h (ap f (List·getD-eq-default (s .nodes) (alone j 0 0) {n = j} (omega arith)) ∙ z j))
 
   not-before : (c m t : ℕ) → ((e : Entry) → List·Memᴰ e A → c ≤ e .tick) → ((e : Entry) → List·Memᴰ e B → m ≤ e .tick)
       → ((e : Entry) → List·Memᴰ e C → t ≤ e .tick) → NotBefore p s c m t
@@ -391,13 +391,13 @@ module _ (p : Plan) (pl : Plain p) (s : State) where
     heartbeat = λ j a o. timed (λ n. n .heartbeat) (λ n. inr refl) (λ x. refl) j a o;
   }
     where
-      timed : (f : Node → ℕ) → ((n : Node) → (f n ≡ n .watch) ⊎ (f n ≡ n .heartbeat)) → ((x : ℕ) → f (alone x 0) ≡ 0) → (j : ℕ)
+      timed : (f : Node → ℕ) → ((n : Node) → (f n ≡ n .watch) ⊎ (f n ≡ n .heartbeat)) → ((x : ℕ) → f (alone x 0 0) ≡ 0) → (j : ℕ)
           → alive p (s .done) j ≡ true
           → f (nodeOf s j) ≢ 0 → t < f (nodeOf s j)
       timed f is z j a o =
           let zj : 0 + j ≡ j = omega arith in
           let r : (e : Entry) × List·Memᴰ e C × (f (nodeOf s j) ≡ suc (e .tick)) =
-          timer-has p (s .done) (alone j 0) f is (s .nodes) 0 j (node-on f z j o) (rw zj a) o in
+          timer-has p (s .done) (alone j 0 0) f is (s .nodes) 0 j (node-on f z j o) (rw zj a) o in
           omega (arith, hc (r .0) (r .1), r .2)
 
   unfoldable pub Chosen : ℕ → Event → Type 0
@@ -432,11 +432,11 @@ module _ (p : Plan) (pl : Plain p) (s : State) where
 
   timer-chosen : (f : Entry) → List·Memᴰ f C → NotBefore p s (suc (f .tick)) (suc (f .tick)) (f .tick) → Chosen (f .tick) (f .event)
   unfolding Chosen
-  timer-chosen f m nb = let r : Ticks p (s .done) 0 (s .nodes) f = timer-in p (s .done) (s .nodes) 0 f m in go r (r .which (alone (r .i) 0))
+  timer-chosen f m nb = let r : Ticks p (s .done) 0 (s .nodes) f = timer-in p (s .done) (s .nodes) 0 f m in go r (r .which (alone (r .i) 0 0))
     where
       go : (r : Ticks p (s .done) 0 (s .nodes) f)
-          → ((f .event ≡ watch (0 + r .i)) × ((getD (s .nodes) (r .i) (alone (r .i) 0)) .watch ≡ suc (f .tick)))
-          ⊎ ((f .event ≡ heartbeat (0 + r .i)) × ((getD (s .nodes) (r .i) (alone (r .i) 0)) .heartbeat ≡ suc (f .tick)))
+          → ((f .event ≡ watch (0 + r .i)) × ((getD (s .nodes) (r .i) (alone (r .i) 0 0)) .watch ≡ suc (f .tick)))
+          ⊎ ((f .event ≡ heartbeat (0 + r .i)) × ((getD (s .nodes) (r .i) (alone (r .i) 0 0)) .heartbeat ≡ suc (f .tick)))
           → Chosen (f .tick) (f .event)
       go r (inl q) = let z : 0 + r .i ≡ r .i = omega arith in rw (q .0, z) (r .less, rw z at (r .live), q .1, nb)
       go r (inr q) = let z : 0 + r .i ≡ r .i = omega arith in rw (q .0, z) (r .less, rw z at (r .live), q .1, nb)

@@ -116,10 +116,10 @@ module _ (p : Plan) (pl : Plain p) (t x : ℕ) (n : Node) where
   unfolding ringAt one
   watch-cost e = rw (eq-eqb (n .watch) (suc t) e) (omega (arith, left-cost _ (left-by (orderOf p) (p .w) t x n)))
 
-  heartbeat-cost : (from : ℕ) (u : Turn) → Heard (p .w) t from n u → cost u ≤ 8 * ringAt t n
+  heartbeat-cost : (from list : ℕ) (u : Turn) → Heard (p .w) t x from list n u → cost u ≤ 8 * ringAt t n
   unfolding ringAt one
-  heartbeat-cost from u (renews e) = rw (not-now (p .w) (pl .w≥)) (omega arith)
-  heartbeat-cost from u (unheard e) = omega arith
+  heartbeat-cost from list u (renews e) = rw (not-now (p .w) (pl .w≥)) (omega arith)
+  heartbeat-cost from list u (unheard e) = omega arith
 
   report-cost : (subject : ℕ) (u : Turn) → Reported (orderOf p) (p .w) t x subject n u → cost u ≤ 8 * ringAt t n + 7
   unfolding ringAt
@@ -129,12 +129,12 @@ module _ (p : Plan) (pl : Plain p) (t x : ℕ) (n : Node) where
   report-cost subject u (relays e f g) = omega (arith, few subject (listing (n .list) subject))
 
   -- and so does a message, the heartbeat that an O makes due included
-  message-cost : (kind from subject : ℕ) → cost (onMessage (orderOf p) (p .w) t x kind from subject n) < 8 * ringAt t n + 9
+  message-cost : (kind from subject list : ℕ) → cost (onMessage (orderOf p) (p .w) t x kind from subject list n) < 8 * ringAt t n + 9
   unfolding ringAt
-  message-cost kind from subject = go _ (messaged (orderOf p) (p .w) t x kind from subject n)
+  message-cost kind from subject list = go _ (messaged (orderOf p) (p .w) t x kind from subject list n)
     where
-      go : (u : Turn) → Messaged (orderOf p) (p .w) t x kind from subject n u → cost u < 8 * ringAt t n + 9
-      go u (beats e v h) = omega (arith, heartbeat-cost from v h)
+      go : (u : Turn) → Messaged (orderOf p) (p .w) t x kind from subject list n u → cost u < 8 * ringAt t n + 9
+      go u (beats e v h) = omega (arith, heartbeat-cost from list v h)
       go u (observes e) = omega (arith, one-le (eqb (suc t) (suc t)))
       go u (tells e f v r) = omega (arith, report-cost subject v r)
 
@@ -191,7 +191,7 @@ module _ (p : Plan) (pl : Plain p) where
           record {
             paid = omega (
               arith,
-              timers-set t x (s .nodes) (u .node) (alone x 0) (rw (r .nodes) xN),
+              timers-set t x (s .nodes) (u .node) (alone x 0 0) (rw (r .nodes) xN),
               due-append t rest out,
               due-sent p pl t x (s .next) (u .sends),
               weight-at t later,
@@ -210,7 +210,7 @@ module _ (p : Plan) (pl : Plain p) where
           taken-paid x (s .flight) (onHeartbeatDue (p .h) t (nodeOf s x)) 0 (in-n p pl s r x (ch .0)) (omega arith)
           (omega (arith, beat-cost p pl t x (nodeOf s x) (ch .2)))
       event-paid (message i) ch =
-          go (alive p (s .done) ((messageAt s i) .to)) _ _ (message-cost p pl t _ (nodeOf s ((messageAt s i) .to)) _ _ _) (omega arith)
+          go (alive p (s .done) ((messageAt s i) .to)) _ _ (message-cost p pl t _ (nodeOf s ((messageAt s i) .to)) _ _ _ _) (omega arith)
         where
           below : (messageAt s i) .to < p .n
           below = (r .flying (messageAt s i) (at-mem (s .flight) i (ch .0))) .to

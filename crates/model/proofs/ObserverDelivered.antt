@@ -29,6 +29,7 @@ module _ (p : Params) (s s' : View) (i : Inv p s) where
       died = λ h. absurd (true≢false h);
       list = λ a h. h;
       list' = λ a h. inl h;
+      mark = λ a h. inl h;
       emitter = inl refl;
       observer = inr (inl (i .base .m-O m (e .has) (e .kind)));
       new = λ m h. absurd (List·Memᴰ·not-nil h);

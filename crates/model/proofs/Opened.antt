@@ -68,6 +68,7 @@ module _ (p : Plan) (ac : Accepted p) where
     flight = msgs0;
     live = λ j. live0 j;
     empty = λ j k. em j k (shape p pl j);
+    unmarked = λ j k. um j k (shape p pl j);
     inN = λ j. iN j (shape p pl j);
     before = λ j k. bf j k (shape p pl j);
     mutual-l = λ j. ml j (shape p pl j);
@@ -89,6 +90,10 @@ module _ (p : Plan) (ac : Accepted p) where
       em : (j k : ℕ) → Shape p pl j → listed ((nd j) .list) k ≡ false
       em j k (inl x) = rw (x .2) (listed-none k)
       em j k (inr x) = rw (x .0) (listed-none k)
+
+      um : (j k : ℕ) → Shape p pl j → listed ((nd j) .mark) k ≡ false
+      um j k (inl x) = rw (x .2) (listed-none k)
+      um j k (inr x) = rw (x .0) (listed-none k)
 
       iN : (j : ℕ) → Shape p pl j → (nd j) .emitter ≢ j → (j < p .n) × ((nd j) .emitter < p .n)
       iN j (inl x) n = rw (em-is j (x .2)) (x .1, open-back-below (p .n) (orderOf p) io j (x .1))

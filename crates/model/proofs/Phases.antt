@@ -1,14 +1,15 @@
 -- The phases of a run whose crashes are spaced: calm, a crash unnoticed, its report spreading; and the events that change no emitter,
--- observer or list. Assumes nothing.
+-- observer or mark. Assumes nothing.
 use mathlib.Core.Path.{_≡_, refl, ap, sym}
 use mathlib.Core.Logic.{_⊎_, inl, inr, _≢_}
 use mathlib.Core.List.{[], _∷_, List·Memᴰ·eq-of-singleton, List·Memᴰ·head}
 use mathlib.Core.Bool.{Bool, true, not}
 use Prim.Native.Nat.{ℕ, _+_, _*_, _^_, _≤_, _<_}
 use native.Mathlib.Omega.{arith}
+use Rattle.ring.specs.Ring.{listed}
 use Rattle.node.specs.Node.{H, O, R}
 use Rattle.model.specs.Platform.{InFlight}
-use Rattle.model.proofs.Events.{Seen, View, Live, Dead, Lists, _∈_, Ignored, Params, Frame, Drop, Idle, Beat, Sends, beaten, sending}
+use Rattle.model.proofs.Events.{Seen, View, Live, Dead, Lists, Marks, Carries, _∈_, Ignored, Params, Frame, Drop, Idle, Beat, Sends, beaten, sending}
 use Rattle.ring.proofs.GoingBack.{iter}
 use Rattle.model.proofs.Invariant.{Inv}
 use Rattle.model.proofs.EveryEvent.{live-not-dead}
@@ -24,10 +25,22 @@ pub record Core (n n' : Seen) : Type 0 where
   pub alive : n' .alive ≡ n .alive
   pub emitter : n' .emitter ≡ n .emitter
   pub observer : n' .observer ≡ n .observer
-  pub list : n' .list ≡ n .list
+  pub mark : n' .mark ≡ n .mark
 
 core-is : {n n' : Seen} → n' ≡ n → Core n n'
-core-is e = record { alive = ap (λ n. n .alive) e; emitter = ap (λ n. n .emitter) e; observer = ap (λ n. n .observer) e; list = ap (λ n. n .list) e }
+core-is e = record { alive = ap (λ n. n .alive) e; emitter = ap (λ n. n .emitter) e; observer = ap (λ n. n .observer) e; mark = ap (λ n. n .mark) e }
+
+-- an H in flight carries k
+pub record Told (s : View) (k : ℕ) : Type 0 where
+  pub m : InFlight
+  pub has : m ∈ s .flight
+  pub kind : m .kind ≡ H
+  pub carries : Carries m k
+
+-- m carries the list of a node of s
+pub record Copied (s : View) (m : InFlight) : Type 0 where
+  pub x : ℕ
+  pub is : (k : ℕ) → listed (m .list) k ≡ (s .node x) .list k
 
 module _ (p : Params) where
   -- S, for m survivors
@@ -62,7 +75,8 @@ module _ (p : Params) where
     pub at : p .c z ≡ c
     pub of : (s .node q) .emitter ≡ z
     pub lists : (j k : ℕ) → Up s j → Dead s k → k ≢ z → Lists s j k
-    pub unknown : (j : ℕ) → Up s j → Lists s j z → ⊥
+    pub unknown : (j : ℕ) → Lists s j z → ⊥
+    pub untold : Told s z → ⊥
     pub emitter : (j : ℕ) → Up s j → j ≢ q → Up s ((s .node j) .emitter)
     pub observer : (j : ℕ) → Up s j
         → (Up s ((s .node j) .observer) × ((s .node ((s .node j) .observer)) .emitter ≡ j)) ⊎ ((s .node z) .emitter ≡ j)
@@ -82,7 +96,7 @@ module _ (p : Params) where
   pub record Spreading (z c T q m : ℕ) (f : ℕ → ℕ) (s : View) : Type 0 where
     pub up : Up s q
     pub dead : Dead s z
-    pub knows : Lists s q z
+    pub knows : Marks s q z
     pub early : T + 1 ≤ c + p .W + p .D
     pub count : p .cnt (crashedIn s) ≡ m
     pub em-is : (j : ℕ) → (s .node j) .emitter ≡ f j
@@ -92,17 +106,19 @@ module _ (p : Params) where
     pub observer : (j : ℕ) → Up s j → (Up s ((s .node j) .observer) × (f ((s .node j) .observer) ≡ j)) ⊎ ((f q ≡ j) × Coming s O j (T + p .D))
     pub observers : (g : InFlight) → g ∈ s .flight → g .kind ≡ O → (g .from ≡ q) × (g .to ≡ f q) × (g .due ≤ T + p .D)
     pub reports : (g : InFlight) → g ∈ s .flight → g .kind ≡ R → (g .subject ≡ z) × (g .due ≤ T + (p .log m + 1) * p .D)
-    pub relay : (x y d j b : ℕ) → Up s x → Lists s x z → iter f d x ≡ q → d < 2 ^ j → Up s y → iter f (2 ^ b) y ≡ x → 2 ^ b < m
-        → Lists s y z ⊎ Coming s R y (T + (j + 1) * p .D)
+    pub relay : (x y d j b : ℕ) → Up s x → Marks s x z → iter f d x ≡ q → d < 2 ^ j → Up s y → iter f (2 ^ b) y ≡ x → 2 ^ b < m
+        → Marks s y z ⊎ Coming s R y (T + (j + 1) * p .D)
     pub watch : (j : ℕ) → Up s j → j ≢ q → (s .node j) .emitter ≢ j → (s .node j) .watch ≤ s .last + p .W
     pub wq : Rests s T q (f q)
 
-  -- an event that changes no emitter, observer or list: what it does to watches, heartbeats and messages
+  -- an event that changes no emitter, observer or mark: what it does to lists, watches, heartbeats and messages
   pub record Quiet (s s' : View) (t : ℕ) : Type 0 where
     pub last' : s' .last ≡ t
     pub t≥ : s .last ≤ t
     pub core : (j : ℕ) → Core (s .node j) (s' .node j)
-    pub came : (m : InFlight) → m ∈ s' .flight → (m ∈ s .flight) ⊎ (m .kind ≡ H)
+    pub list : (j k : ℕ) → Lists s j k → Lists s' j k
+    pub list' : (j k : ℕ) → Lists s' j k → Lists s j k ⊎ Told s k
+    pub came : (m : InFlight) → m ∈ s' .flight → (m ∈ s .flight) ⊎ ((m .kind ≡ H) × Copied s m)
     pub watch : (j : ℕ)
         → ((s' .node j) .watch ≡ (s .node j) .watch)
         ⊎ (((s' .node j) .watch ≡ t + p .W) × (p .planned ((s .node j) .emitter) ≡ true → t < p .c ((s .node j) .emitter) + p .D))
@@ -113,7 +129,7 @@ module _ (p : Params) where
     pub keepH : (m : InFlight) → m ∈ s .flight → m .kind ≡ H → Live s (m .to) → (s .node (m .to)) .emitter ≡ m .from
         → (m ∈ s' .flight) ⊎ ((s' .node (m .to)) .watch ≡ t + p .W)
     pub keepO : (m : InFlight) → m ∈ s .flight → m .kind ≡ O → Live s (m .to) → m ∈ s' .flight
-    pub keepR : (m : InFlight) → m ∈ s .flight → m .kind ≡ R → Live s (m .to) → (m ∈ s' .flight) ⊎ Lists s (m .to) (m .subject)
+    pub keepR : (m : InFlight) → m ∈ s .flight → m .kind ≡ R → Live s (m .to) → (m ∈ s' .flight) ⊎ Marks s (m .to) (m .subject)
 
   module _ (s s' : View) (i : Inv p s) where
     -- a message that changes no node
@@ -122,11 +138,13 @@ module _ (p : Params) where
       still = each p s s' (m .due) (m .to) _ (m ∷ []) [] f (λ j n n'. n' ≡ n) refl (λ j. refl)
 
       still-quiet : (m .kind ≡ H → Live s (m .to) → (s .node (m .to)) .emitter ≡ m .from → ⊥) → (m .kind ≡ O → Live s (m .to) → ⊥)
-          → (m .kind ≡ R → Live s (m .to) → Lists s (m .to) (m .subject)) → Quiet s s' (m .due)
+          → (m .kind ≡ R → Live s (m .to) → Marks s (m .to) (m .subject)) → Quiet s s' (m .due)
       still-quiet noH noO noR = record {
         last' = f .last';
         t≥ = i .base .m-due m has;
         core = λ j. core-is (still j);
+        list = λ j k h. rw (still j) h;
+        list' = λ j k h. inl (rw (still j) at h);
         came = λ g h. inl (came0 (s .flight) g (f .came g h));
         watch = λ j. inl (ap (λ n. n .watch) (still j));
         heartbeat = λ j. inl (ap (λ n. n .heartbeat) (still j));
@@ -136,7 +154,7 @@ module _ (p : Params) where
       }
         where
           kR : (g : InFlight) → g .kind ≡ R → Live s (g .to) → (g ∈ (m ∷ [])) ⊎ (g ∈ s' .flight)
-              → (g ∈ s' .flight) ⊎ Lists s (g .to) (g .subject)
+              → (g ∈ s' .flight) ⊎ Marks s (g .to) (g .subject)
           kR g k l (inr h) = inl h
           kR g k l (inl h) = inr (let r : g ≡ m = List·Memᴰ·eq-of-singleton h in rw r (noR (rw r at k) (rw r at l)))
 
@@ -155,19 +173,21 @@ module _ (p : Params) where
         no-O (inl w) k l = omega (arith, w .0)
         no-O (inr w) k l = omega (arith, w .0)
 
-        self : m .kind ≡ R → Live s (m .to) → Lists s (m .to) (m .subject) ⊎ (m .subject ≡ m .to) → Lists s (m .to) (m .subject)
+        self : m .kind ≡ R → Live s (m .to) → Marks s (m .to) (m .subject) ⊎ (m .subject ≡ m .to) → Marks s (m .to) (m .subject)
         self k l (inl h) = h
         self k l (inr q) = absurd (live-not-dead l (rw q at ((i .base .reported m (e .has) k) .dead)))
 
-        no-R : Ignored s m → m .kind ≡ R → Live s (m .to) → Lists s (m .to) (m .subject)
+        no-R : Ignored s m → m .kind ≡ R → Live s (m .to) → Marks s (m .to) (m .subject)
         no-R (inl w) k l = absurd (omega (arith, w .0))
         no-R (inr w) k l = self k l (w .1)
 
-    pub beat-quiet : (m : InFlight) → Beat p s s' m → Quiet s s' (m .due)
-    beat-quiet m e = record {
+    pub beat-quiet : (m : InFlight) (list' : ℕ → Bool) → Beat p s s' m list' → Quiet s s' (m .due)
+    beat-quiet m list' e = record {
       last' = e .frame .last';
       t≥ = i .base .m-due m (e .has);
-      core = all (λ j n n'. Core n n') record { alive = sym (e .live); emitter = refl; observer = refl; list = refl } (λ j. core-is refl);
+      core = all (λ j n n'. Core n n') record { alive = sym (e .live); emitter = refl; observer = refl; mark = refl } (λ j. core-is refl);
+      list = all (λ j n n'. (k : ℕ) → n .list k ≡ true → n' .list k ≡ true) (e .learns .kept) (λ j k h. h);
+      list' = all (λ j n n'. (k : ℕ) → n' .list k ≡ true → (n .list k ≡ true) ⊎ Told s k) (λ k h. told k (e .learns .only k h)) (λ j k h. inl h);
       came = λ g h. inl (came0 (s .flight) g (e .frame .came g h));
       watch =
           all
@@ -179,8 +199,12 @@ module _ (p : Params) where
       keepR = λ g h k l. inl (stays (s' .flight) m g (e .frame .keep g h) (other-kind g m R H k (e .kind) (omega arith)));
     }
       where
-        all : OnEach s s' (m .to) (beaten p (s .node (m .to)) (m .due))
+        all : OnEach s s' (m .to) (beaten p (s .node (m .to)) list' (m .due))
         all = each p s s' (m .due) (m .to) _ (m ∷ []) [] (e .frame)
+
+        told : (k : ℕ) → Lists s (m .to) k ⊎ (Carries m k × (k ≢ m .to) × (k ≢ m .from)) → Lists s (m .to) k ⊎ Told s k
+        told k (inl h) = inl h
+        told k (inr h) = inr record { m = m; has = e .has; kind = e .kind; carries = h .0 }
 
         kH : (g : InFlight) → (g ∈ (m ∷ [])) ⊎ (g ∈ s' .flight) → (g ∈ s' .flight) ⊎ ((s' .node (g .to)) .watch ≡ m .due + p .W)
         kH g (inr h) = inl h
@@ -190,7 +214,9 @@ module _ (p : Params) where
     sends-quiet t x m e = record {
       last' = e .frame .last';
       t≥ = omega (arith, (i .timers x (e .live)) .heartbeat≥ (e .on), e .due);
-      core = all (λ j n n'. Core n n') record { alive = sym (e .live); emitter = refl; observer = refl; list = refl } (λ j. core-is refl);
+      core = all (λ j n n'. Core n n') record { alive = sym (e .live); emitter = refl; observer = refl; mark = refl } (λ j. core-is refl);
+      list = all (λ j n n'. (k : ℕ) → n .list k ≡ true → n' .list k ≡ true) (λ k h. h) (λ j k h. h);
+      list' = all (λ j n n'. (k : ℕ) → n' .list k ≡ true → (n .list k ≡ true) ⊎ Told s k) (λ k h. inl h) (λ j k h. inl h);
       came = λ g h. cm g (e .frame .came g h);
       watch = λ j. inl (all (λ j n n'. n' .watch ≡ n .watch) refl (λ j. refl) j);
       heartbeat =
@@ -205,6 +231,6 @@ module _ (p : Params) where
         all : OnEach s s' x (sending p (s .node x) t)
         all = each p s s' t x _ [] (m ∷ []) (e .frame)
 
-        cm : (g : InFlight) → (g ∈ s .flight) ⊎ (g ∈ (m ∷ [])) → (g ∈ s .flight) ⊎ (g .kind ≡ H)
+        cm : (g : InFlight) → (g ∈ s .flight) ⊎ (g ∈ (m ∷ [])) → (g ∈ s .flight) ⊎ ((g .kind ≡ H) × Copied s g)
         cm g (inl h) = inl h
-        cm g (inr h) = inr (rw (List·Memᴰ·eq-of-singleton h) (e .kind))
+        cm g (inr h) = inr (rw (List·Memᴰ·eq-of-singleton h) (e .kind, record { x = x; is = e .carries }))

@@ -1,4 +1,4 @@
--- An event that changes no emitter, observer or list keeps the phase. Assumes nothing.
+-- An event that changes no emitter, observer or mark keeps the phase. Assumes nothing.
 use mathlib.Core.Path.{_≡_, ap, sym, _∙_, fun-ext}
 use mathlib.Core.Logic.{_⊎_, inl, inr, _≢_}
 use mathlib.Core.Bool.{true, not}
@@ -6,9 +6,9 @@ use Prim.Native.Nat.{ℕ, _+_, _≤_, _<_}
 use native.Mathlib.Omega.{arith}
 use Rattle.node.specs.Node.{H, O, R}
 use Rattle.model.specs.Platform.{InFlight}
-use Rattle.model.proofs.Events.{View, Live, Dead, Lists, _∈_, Params}
+use Rattle.model.proofs.Events.{View, Live, Dead, Lists, Marks, _∈_, Params}
 use Rattle.model.proofs.Invariant.{Inv}
-use Rattle.model.proofs.Phases.{Up, Coming, Calm, Unnoticed, Spreading, Rests, byObserver, byTimer, byHeartbeat, rested, Quiet}
+use Rattle.model.proofs.Phases.{Told, Copied, Up, Coming, Calm, Unnoticed, Spreading, Rests, byObserver, byTimer, byHeartbeat, rested, Quiet}
 
 module _ (p : Params) (s s' : View) (t : ℕ) (i : Inv p s) (e : Quiet p s s' t) where
   up' : (j : ℕ) → Up p s' j → Up p s j
@@ -21,10 +21,13 @@ module _ (p : Params) (s s' : View) (t : ℕ) (i : Inv p s) (e : Quiet p s s' t)
   dead' j d = sym (e .core j .alive) ∙ d
 
   lst : (j k : ℕ) → Lists s j k → Lists s' j k
-  lst j k h = rw (e .core j .list) h
+  lst = e .list
 
-  lst' : (j k : ℕ) → Lists s' j k → Lists s j k
-  lst' j k h = rw (e .core j .list) at h
+  mrk : (j k : ℕ) → Marks s j k → Marks s' j k
+  mrk j k h = rw (e .core j .mark) h
+
+  mrk' : (j k : ℕ) → Marks s' j k → Marks s j k
+  mrk' j k h = rw (e .core j .mark) at h
 
   em' : (j : ℕ) → (s' .node j) .emitter ≢ j → (s .node j) .emitter ≢ j
   em' j ne q = ne (e .core j .emitter ∙ q)
@@ -42,9 +45,9 @@ module _ (p : Params) (s s' : View) (t : ℕ) (i : Inv p s) (e : Quiet p s s' t)
       → (m .kind ≢ O) × (m .kind ≢ R)
   kinds k m h = go (e .came m h)
     where
-      go : (m ∈ s .flight) ⊎ (m .kind ≡ H) → (m .kind ≢ O) × (m .kind ≢ R)
+      go : (m ∈ s .flight) ⊎ ((m .kind ≡ H) × Copied s m) → (m .kind ≢ O) × (m .kind ≢ R)
       go (inl o) = k m o
-      go (inr q) = omega arith
+      go (inr q) = omega (arith, q .0)
 
   pub calm-quiet : Calm p s → Calm p s'
   calm-quiet c = record {
@@ -72,6 +75,15 @@ module _ (p : Params) (s s' : View) (t : ℕ) (i : Inv p s) (e : Quiet p s s' t)
     a-ob j u (inl h) = inl (up _ (h .0), e .core ((s .node j) .observer) .emitter ∙ h .1)
     a-ob j u (inr h) = inr (e .core z .emitter ∙ h)
 
+    a-unknown : (j : ℕ) → Lists s j z ⊎ Told s z → ⊥
+    a-unknown j (inl h) = a .unknown j h
+    a-unknown j (inr h) = a .untold h
+
+    -- what is carried anew is the list of a node, which does not know it
+    a-untold : (h : Told s' z) → (h .m ∈ s .flight) ⊎ ((h .m .kind ≡ H) × Copied s (h .m)) → ⊥
+    a-untold h (inl o) = a .untold record { m = h .m; has = o; kind = h .kind; carries = h .carries }
+    a-untold h (inr n) = a .unknown (n .1 .x) (sym (n .1 .is z) ∙ h .carries)
+
     pub unnoticed-quiet : Unnoticed p z c q s'
     unnoticed-quiet = record {
       up = up q (a .up);
@@ -80,7 +92,8 @@ module _ (p : Params) (s s' : View) (t : ℕ) (i : Inv p s) (e : Quiet p s s' t)
       at = a .at;
       of = e .core q .emitter ∙ a .of;
       lists = λ j k u d ne. lst j k (a .lists j k (up' j u) (dead' k d) ne);
-      unknown = λ j u h. a .unknown j (up' j u) (lst' j z h);
+      unknown = λ j h. a-unknown j (e .list' j z h);
+      untold = λ h. a-untold h (e .came (h .m) (h .has));
       emitter = λ j u ne. rw (e .core j .emitter) (up _ (a .emitter j (up' j u) ne));
       observer = λ j u. rw (e .core j .observer) (a-ob j (up' j u) (a .observer j (up' j u)));
       prev = rw (e .core z .emitter) (up _ (a .prev));
@@ -93,12 +106,12 @@ module _ (p : Params) (s s' : View) (t : ℕ) (i : Inv p s) (e : Quiet p s s' t)
     flyO : (y u : ℕ) → Live s y → Coming p s O y u → Coming p s' O y u
     flyO y u l g = record { m = g .m; has = e .keepO (g .m) (g .has) (g .kind) (rw (g .to) l); kind = g .kind; to = g .to; due = g .due }
 
-    flyR : (y u : ℕ) → Live s y → Coming p s R y u → Lists s' y z ⊎ Coming p s' R y u
+    flyR : (y u : ℕ) → Live s y → Coming p s R y u → Marks s' y z ⊎ Coming p s' R y u
     flyR y u l g = go (e .keepR (g .m) (g .has) (g .kind) (rw (g .to) l))
       where
-        go : ((g .m) ∈ s' .flight) ⊎ Lists s (g .m .to) (g .m .subject) → Lists s' y z ⊎ Coming p s' R y u
+        go : ((g .m) ∈ s' .flight) ⊎ Marks s (g .m .to) (g .m .subject) → Marks s' y z ⊎ Coming p s' R y u
         go (inl h) = inr record { m = g .m; has = h; kind = g .kind; to = g .to; due = g .due }
-        go (inr h) = inl (lst y z (rw (g .to, (b .reports (g .m) (g .has) (g .kind)) .0) at h))
+        go (inr h) = inl (mrk y z (rw (g .to, (b .reports (g .m) (g .has) (g .kind)) .0) at h))
 
     b-ob : (j : ℕ) → Up p s j → (Up p s ((s .node j) .observer) × (f ((s .node j) .observer) ≡ j)) ⊎ ((f q ≡ j) × Coming p s O j (T + p .D))
         → (Up p s' ((s .node j) .observer) × (f ((s .node j) .observer) ≡ j)) ⊎ ((f q ≡ j) × Coming p s' O j (T + p .D))
@@ -108,12 +121,12 @@ module _ (p : Params) (s s' : View) (t : ℕ) (i : Inv p s) (e : Quiet p s s' t)
     b-old : (g : InFlight) (k : ℕ) → g .kind ≡ k → k ≢ H → g ∈ s' .flight → g ∈ s .flight
     b-old g k q n h = go (e .came g h)
       where
-        go : (g ∈ s .flight) ⊎ (g .kind ≡ H) → g ∈ s .flight
+        go : (g ∈ s .flight) ⊎ ((g .kind ≡ H) × Copied s g) → g ∈ s .flight
         go (inl o) = o
-        go (inr r) = absurd (n (sym q ∙ r))
+        go (inr r) = absurd (n (sym q ∙ r .0))
 
-    b-relay : (x y u : ℕ) → Up p s y → Lists s y z ⊎ Coming p s R y u → Lists s' y z ⊎ Coming p s' R y u
-    b-relay x y u l (inl h) = inl (lst y z h)
+    b-relay : (x y u : ℕ) → Up p s y → Marks s y z ⊎ Coming p s R y u → Marks s' y z ⊎ Coming p s' R y u
+    b-relay x y u l (inl h) = inl (mrk y z h)
     b-relay x y u l (inr g) = flyR y u (l .1) g
 
     b-wq : Rests p s T q (f q) → Rests p s' T q (f q)
@@ -137,7 +150,7 @@ module _ (p : Params) (s s' : View) (t : ℕ) (i : Inv p s) (e : Quiet p s s' t)
     spreading-quiet = record {
       up = up q (b .up);
       dead = e .core z .alive ∙ b .dead;
-      knows = lst q z (b .knows);
+      knows = mrk q z (b .knows);
       early = b .early;
       count = ap (p .cnt) (fun-ext (λ k. ap not (e .core k .alive))) ∙ b .count;
       em-is = λ j. e .core j .emitter ∙ b .em-is j;
@@ -147,7 +160,7 @@ module _ (p : Params) (s s' : View) (t : ℕ) (i : Inv p s) (e : Quiet p s s' t)
       observer = λ j u. rw (e .core j .observer) (b-ob j (up' j u) (b .observer j (up' j u)));
       observers = λ g h k. b .observers g (b-old g O k (omega arith) h) k;
       reports = λ g h k. b .reports g (b-old g R k (omega arith) h) k;
-      relay = λ x y d j n ux lx hd dj uy hy bm. b-relay x y _ (up' y uy) (b .relay x y d j n (up' x ux) (lst' x z lx) hd dj (up' y uy) hy bm);
+      relay = λ x y d j n ux lx hd dj uy hy bm. b-relay x y _ (up' y uy) (b .relay x y d j n (up' x ux) (mrk' x z lx) hd dj (up' y uy) hy bm);
       watch = λ j u nq ne. watch j (b .watch j (up' j u) nq (em' j ne));
       wq = b-wq (b .wq);
     }

@@ -5,7 +5,7 @@ use mathlib.Core.Bool.{Bool, true, false, cond, true≢false}
 use mathlib.Core.List.{List, [], _∷_, _++_, map, List·Memᴰ, List·Memᴰ·not-nil, List·Memᴰ·cases-cons, List·Memᴰ·head, List·Memᴰ·tail}
 use mathlib.Core.List.{List·Memᴰ·append-cases}
 use mathlib.Core.Option.{Option, none, some}
-use Prim.Native.Nat.{ℕ, zero, suc, _+_, _≤_, _<_}
+use Prim.Native.Nat.{ℕ, zero, suc, _+_, _^_, _≤_, _<_}
 use native.Mathlib.Nat.{add-zero, zero-add}
 use native.Mathlib.Omega.{arith}
 use native.Mathlib.Decide.{ℕ-discrete, decLt}
@@ -57,6 +57,7 @@ pub record Given (p : Plan) (t x k : ℕ) (us : List Message) (m : InFlight) : T
   pub subject : m .subject ≡ u .subject
   pub from : m .from ≡ x
   pub due : m .due ≡ t + delayOf p (m .number)
+  pub list : m .list ≡ u .list
 
 module _ (p : Plan) (t x : ℕ) where
   pub numbered-in : (us : List Message) (k : ℕ) (m : InFlight) → List·Memᴰ m (numbered p t x k us) → Given p t x k us m
@@ -64,10 +65,10 @@ module _ (p : Plan) (t x : ℕ) where
   numbered-in [] k m h = absurd (List·Memᴰ·not-nil h)
   numbered-in (u ∷ us) k m h = go (List·Memᴰ·cases-cons h) (numbered-in us (suc k) m)
     where
-      go : (m ≡ record { number = k; kind = u .kind; from = x; to = u .to; subject = u .subject; due = t + delayOf p k })
+      go : (m ≡ record { number = k; kind = u .kind; from = x; to = u .to; subject = u .subject; due = t + delayOf p k; list = u .list })
           ⊎ List·Memᴰ m (numbered p t x (suc k) us)
           → (List·Memᴰ m (numbered p t x (suc k) us) → Given p t x (suc k) us m) → Given p t x k (u ∷ us) m
-      go (inl e) ih = rw e (record { u = u; has = List·Memᴰ·head refl; kind = refl; to = refl; subject = refl; from = refl; due = refl })
+      go (inl e) ih = rw e (record { u = u; has = List·Memᴰ·head refl; kind = refl; to = refl; subject = refl; from = refl; due = refl; list = refl })
       go (inr q) ih =
           let g : Given p t x (suc k) us m = ih q in
           record {
@@ -78,6 +79,7 @@ module _ (p : Plan) (t x : ℕ) where
             subject = g .subject;
             from = g .from;
             due = g .due;
+            list = g .list;
           }
 
   -- each that is sent is in flight
@@ -90,10 +92,11 @@ module _ (p : Plan) (t x : ℕ) where
       go : (v ≡ u) ⊎ List·Memᴰ v us → (List·Memᴰ v us → (m : InFlight) × List·Memᴰ m (numbered p t x (suc k) us) × (m .to ≡ v .to))
           → (m : InFlight)
           × List·Memᴰ m
-          (record { number = k; kind = u .kind; from = x; to = u .to; subject = u .subject; due = t + delayOf p k } ∷ numbered p t x (suc k) us)
+          (record { number = k; kind = u .kind; from = x; to = u .to; subject = u .subject; due = t + delayOf p k; list = u .list }
+          ∷ numbered p t x (suc k) us)
           × (m .to ≡ v .to)
       go (inl e) ih = (
-        record { number = k; kind = u .kind; from = x; to = u .to; subject = u .subject; due = t + delayOf p k },
+        record { number = k; kind = u .kind; from = x; to = u .to; subject = u .subject; due = t + delayOf p k; list = u .list },
         List·Memᴰ·head refl,
         ap (λ (a : Message). a .to) (sym e),
       )
@@ -163,7 +166,7 @@ at-mem ms i h = at-in noMessage ms i h
 -- the node that takes a turn is what the turn leaves
 pub node-taken : (p : Plan) (t x : ℕ) (s : State) (rest : List InFlight) (v : Turn) → x < length (s .nodes) → nodeOf (taken p s t x rest v) x ≡ v .node
 unfolding taken
-node-taken p t x s rest v h = getD-set-same (s .nodes) x (v .node) (alone x 0) h
+node-taken p t x s rest v h = getD-set-same (s .nodes) x (v .node) (alone x 0 0) h
 
 module _ (p : Plan) (pl : Plain p) (s : State) (r : Sound p s) where
   abbrev io : InOrder (p .n) (orderOf p)
@@ -185,6 +188,7 @@ module _ (p : Plan) (pl : Plain p) (s : State) (r : Sound p s) where
       subject = f .subject;
       apart = f .apart;
       due = omega (arith, f .due);
+      list = f .list;
     }
 
     -- one node takes a turn
@@ -194,7 +198,7 @@ module _ (p : Plan) (pl : Plain p) (s : State) (r : Sound p s) where
 
       pub other : (j : ℕ) → j ≢ x → nodeOf (taken p s t x rest u) j ≡ nodeOf s j
       unfolding taken
-      other j ne = getD-set-other (s .nodes) x j (u .node) (alone j 0) ne
+      other j ne = getD-set-other (s .nodes) x j (u .node) (alone j 0 0) ne
 
       each : (P : ℕ → Node → Type 0) → P x (u .node) → ((j : ℕ) → j ≢ x → P j (nodeOf s j)) → (j : ℕ)
           → P j (nodeOf (taken p s t x rest u) j)
@@ -245,6 +249,7 @@ module _ (p : Plan) (pl : Plain p) (s : State) (r : Sound p s) where
                 subject = rw (q .subject) (v .subject);
                 apart = λ e. v .apart (sym (q .to) ∙ sym e ∙ q .from);
                 due = omega (arith, q .due, (delay-ok p pl (g .number)) .1);
+                list = record { below = omega (arith, q .list, v .list .below); empty = λ h. q .list ∙ v .list .empty (λ e. h (q .kind ∙ e)) };
               }
 
           due : (g : InFlight) → List·Memᴰ g rest ⊎ List·Memᴰ g out → t ≤ g .due
@@ -257,11 +262,11 @@ module _ (p : Plan) (pl : Plain p) (s : State) (r : Sound p s) where
       abbrev pub Takes : Turn → Type 0
       Takes u = Took (p .n) (p .h) (p .w) (s .last) t x (nodeOf s x) u
 
-      pub received-took : (kind from subject : ℕ) → Known kind → from < p .n → from ≢ x → subject < p .n
-          → Takes (onMessage (orderOf p) (p .w) t x kind from subject (nodeOf s x))
-      received-took kind from subject k fN ne sN =
-          message-took (p .n) (orderOf p) io x xN (pl .n≤) (p .h) (p .w) (s .last) t (nodeOf s x) (r .fields x xN) (r .live x a) kind from subject k fN ne
-          (λ q. sN)
+      pub received-took : (kind from subject list : ℕ) → Known kind → from < p .n → from ≢ x → subject < p .n → list < 2 ^ p .n
+          → Takes (onMessage (orderOf p) (p .w) t x kind from subject list (nodeOf s x))
+      received-took kind from subject list k fN ne sN lN =
+          message-took (p .n) (orderOf p) io x xN (pl .n≤) (p .h) (p .w) (s .last) t (nodeOf s x) (r .fields x xN) (r .live x a) kind from subject list
+          k fN ne (λ q. sN) lN
 
       pub watch-taken : (nodeOf s x) .watch ≡ suc t → Takes (onWatchDue (orderOf p) (p .w) t x (nodeOf s x))
       watch-taken e =
@@ -285,7 +290,7 @@ module _ (p : Plan) (pl : Plain p) (s : State) (r : Sound p s) where
       turned u = taken p s t (m .to) (without i (s .flight)) u
 
       abbrev turn : Bool → Turn
-      turn b = cond b (onMessage (orderOf p) (p .w) t (m .to) (m .kind) (m .from) (m .subject) (nodeOf s (m .to))) (silent (nodeOf s (m .to)))
+      turn b = cond b (onMessage (orderOf p) (p .w) t (m .to) (m .kind) (m .from) (m .subject) (m .list) (nodeOf s (m .to))) (silent (nodeOf s (m .to)))
 
       f : FlightRange p (s .last) m
       f = r .flying m (at-mem (s .flight) i less)
@@ -303,7 +308,7 @@ module _ (p : Plan) (pl : Plain p) (s : State) (r : Sound p s) where
         where
           go : (b : Bool) → alive p (s .done) (m .to) ≡ b → length ((turned (turn b)) .flight) ≤ mostInFlight → Sound p (turned (turn b))
           go true e few =
-              let k = received-took (m .to) (f .to) e (m .kind) (m .from) (m .subject) (f .kind) (f .from) (f .apart) (f .subject) in
+              let k = received-took (m .to) (f .to) e (m .kind) (m .from) (m .subject) (m .list) (f .kind) (f .from) (f .apart) (f .subject) (f .list .below) in
               turn-range (turn true) (k .fields now≤) (λ a. in-time (m .to) (f .to) a (suc t) t nb (turn true) k) (k .sends) few
           go false e few =
               turn-range (turn false) (now-fields (m .to) (f .to)) (λ a. absurd (true≢false (sym a ∙ e))) (λ v h. absurd (List·Memᴰ·not-nil h)) few
@@ -357,17 +362,17 @@ module _ (p : Plan) (pl : Plain p) where
   abbrev pub Shape : ℕ → Type 0
   Shape j =
       ((1 < p .n) × (j < p .n) × (nodeOf (start p) j ≡ ringed (orderOf p) (p .h) (p .w) j))
-      ⊎ ((nodeOf (start p) j ≡ alone j 0) × (1 < p .n → ¬ (j < p .n)))
+      ⊎ ((nodeOf (start p) j ≡ alone j 0 0) × (1 < p .n → ¬ (j < p .n)))
 
   -- a node at opening
   pub start-node : (j : ℕ) → j < p .n → nodeOf (start p) j ≡ opening (orderOf p) (p .h) (p .w) j
   unfolding start
-  start-node j h = getD-map (opening (orderOf p) (p .h) (p .w)) (p .n) 0 j (alone j 0) h ∙ ap (opening (orderOf p) (p .h) (p .w)) (zero-add j)
+  start-node j h = getD-map (opening (orderOf p) (p .h) (p .w)) (p .n) 0 j (alone j 0 0) h ∙ ap (opening (orderOf p) (p .h) (p .w)) (zero-add j)
 
   -- there is none from n on
-  start-none : (j : ℕ) → ¬ (j < p .n) → nodeOf (start p) j ≡ alone j 0
+  start-none : (j : ℕ) → ¬ (j < p .n) → nodeOf (start p) j ≡ alone j 0 0
   unfolding start
-  start-none j out = List·getD-eq-default ((start p) .nodes) (alone j 0) {n = j} (rw (length-map, length-numbers) (omega arith))
+  start-none j out = List·getD-eq-default ((start p) .nodes) (alone j 0 0) {n = j} (rw (length-map, length-numbers) (omega arith))
 
   pub shape : (j : ℕ) → Shape j
   shape j = go (decLt j (p .n))

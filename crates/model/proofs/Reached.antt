@@ -1,24 +1,27 @@
 -- Every state that the events of an accepted file lead to has the invariant; where its crashes are spaced it is settled once S ticks
--- have passed since the last; and however close they came, its survivors are joined once what is due by c + 2 × W × f + D is done. Assumes nothing.
+-- have passed since the last; and however close they came, its survivors are joined once what is due by c + 2 × W × f + D is done,
+-- and list every crashed node once what is due by (m − 1) × (H + D) after that is done. Assumes nothing.
 use mathlib.Core.Path.{_≡_, sym, ap, _∙_, subst}
 use mathlib.Core.Bool.{true}
 use mathlib.Core.List.{List}
-use Prim.Native.Nat.{ℕ, zero, suc, _+_, _*_, _≤_, _<_}
+use Prim.Native.Nat.{ℕ, zero, suc, _+_, _-_, _*_, _≤_, _<_}
 use native.Mathlib.Omega.{arith}
 use borrow.Author.Tests.{not-false}
 use lib.ListN.{take, length-take}
+use Rattle.ring.proofs.Unlisted.{countBy}
 use Rattle.node.specs.Node.{due}
 use Rattle.plans.specs.Plan.{Crash, Plan}
 use Rattle.plans.proofs.Rows.{hits-many}
 use Rattle.model.specs.Platform.{State, alive, survivors, nodeOf, start, apply, Outcome, try, left, steps, after}
 use Rattle.plans.specs.Plain.{rowAt, Plain}
 use Rattle.model.specs.Range.{Accepted, NotBefore, Sound}
-use Rattle.model.specs.Claims.{Spaced, S, settledBy, joinedBy}
+use Rattle.model.specs.Claims.{Spaced, S, settledBy, joinedBy, completeBy}
 use Rattle.model.proofs.Invariant.{Inv}
 use Rattle.model.proofs.InvariantKept.{opened-inv, step-inv}
-use Rattle.model.proofs.Phases.{span}
-use Rattle.model.proofs.SpacedRuns.{Run, opened, run-inv, settles, JoinedIn, SettledIn, Passed, next as nextRun}
-use Rattle.model.proofs.CloseCrashes.{Near, SinceLast, InARow, step-since, joined as joins}
+use Rattle.model.proofs.Phases.{span, crashedIn}
+use Rattle.model.proofs.SpacedRuns.{at, Run, opened, run-inv, settles, JoinedIn, SettledIn, Passed, next as nextRun}
+use Rattle.model.proofs.CloseCrashes.{Near, InARow, joined as joins}
+use Rattle.model.proofs.ListsSpread.{KeptSince, step-kept, complete}
 use Rattle.model.proofs.RangesKept.{start-range, Tried, happened, none-left, too-many, try-ok, left-range, after-range}
 use Rattle.model.proofs.Viewed.{P, tickOf, view, least}
 use Rattle.model.proofs.EventSteps.{lastOf, survivors-cnt, Does, event-does}
@@ -125,28 +128,35 @@ module _ (p : Plan) (ac : Accepted p) where
       let rows : List Crash = take (s .done) (p .crashes) in
       omega (arith, hits-many (p .n) (pl .order) rows j g jN gN (λ k h. not-false _ (dead k h)), length-take (s .done) (p .crashes))
 
-  one-since : (s : State) → Sound p s → Inv (P p ac) (view p s) → SinceLast (P p ac) (view p s) (lastOf p (s .done)) → (q : Outcome) → Tried p pl s q
-      → SinceLast (P p ac) (view p (left s q)) (lastOf p ((left s q) .done))
+  one-kept : (s : State) → Sound p s → Inv (P p ac) (view p s) → KeptSince (P p ac) (view p s) (lastOf p (s .done)) → (q : Outcome) → Tried p pl s q
+      → KeptSince (P p ac) (view p (left s q)) (lastOf p ((left s q) .done))
   unfolding left
-  one-since s r i w q (happened e b a ch f) =
+  one-kept s r i w q (happened e b a ch f) =
       let s' : State = apply p s (e .tick) (e .event) in
       let d : Does p ac s r i s' = event-does p ac s r i (e .tick) (e .event) ch a b in
-      subst (SinceLast (P p ac) (view p s')) (d .last)
-      (step-since (P p ac) (view p s) (view p s') i (near s r i) (step-inv (P p ac) (view p s) (view p s') i (d .step)) (lastOf p (s .done)) (d .step) w)
-  one-since s r i w q (none-left h) = w
-  one-since s r i w q (too-many e ch h) = w
+      subst (KeptSince (P p ac) (view p s')) (d .last)
+      (step-kept (P p ac) (view p s) (view p s') i (near s r i) (step-inv (P p ac) (view p s) (view p s') i (d .step)) (lastOf p (s .done)) (d .step) w)
+  one-kept s r i w q (none-left h) = w
+  one-kept s r i w q (too-many e ch h) = w
 
-  steps-since : (k : ℕ) (s : State) → Sound p s → Inv (P p ac) (view p s) → SinceLast (P p ac) (view p s) (lastOf p (s .done))
-      → SinceLast (P p ac) (view p (steps p k s)) (lastOf p ((steps p k s) .done))
+  steps-kept : (k : ℕ) (s : State) → Sound p s → Inv (P p ac) (view p s) → KeptSince (P p ac) (view p s) (lastOf p (s .done))
+      → KeptSince (P p ac) (view p (steps p k s)) (lastOf p ((steps p k s) .done))
   unfolding steps
-  steps-since zero s r i w = w
-  steps-since (suc k) s r i w =
+  steps-kept zero s r i w = w
+  steps-kept (suc k) s r i w =
       let q = try-ok p pl s r in
-      steps-since k (left s (try p s)) (left-range p pl s r (try p s) q) (one-inv s r i (try p s) q) (one-since s r i w (try p s) q)
+      steps-kept k (left s (try p s)) (left-range p pl s r (try p s) q) (one-inv s r i (try p s) q) (one-kept s r i w (try p s) q)
 
-  after-since : (e : ℕ) → SinceLast (P p ac) (view p (after p e)) (lastOf p ((after p e) .done))
+  after-kept : (e : ℕ) → KeptSince (P p ac) (view p (after p e)) (lastOf p ((after p e) .done))
   unfolding after start
-  after-since e = steps-since e (start p) (start-range p pl) (opened-inv (P p ac) (view p (start p)) (start-opened p ac)) tt
+  after-kept e = steps-kept e (start p) (start-range p pl) (opened-inv (P p ac) (view p (start p)) (start-opened p ac)) (tt, tt)
+
+  -- where i + 1 crashes are done
+  kept-at : (e i : ℕ) → (after p e) .done ≡ suc i → KeptSince (P p ac) (view p (after p e)) (at ((rowAt p i) .tick))
+  kept-at e i d = subst (λ n. KeptSince (P p ac) (view p (after p e)) (lastOf p n)) d (after-kept e)
+
+  row-at : (e i : ℕ) → (after p e) .done ≡ suc i → InARow (P p ac) (view p (after p e)) (suc i)
+  row-at e i d = subst (InARow (P p ac) (view p (after p e))) d (in-a-row (after p e))
 
   -- where i + 1 crashes are done and nothing is left by c + 2 × W × f + D, every survivor is joined
   pub joined : (e i : ℕ) → (after p e) .done ≡ suc i
@@ -155,6 +165,16 @@ module _ (p : Plan) (ac : Accepted p) where
   unfolding joinedBy
   joined e i d nb j jN l =
       let s : State = after p e in
-      joins (P p ac) (view p s) ((rowAt p i) .tick) (suc i) (suc (joinedBy p i)) (after-inv e)
-      (subst (λ n. SinceLast (P p ac) (view p s) (lastOf p n)) d (after-since e)) (subst (InARow (P p ac) (view p s)) d (in-a-row s)) (omega arith)
+      joins (P p ac) (view p s) ((rowAt p i) .tick) (suc i) (suc (joinedBy p i)) (after-inv e) (kept-at e i d .0) (row-at e i d) (omega arith)
       (passed s (suc (joinedBy p i)) (after-range p pl e) nb) j (jN, l)
+
+  -- and where nothing is left by (m - 1) × (H + D) after that, every survivor also lists exactly the crashed nodes
+  pub completed : (e i : ℕ) → (after p e) .done ≡ suc i
+      → NotBefore p (after p e) (suc (completeBy p i)) (suc (completeBy p i)) (suc (completeBy p i))
+      → (j : ℕ) → j < p .n → alive p ((after p e) .done) j ≡ true → SettledIn (P p ac) (view p (after p e)) j
+  unfolding joinedBy completeBy
+  completed e i d nb j jN l =
+      let s : State = after p e in
+      let m : countBy (p .n) (crashedIn (view p s)) ≡ survivors p (suc i) = survivors-cnt p ac s ∙ ap (survivors p) d in
+      complete (P p ac) (view p s) ((rowAt p i) .tick) (suc i) (suc (completeBy p i)) (after-inv e) (kept-at e i d .0) (kept-at e i d .1) (row-at e i d)
+      (rw m (omega arith)) (passed s (suc (completeBy p i)) (after-range p pl e) nb) j (jN, l)

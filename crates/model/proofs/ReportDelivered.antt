@@ -1,4 +1,4 @@
--- A report of a node that is not listed yet keeps the invariant. Assumes nothing.
+-- A report of a node that is not marked yet keeps the invariant. Assumes nothing.
 use mathlib.Core.Path.{_≡_, refl, ap, sym, _∙_}
 use mathlib.Core.Logic.{_⊎_, inl, inr, _≢_}
 use mathlib.Core.List.{List, [], _∷_}
@@ -10,12 +10,12 @@ use Rattle.model.specs.Platform.{InFlight}
 use Rattle.model.proofs.Events.{View, Live, Lists, _∈_, Params, Report, listing}
 use Rattle.model.proofs.Invariant.{Inv, Covered}
 use Rattle.model.proofs.EveryEvent.{GoneBy, Alike, base'}
-use Rattle.model.proofs.OneNode.{OnEach, each, alike, timers}
+use Rattle.model.proofs.OneNode.{OnEach, each, alike, timers, adds-lists}
 use Rattle.model.proofs.WatchKept.{stays, other-kind, Same, covered-map, answered-map, same-node}
 
 module _ (p : Params) (s s' : View) (i : Inv p s) where
-  module _ (m : InFlight) (list' : ℕ → Bool) (out : List InFlight) (e : Report p s s' m list' out) where
-    pub report-all : OnEach s s' (m .to) (listing p (s .node (m .to)) list')
+  module _ (m : InFlight) (list' mark' : ℕ → Bool) (out : List InFlight) (e : Report p s s' m list' mark' out) where
+    pub report-all : OnEach s s' (m .to) (listing p (s .node (m .to)) list' mark')
     report-all = each p s s' (m .due) (m .to) _ (m ∷ []) out (e .frame)
 
     report-now : s .last ≤ m .due
@@ -31,6 +31,7 @@ module _ (p : Params) (s s' : View) (i : Inv p s) where
       died = λ h. absurd (true≢false h);
       list = e .adds .kept;
       list' = λ a h. fresh a (e .adds .only a h);
+      mark = λ a h. adds-lists p _ _ _ _ _ (e .adds) (e .marks) a h;
       emitter = inl refl;
       observer = inl refl;
       new = λ g h. record {
@@ -43,6 +44,7 @@ module _ (p : Params) (s s' : View) (i : Inv p s) where
         observer = λ k. absurd (omega (arith, e .rs .kinds g h));
         report = λ k. rw (e .rs .subject g h) report-late;
         N = λ k. (rw (e .rs .each g h .by) (i .base .m-N m (e .has) (e .kind) .1), (e .rs .each g h) .inN);
+        carried = λ q. absurd (omega (arith, e .rs .kinds g h));
       };
     }
       where

@@ -11,7 +11,7 @@ use native.Mathlib.Decide.{ℕ-discrete, decLt}
 use Rattle.node.specs.Node.{H, O, R}
 use Rattle.model.specs.Platform.{InFlight}
 use Rattle.ring.proofs.GoingBack.{iter, First, iter-add}
-use Rattle.model.proofs.Events.{View, Live, Dead, Lists, _∈_, Params, Watched, Report, watching, listing}
+use Rattle.model.proofs.Events.{View, Live, Dead, Lists, Marks, _∈_, Params, Watched, Report, watching, listing}
 use Rattle.model.proofs.Invariant.{Inv}
 use Rattle.model.proofs.EveryEvent.{live-not-dead}
 use Rattle.model.proofs.OneState.{emitter-beats}
@@ -35,7 +35,7 @@ module _ (p : Params) (s : View) (i : Inv p s) (z c T q m : ℕ) (f : ℕ → �
 
   module _ (u : ℕ) (pend : (g : InFlight) → g ∈ s .flight → u ≤ g .due) where
     abbrev pub Known : ℕ → Type 0
-    Known j = (y d : ℕ) → Up p s y → iter f d y ≡ q → d < 2 ^ j → d < m → Lists s y z
+    Known j = (y d : ℕ) → Up p s y → iter f d y ≡ q → d < 2 ^ j → d < m → Marks s y z
 
     round : (j : ℕ) → T + suc j * p .D < u → Known j → Known (suc j)
     round j tu ih y d uy hd dj dm = go (decLt d (2 ^ j))
@@ -46,11 +46,11 @@ module _ (p : Params) (s : View) (i : Inv p s) (z c T q m : ℕ) (f : ℕ → �
         ux : Up p s x
         ux = iter-up p s f (b .emitter) (2 ^ j) y uy
 
-        last : Lists s y z ⊎ Coming p s R y (T + (j + 1) * p .D) → Lists s y z
+        last : Marks s y z ⊎ Coming p s R y (T + (j + 1) * p .D) → Marks s y z
         last (inl h) = h
         last (inr g) = absurd (omega (arith, pend (g .m) (g .has), g .due))
 
-        go : Dec (d < 2 ^ j) → Lists s y z
+        go : Dec (d < 2 ^ j) → Marks s y z
         go (yes h) = ih y d uy hd h dm
         go (no n) =
             let split : 2 ^ j + (d - 2 ^ j) ≡ d = omega arith in
@@ -80,8 +80,9 @@ module _ (p : Params) (s : View) (i : Inv p s) (z c T q m : ℕ) (f : ℕ → �
       ls : (j k : ℕ) → Up p s j → Dead s k → Dec (k ≡ z) → Lists s j k
       ls j k uj d (no n) = b .lists j k uj d n
       ls j k uj d (yes r) =
-          rw r
-          (rounds u pend (p .log m) (omega (arith, b .early)) j ((hop j uj) .0) uj ((hop j uj) .2) (omega (arith, (hop j uj) .1, p .log-is m)) ((hop j uj) .1))
+          let far = hop j uj in
+          let near : far .0 < 2 ^ p .log m = omega (arith, far .1, p .log-is m) in
+          rw r (i .base .marked j z (rounds u pend (p .log m) (omega (arith, b .early)) j (far .0) uj (far .2) near (far .1)))
 
       obs : (j : ℕ) → (Up p s ((s .node j) .observer) × (f ((s .node j) .observer) ≡ j)) ⊎ ((f q ≡ j) × Coming p s O j (T + p .D))
           → Up p s ((s .node j) .observer) × ((s .node ((s .node j) .observer)) .emitter ≡ j)
@@ -131,6 +132,9 @@ module _ (p : Params) (s : View) (i : Inv p s) (z c T q m : ℕ) (f : ℕ → �
     w-list : (j : ℕ) → (s' .node j) .list ≡ (s .node j) .list
     w-list = w-all (λ j n n'. n' .list ≡ n .list) refl (λ j. refl)
 
+    w-mark : (j : ℕ) → (s' .node j) .mark ≡ (s .node j) .mark
+    w-mark = w-all (λ j n n'. n' .mark ≡ n .mark) refl (λ j. refl)
+
     w-up : (j : ℕ) → Up p s j → Up p s' j
     w-up j u = (u .0, w-alive j ∙ u .1)
 
@@ -150,8 +154,8 @@ module _ (p : Params) (s : View) (i : Inv p s) (z c T q m : ℕ) (f : ℕ → �
           due = h .due;
         }
 
-    w-relay : (y u : ℕ) → Lists s y z ⊎ Coming p s R y u → Lists s' y z ⊎ Coming p s' R y u
-    w-relay y u (inl h) = inl (rw (w-list y) h)
+    w-relay : (y u : ℕ) → Marks s y z ⊎ Coming p s R y u → Marks s' y z ⊎ Coming p s' R y u
+    w-relay y u (inl h) = inl (rw (w-mark y) h)
     w-relay y u (inr h) = inr (w-fly y u h)
 
     w-ob : (j : ℕ) → Up p s j → Dec (j ≡ g .to)
@@ -170,7 +174,7 @@ module _ (p : Params) (s : View) (i : Inv p s) (z c T q m : ℕ) (f : ℕ → �
     observer-spreading = record {
       up = w-up q (b .up);
       dead = w-alive z ∙ b .dead;
-      knows = rw (w-list q) (b .knows);
+      knows = rw (w-mark q) (b .knows);
       early = b .early;
       count = ap (p .cnt) (fun-ext (λ k. ap not (w-alive k))) ∙ b .count;
       em-is = λ j. w-em j ∙ b .em-is j;
@@ -180,15 +184,15 @@ module _ (p : Params) (s : View) (i : Inv p s) (z c T q m : ℕ) (f : ℕ → �
       observer = λ j u. w-ob j (w-up' j u) (ℕ-discrete j (g .to));
       observers = λ h x k. b .observers h (w-old h x) k;
       reports = λ h x k. b .reports h (w-old h x) k;
-      relay = λ x y d j n ux lx hd dj uy hy bm. w-relay y _ (b .relay x y d j n (w-up' x ux) (rw (w-list x) at lx) hd dj (w-up' y uy) hy bm);
+      relay = λ x y d j n ux lx hd dj uy hy bm. w-relay y _ (b .relay x y d j n (w-up' x ux) (rw (w-mark x) at lx) hd dj (w-up' y uy) hy bm);
       watch = λ j u n ne. rw (w-w j, e .frame .last') (omega (arith, i .base .m-due g (e .has), b .watch j (w-up' j u) n (λ r. ne (w-em j ∙ r))));
       wq = byTimer (rw (sym ((b .observers g (e .has) (e .kind)) .1), e .frame .here) ((b .observers g (e .has) (e .kind)) .0))
           (rw (sym ((b .observers g (e .has) (e .kind)) .1), e .frame .here) ((b .observers g (e .has) (e .kind)) .2));
     }
 
-  module _ (s' : View) (g : InFlight) (list' : ℕ → Bool) (out : List InFlight) (e : Report p s s' g list' out) where
-    r-all : OnEach s s' (g .to) (listing p (s .node (g .to)) list')
-    r-all = report-all p s s' i g list' out e
+  module _ (s' : View) (g : InFlight) (list' mark' : ℕ → Bool) (out : List InFlight) (e : Report p s s' g list' mark' out) where
+    r-all : OnEach s s' (g .to) (listing p (s .node (g .to)) list' mark')
+    r-all = report-all p s s' i g list' mark' out e
 
     r-alive : (j : ℕ) → (s' .node j) .alive ≡ (s .node j) .alive
     r-alive = r-all (λ j n n'. n' .alive ≡ n .alive) (sym (e .live)) (λ j. refl)
@@ -212,7 +216,10 @@ module _ (p : Params) (s : View) (i : Inv p s) (z c T q m : ℕ) (f : ℕ → �
     r-up' j u = (u .0, sym (r-alive j) ∙ u .1)
 
     r-lst : (j k : ℕ) → Lists s j k → Lists s' j k
-    r-lst = report-alike p s s' i g list' out e .list
+    r-lst = report-alike p s s' i g list' mark' out e .list
+
+    r-mrk : (j k : ℕ) → Marks s j k → Marks s' j k
+    r-mrk = r-all (λ j n n'. (k : ℕ) → n .mark k ≡ true → n' .mark k ≡ true) (e .marks .kept) (λ j k h. h)
 
     r-subject : g .subject ≡ z
     r-subject = (b .reports g (e .has) (e .kind)) .0
@@ -220,8 +227,8 @@ module _ (p : Params) (s : View) (i : Inv p s) (z c T q m : ℕ) (f : ℕ → �
     ux : Up p s (g .to)
     ux = (i .base .m-N g (e .has) (e .kind) .1, e .live)
 
-    knows-x : Lists s' (g .to) z
-    knows-x = rw (e .frame .here) (rw r-subject at (e .adds .is))
+    knows-x : Marks s' (g .to) z
+    knows-x = rw (e .frame .here) (rw r-subject at (e .marks .is))
 
     -- x first hears of z: that is within the time of its round
     r-time0 : (d j : ℕ) → iter f d (g .to) ≡ q → d < 2 ^ j → d < m → g .due ≤ T + j * p .D
@@ -255,20 +262,20 @@ module _ (p : Params) (s : View) (i : Inv p s) (z c T q m : ℕ) (f : ℕ → �
             go (yes r) = rw (r ∙ sym r-subject) (e .adds .is)
             go (no n) = e .adds .kept k (b .lists (g .to) k ux d n)
 
-    r-fly : (y u : ℕ) → Coming p s R y u → Lists s' y z ⊎ Coming p s' R y u
+    r-fly : (y u : ℕ) → Coming p s R y u → Marks s' y z ⊎ Coming p s' R y u
     r-fly y u h = go (e .frame .keep (h .m) (h .has))
       where
-        go : ((h .m) ∈ (g ∷ [])) ⊎ ((h .m) ∈ s' .flight) → Lists s' y z ⊎ Coming p s' R y u
+        go : ((h .m) ∈ (g ∷ [])) ⊎ ((h .m) ∈ s' .flight) → Marks s' y z ⊎ Coming p s' R y u
         go (inr x) = inr record { m = h .m; has = x; kind = h .kind; to = h .to; due = h .due }
         go (inl x) = inl (rw (sym (h .to), List·Memᴰ·eq-of-singleton x) knows-x)
 
-    r-relay : (x y d j n : ℕ) → Dec (x ≡ g .to) → Up p s x → Lists s' x z → iter f d x ≡ q → d < 2 ^ j → Up p s y → iter f (2 ^ n) y ≡ x
+    r-relay : (x y d j n : ℕ) → Dec (x ≡ g .to) → Up p s x → Marks s' x z → iter f d x ≡ q → d < 2 ^ j → Up p s y → iter f (2 ^ n) y ≡ x
         → 2 ^ n < m
-        → Lists s' y z ⊎ Coming p s' R y (T + (j + 1) * p .D)
+        → Marks s' y z ⊎ Coming p s' R y (T + (j + 1) * p .D)
     r-relay x y d j n (no ne) u lx hd dj uy hy bm = go (b .relay x y d j n u (rw (e .frame .other x ne) at lx) hd dj uy hy bm)
       where
-        go : Lists s y z ⊎ Coming p s R y (T + (j + 1) * p .D) → Lists s' y z ⊎ Coming p s' R y (T + (j + 1) * p .D)
-        go (inl h) = inl (r-lst y z h)
+        go : Marks s y z ⊎ Coming p s R y (T + (j + 1) * p .D) → Marks s' y z ⊎ Coming p s' R y (T + (j + 1) * p .D)
+        go (inl h) = inl (r-mrk y z h)
         go (inr h) = r-fly y _ h
     r-relay x y d j n (yes r) u lx hd dj uy hy bm = inr record {
       m = t .0;
@@ -309,7 +316,7 @@ module _ (p : Params) (s : View) (i : Inv p s) (z c T q m : ℕ) (f : ℕ → �
     report-spreading = record {
       up = r-up q (b .up);
       dead = r-alive z ∙ b .dead;
-      knows = r-lst q z (b .knows);
+      knows = r-mrk q z (b .knows);
       early = b .early;
       count = ap (p .cnt) (fun-ext (λ k. ap not (r-alive k))) ∙ b .count;
       em-is = λ j. r-em j ∙ b .em-is j;

@@ -78,11 +78,11 @@ module _ (p : Plan) (pl : Plain p) (s : State) where
 
     late-timer : (f : Entry) → List·Memᴰ f (timersOf p s) → t ≤ f .tick
     late-timer f h = let r : Ticks p (s .done) 0 (s .nodes) f = timer-in p (s .done) (s .nodes) 0 f h in
-        let z : 0 + r .i ≡ r .i = omega arith in go r (rw z at (r .live)) (r .which (alone (r .i) 0))
+        let z : 0 + r .i ≡ r .i = omega arith in go r (rw z at (r .live)) (r .which (alone (r .i) 0 0))
       where
         go : (r : Ticks p (s .done) 0 (s .nodes) f) → alive p (s .done) (r .i) ≡ true
-            → ((f .event ≡ watch (0 + r .i)) × ((getD (s .nodes) (r .i) (alone (r .i) 0)) .watch ≡ suc (f .tick)))
-            ⊎ ((f .event ≡ heartbeat (0 + r .i)) × ((getD (s .nodes) (r .i) (alone (r .i) 0)) .heartbeat ≡ suc (f .tick)))
+            → ((f .event ≡ watch (0 + r .i)) × ((getD (s .nodes) (r .i) (alone (r .i) 0 0)) .watch ≡ suc (f .tick)))
+            ⊎ ((f .event ≡ heartbeat (0 + r .i)) × ((getD (s .nodes) (r .i) (alone (r .i) 0 0)) .heartbeat ≡ suc (f .tick)))
             → t ≤ f .tick
         go r l (inl q) = on _ (f .tick) (q .1) (nb .watch (r .i) l)
         go r l (inr q) = on _ (f .tick) (q .1) (nb .heartbeat (r .i) l)
@@ -242,14 +242,14 @@ module _ (p : Plan) (pl : Plain p) (s : State) (t x : ℕ) (nb : NotBefore p s (
     all = ap (λ (c : List Entry). nextCrash (rowsLeft p s) ++ (deliveries s ++ c)) mine ∙ simp append-assoc
       where
         mine : timersOf p s ≡ Before ++ (Mine ++ Rest)
-        mine = rw (zero-add x, l) at (timer-split p (s .done) (alone x 0) (s .nodes) 0 x h)
+        mine = rw (zero-add x, l) at (timer-split p (s .done) (alone x 0 0) (s .nodes) 0 x h)
 
     early-timer : (g : Entry) → List·Memᴰ g Before → t < g .tick
     early-timer g m =
         let r : Ticks p (s .done) 0 (take x (s .nodes)) g = timer-in p (s .done) (take x (s .nodes)) 0 g m in
         let z : 0 + r .i ≡ r .i = omega arith in
         let a : r .i < x = omega (arith, r .less, length-take x (s .nodes)) in
-        go r a (rw z at (r .live)) (rw (getD-take x (s .nodes) (r .i) (alone (r .i) 0) a) at (r .which (alone (r .i) 0)))
+        go r a (rw z at (r .live)) (rw (getD-take x (s .nodes) (r .i) (alone (r .i) 0 0) a) at (r .which (alone (r .i) 0 0)))
       where
         off : (v u : ℕ) → v ≡ suc u → (v ≢ 0 → t < v) → v ≢ suc t → t < u
         off v u e k ne = omega (arith, k (λ z. not-zero z))
@@ -279,7 +279,7 @@ module _ (p : Plan) (pl : Plain p) (s : State) (t x : ℕ) (nb : NotBefore p s (
     later-timer g m = late-timer p pl s (suc t) (suc t) t nb g (rw (sym mine) at (Memᴰ·append-right Before (Memᴰ·append-right Mine m)))
       where
         mine : timersOf p s ≡ Before ++ (Mine ++ Rest)
-        mine = rw (zero-add x, l) at (timer-split p (s .done) (alone x 0) (s .nodes) 0 x h)
+        mine = rw (zero-add x, l) at (timer-split p (s .done) (alone x 0 0) (s .nodes) 0 x h)
 
     late-beat : (g : Entry) → List·Memᴰ g (timerEntry ((nodeOf s x) .heartbeat) (heartbeat x)) → t ≤ g .tick
     late-beat g m = on p pl s (suc t) (suc t) t nb _ (g .tick) ((one-in ((nodeOf s x) .heartbeat) (heartbeat x) g m) .1) (nb .heartbeat x l)

@@ -29,11 +29,11 @@ module _ (p : Params) where
   after s s' (crash t k e) l = at t
   after s s' (drop m e) l = l
   after s s' (idle m e) l = l
-  after s s' (beat m e) l = l
+  after s s' (beat m a e) l = l
   after s s' (watched m e) l = l
-  after s s' (report m a o e) l = l
-  after s s' (moves t x g a y o r e) l = l
-  after s s' (alone t x a e) l = l
+  after s s' (report m a b o e) l = l
+  after s s' (moves t x g a b y o r e) l = l
+  after s s' (alone t x a b e) l = l
   after s s' (sends t x m e) l = l
 
   -- where the step is a crash, it comes S ticks or more after the one before
@@ -42,11 +42,11 @@ module _ (p : Params) where
   SpacedStep s s' (crash t k e) (at c) = c + span p (p .cnt (crashedIn s)) ≤ t
   SpacedStep s s' (drop m e) l = Unit {0}
   SpacedStep s s' (idle m e) l = Unit {0}
-  SpacedStep s s' (beat m e) l = Unit {0}
+  SpacedStep s s' (beat m a e) l = Unit {0}
   SpacedStep s s' (watched m e) l = Unit {0}
-  SpacedStep s s' (report m a o e) l = Unit {0}
-  SpacedStep s s' (moves t x g a y o r e) l = Unit {0}
-  SpacedStep s s' (alone t x a e) l = Unit {0}
+  SpacedStep s s' (report m a b o e) l = Unit {0}
+  SpacedStep s s' (moves t x g a b y o r e) l = Unit {0}
+  SpacedStep s s' (alone t x a b e) l = Unit {0}
   SpacedStep s s' (sends t x m e) l = Unit {0}
 
   pub data Run : View → Last → Type 0 where
@@ -92,21 +92,21 @@ module _ (p : Params) where
     step-phase (at c) (crash t k e) sp ph = crashes t k e (late-calm s c t i ph sp (e .least .message≥) (e .least .watch≥) (e .least .heartbeat≥))
     step-phase l (drop m e) sp ph = quiet _ l (drop-quiet p s s' i m e) ph
     step-phase l (idle m e) sp ph = quiet _ l (idle-quiet p s s' i m e) ph
-    step-phase l (beat m e) sp ph = quiet _ l (beat-quiet p s s' i m e) ph
+    step-phase l (beat m a e) sp ph = quiet _ l (beat-quiet p s s' i m a e) ph
     step-phase l (sends t x m e) sp ph = quiet _ l (sends-quiet p s s' i t x m e) ph
     step-phase l (watched m e) sp (calm x) = absurd ((x .kinds m (e .has)) .0 (e .kind))
     step-phase l (watched m e) sp (unnoticed z q a) = absurd ((a .kinds m (e .has)) .0 (e .kind))
     step-phase l (watched m e) sp (spreading z T q n f b) = spreading z T q n f (observer-spreading p s i z _ T q n f b s' m e)
-    step-phase l (report m a o e) sp (calm x) = absurd ((x .kinds m (e .has)) .1 (e .kind))
-    step-phase l (report m a o e) sp (unnoticed z q x) = absurd ((x .kinds m (e .has)) .1 (e .kind))
-    step-phase l (report m a o e) sp (spreading z T q n f b) = spreading z T q n f (report-spreading p s i z _ T q n f b s' m a o e)
-    step-phase l (moves t x g a y o r e) sp (calm c) = absurd (no-leaving t x g a y (e .leaves) (c .emitter))
-    step-phase l (moves t x g a y o r e) sp (unnoticed z q h) =
-        spreading z t x _ _ (moves-spreading p s s' i (step-inv p s s' i (moves t x g a y o r e)) z _ q h t x g a y o r e)
-    step-phase l (moves t x g a y o r e) sp (spreading z T q n f b) = absurd (no-leaving t x g a y (e .leaves) (λ j u. rw (b .em-is j) (b .emitter j u)))
-    step-phase l (alone t x a e) sp (calm c) = absurd (no-leaving t x [] a x (e .leaves) (c .emitter))
-    step-phase l (alone t x a e) sp (unnoticed z q h) = calm (alone-calm p s s' i (step-inv p s s' i (alone t x a e)) z _ q h t x a e)
-    step-phase l (alone t x a e) sp (spreading z T q n f b) = absurd (no-leaving t x [] a x (e .leaves) (λ j u. rw (b .em-is j) (b .emitter j u)))
+    step-phase l (report m a k o e) sp (calm x) = absurd ((x .kinds m (e .has)) .1 (e .kind))
+    step-phase l (report m a k o e) sp (unnoticed z q x) = absurd ((x .kinds m (e .has)) .1 (e .kind))
+    step-phase l (report m a k o e) sp (spreading z T q n f b) = spreading z T q n f (report-spreading p s i z _ T q n f b s' m a k o e)
+    step-phase l (moves t x g a k y o r e) sp (calm c) = absurd (no-leaving t x g a y (e .leaves) (c .emitter))
+    step-phase l (moves t x g a k y o r e) sp (unnoticed z q h) =
+        spreading z t x _ _ (moves-spreading p s s' i (step-inv p s s' i (moves t x g a k y o r e)) z _ q h t x g a k y o r e)
+    step-phase l (moves t x g a k y o r e) sp (spreading z T q n f b) = absurd (no-leaving t x g a y (e .leaves) (λ j u. rw (b .em-is j) (b .emitter j u)))
+    step-phase l (alone t x a k e) sp (calm c) = absurd (no-leaving t x [] a x (e .leaves) (c .emitter))
+    step-phase l (alone t x a k e) sp (unnoticed z q h) = calm (alone-calm p s s' i (step-inv p s s' i (alone t x a k e)) z _ q h t x a k e)
+    step-phase l (alone t x a k e) sp (spreading z T q n f b) = absurd (no-leaving t x [] a x (e .leaves) (λ j u. rw (b .em-is j) (b .emitter j u)))
 
   pub opened-calm : (s : View) → Opened p s → Calm p s
   opened-calm s o = record {

@@ -14,7 +14,7 @@ use lib.Seq.{drop-cons}
 use Rattle.node.specs.declared.Node.{Node}
 use Rattle.node.specs.Node.{alone}
 use Rattle.node.specs.Range.{NodeRange, LiveRange, NotOverdue, nodeTest, liveTest, timersTest}
-use Rattle.node.proofs.Tests.{node-facts, facts-node, live-facts, facts-live, timers-facts, facts-timers, kind-facts, facts-kind}
+use Rattle.node.proofs.Tests.{node-facts, facts-node, live-facts, facts-live, timers-facts, facts-timers, kind-facts, facts-kind, carried-facts, facts-carried}
 use Rattle.plans.specs.Plan.{Plan, planTest}
 use Rattle.model.specs.Platform.{InFlight, State, alive, nodeOf, after}
 use Rattle.limits.specs.Limits.{mostNext}
@@ -55,14 +55,14 @@ module _ (p : Plan) (done t : ℕ) where
       go true q = rw (facts-live i a ((f .1 q) .0), facts-timers t a ((f .1 q) .1))
       go false q = refl
 
-  nodes-test : (ns : List Node) (i : ℕ) → ((j : ℕ) → j < length ns → Ranged (i + j) (getD ns j (alone (i + j) 0)))
+  nodes-test : (ns : List Node) (i : ℕ) → ((j : ℕ) → j < length ns → Ranged (i + j) (getD ns j (alone (i + j) 0 0)))
       → nodesTest p done t i ns ≡ true
   unfolding nodesTest
   nodes-test [] i f = refl
   nodes-test (a ∷ ns) i f =
       and-eq-true-iff _ _ .1 ((node-test i a (rw add-zero at (f 0 (omega arith)))), (nodes-test ns (suc i) (λ j l. shift j (f (suc j) (omega arith)))))
     where
-      shift : (j : ℕ) → Ranged (i + suc j) (getD ns j (alone (i + suc j) 0)) → Ranged (suc i + j) (getD ns j (alone (suc i + j) 0))
+      shift : (j : ℕ) → Ranged (i + suc j) (getD ns j (alone (i + suc j) 0 0)) → Ranged (suc i + j) (getD ns j (alone (suc i + j) 0 0))
       shift j x = let e : i + suc j ≡ suc i + j = omega arith in rw e at x
 
 -- ---- the messages in flight
@@ -76,14 +76,16 @@ module _ (p : Plan) (t : ℕ) where
       let c = and-eq-true-iff _ _ .0 (b .1) in
       let d = and-eq-true-iff _ _ .0 (c .1) in
       let e = and-eq-true-iff _ _ .0 (d .1) in
-      let f = and-eq-true-iff _ _ .0 (e .1) in (
+      let f = and-eq-true-iff _ _ .0 (e .1) in
+      let g = and-eq-true-iff _ _ .0 (f .1) in (
         record {
           kind = kind-facts (m .kind) (a .0);
           from = ltb-true _ _ (b .0);
           to = ltb-true _ _ (c .0);
           subject = ltb-true _ _ (d .0);
           apart = eqb-false _ _ (not-true _ (e .0));
-          due = leb-true _ _ (f .1);
+          due = leb-true _ _ (g .0);
+          list = carried-facts (p .n) (m .kind) (m .list) (g .1);
         },
         leb-true _ _ (f .0),
       )
@@ -99,6 +101,7 @@ module _ (p : Plan) (t : ℕ) where
         ne-eqb _ _ (f .apart),
         le-leb _ _ d,
         le-leb _ _ (f .due),
+        facts-carried (p .n) (m .kind) (m .list) (f .list),
       )
 
   flight-ok : (ms : List InFlight) (lo hi : ℕ) → flightTest p t lo hi ms ≡ true
@@ -201,7 +204,7 @@ module _ (p : Plan) (pl : Plain p) (s : State) where
       }
     where
       at : nodesTest p (s .done) (s .last) 0 (s .nodes) ≡ true → (j : ℕ) → j < length (s .nodes) → Ranged p (s .done) (s .last) j (nodeOf s j)
-      at q j l = let e : 0 + j ≡ j = omega arith in rw e at (nodes-ok p (s .done) (s .last) (s .nodes) 0 q (alone j 0) j l)
+      at q j l = let e : 0 + j ≡ j = omega arith in rw e at (nodes-ok p (s .done) (s .last) (s .nodes) 0 q (alone j 0 0) j l)
 
       every : nodesTest p (s .done) (s .last) 0 (s .nodes) ≡ true → (j : ℕ) → alive p (s .done) j ≡ true
           → LiveRange j (nodeOf s j) × NotOverdue (s .last) (nodeOf s j)
@@ -209,7 +212,7 @@ module _ (p : Plan) (pl : Plain p) (s : State) where
         where
           go : Dec (j < length (s .nodes)) → LiveRange j (nodeOf s j) × NotOverdue (s .last) (nodeOf s j)
           go (yes l) = (at q j l) .1 a
-          go (no l) = rw (List·getD-eq-default (s .nodes) (alone j 0) {n = j} (omega arith)) (
+          go (no l) = rw (List·getD-eq-default (s .nodes) (alone j 0 0) {n = j} (omega arith)) (
             record { lists = listed-none j; observes = λ o. absurd (o refl); sends = λ o. absurd (o refl) },
             record { watch = λ o. absurd (o refl); heartbeat = λ o. absurd (o refl) },
           )

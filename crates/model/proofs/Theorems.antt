@@ -1,4 +1,4 @@
--- THE THEOREMS: what demand 3 and request 106 claim, and the ranges, of every state that a file leads to, for any ring order. Each statement
+-- THE THEOREMS: what demand 3 and requests 106 and 107 claim, and the ranges, of every state that a file leads to, for any ring order. Each statement
 -- stands in specs/Claims.antt. Assumes nothing.
 use Prim.Native.Nat.{ℕ}
 use Rattle.ring.proofs.Counts.{jumps-covers, jumps-le}
@@ -6,12 +6,12 @@ use Rattle.plans.specs.Plan.{Plan}
 use Rattle.model.specs.Platform.{firstEvents, after}
 use Rattle.plans.specs.Plain.{Plain}
 use Rattle.model.specs.Range.{Accepted}
-use Rattle.model.specs.Claims.{CrashedAre, Safe, LogRoundedUp, K, Settles, NoneLeftBy, Joins, NeverOutOfRange}
+use Rattle.model.specs.Claims.{CrashedAre, Safe, LogRoundedUp, K, Settles, NoneLeftBy, Joins, Completes, NeverOutOfRange}
 use Rattle.model.proofs.NextEvent.{by-parts}
 use Rattle.model.proofs.RangesKept.{steps-range, after-range}
 use Rattle.model.proofs.NextNumber.{next-small}
 use Rattle.model.proofs.Crashed.{crashed-are}
-use Rattle.model.proofs.Reached.{after-inv, settled, joined}
+use Rattle.model.proofs.Reached.{after-inv, settled, joined, completed}
 use Rattle.model.proofs.SettledNode.{joined-at, settled-at}
 
 -- K is the base-two logarithm, rounded up
@@ -41,6 +41,15 @@ unfolding NoneLeftBy
 joining p ac e =
     record {
       joined = λ i d nl j jN l. joined-at p ac (after p e) j jN l (joined p ac e i d (by-parts p (ac .plain) (after p e) _ nl) j jN l);
+    }
+
+-- and where no event due by (m − 1) × (H + D) after that is left every survivor lists exactly the crashed nodes
+pub completing : (p : Plan) → Accepted p → (e : ℕ) → Completes p (after p e)
+unfolding NoneLeftBy
+completing p ac e =
+    record {
+      complete = λ i d nl j jN l. settled-at p ac (after p e) j jN l (after-range p (ac .plain) e)
+          (completed p ac e i d (by-parts p (ac .plain) (after p e) _ nl) j jN l) .list;
     }
 
 -- whatever W, every state that a file leads to is in range, and events keep every range but the cap from any state

@@ -9,12 +9,13 @@ use native.Mathlib.Omega.{arith}
 use borrow.Author.Tests.{eq-eqb, ne-eqb}
 use lib.Dec.{eqb}
 use lib.ListN.{length, getD}
-use Rattle.ring.specs.Ring.{jumps, listed, unlisted, listing, place, ahead, count, targets, InOrder}
+use Rattle.ring.specs.Ring.{jumps, listed, unlisted, listing, merging, place, ahead, count, targets, InOrder}
 use Rattle.ring.proofs.Counts.{jumps-covers}
 use Rattle.ring.proofs.Targets.{ahead-target, target-below}
 use Rattle.node.specs.declared.Node.{Node}
 use Rattle.node.specs.declared.Message.{Message}
-use Rattle.node.specs.Node.{R, Turn, reports, message}
+use Rattle.node.specs.Node.{R, Turn, reports, message, learnt}
+use Rattle.node.proofs.Learning.{learnt-only, learnt-takes}
 use Rattle.node.proofs.Sends.{report-of, report-to, target-apart}
 use Rattle.plans.specs.Plan.{Crash, Plan, hits, orderOf}
 use Rattle.model.specs.Platform.{InFlight, State, alive, numbered, nodeOf, taken}
@@ -22,9 +23,9 @@ use Rattle.plans.specs.Plain.{noCrash, Plain}
 use Rattle.model.specs.Range.{Accepted, NotBefore, Sound}
 use Rattle.ring.proofs.Unlisted.{countBy, aheadBy}
 use Rattle.ring.proofs.GoingBack.{hops, ahead-iter}
-use Rattle.ring.proofs.Lists.{listing-keeps, listing-lists, listing-only}
+use Rattle.ring.proofs.Lists.{listing-keeps, listing-lists, listing-only, merging-keeps, merging-takes, merging-only}
 use Rattle.ring.proofs.Gaps.{gap, gap≥1, gap≤n, gap-inj, gap-cyc, gap-add}
-use Rattle.model.proofs.Events.{View, Params, Frame, Least, Sent, Reports, Adds, crash, sends, Seen}
+use Rattle.model.proofs.Events.{View, Carries, Params, Frame, Least, Sent, Reports, Adds, Learns, crash, sends, Seen}
 use Rattle.model.proofs.NextEvent.{undone}
 use Rattle.plans.proofs.Rows.{hit-where}
 use Rattle.model.proofs.RangesKept.{delay-ok, Given, numbered-in, numbered-has, here, other}
@@ -106,6 +107,7 @@ seen b a = record {
   heartbeatOn = isOn (a .heartbeat);
   heartbeat = tickOf (a .heartbeat);
   list = listed (a .list);
+  mark = listed (a .mark);
 }
 
 abbrev pub view : Plan → State → View
@@ -216,6 +218,23 @@ module _ (p : Plan) (ac : Accepted p) (s : State) (r : Sound p s) where
       subject = λ m h. (telling m h) .subject;
       complete = λ b h. numbered-has p t x (reports k to) nr (message R _ k) (report-to k to _ (jump-target b h));
     }
+
+  -- a list with what a heartbeat to x carries
+  pub learns : (x : ℕ) (m : InFlight) (d : ℕ) → Learns Q x m (listed d) (listed (merging d (learnt x (m .from) (m .list))))
+  learns x m d =
+      let k : ℕ = learnt x (m .from) (m .list) in
+      record {
+        kept = merging-keeps d k;
+        takes = λ a c nx nf. merging-takes d k a (learnt-takes x (m .from) (m .list) a c (λ e. nx (sym e)) (λ e. nf (sym e)));
+        only = λ a h. go a (merging-only d k a h);
+      }
+    where
+      go : (a : ℕ) → (listed d a ≡ true) ⊎ (listed (learnt x (m .from) (m .list)) a ≡ true)
+          → (listed d a ≡ true) ⊎ (Carries m a × (a ≢ x) × (a ≢ m .from))
+      go a (inl h) = inl h
+      go a (inr h) =
+          let c = learnt-only x (m .from) (m .list) a h in
+          inr (c .0, (λ e. c .1 (sym e)), (λ e. c .2 (sym e)))
 
   pub adds : (d k : ℕ) → Adds Q (listed d) (listed (listing d k)) k
   adds d k = record { kept = listing-keeps d k; is = listing-lists d k; only = listing-only d k }

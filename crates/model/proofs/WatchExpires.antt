@@ -9,7 +9,7 @@ use native.Mathlib.Decide.{ℕ-discrete, decLt}
 use Rattle.node.specs.Node.{O, R}
 use Rattle.model.specs.Platform.{InFlight}
 use Rattle.ring.proofs.GoingBack.{iter, First}
-use Rattle.model.proofs.Events.{View, Live, Dead, Lists, _∈_, Params, Cause, byExpiry, byReport, Leaves, Moves, Alone}
+use Rattle.model.proofs.Events.{View, Live, Dead, Lists, Marks, _∈_, Params, Cause, byExpiry, byReport, Leaves, Moves, Alone}
 use Rattle.model.proofs.Invariant.{Base, Inv}
 use Rattle.model.proofs.EveryEvent.{live-not-dead, not-true, Alike, GoneBy}
 use Rattle.model.proofs.OneState.{live-unlisted}
@@ -107,10 +107,10 @@ module _ (p : Params) (s s' : View) (i : Inv p s) (i' : Inv p s') (z c q : ℕ) 
         go (no n) (yes h) = absurd (leaves-dead p s s' i t x gone list' y e r (e .back .passed r (rw x-em far') (omega (arith, gr, gy))) (a .prev .1))
         go (no n) (no m) = p .gap-inj z y r (a .zN) (omega arith)
 
-  module _ (t x : ℕ) (gone : List InFlight) (list' : ℕ → Bool) (y : ℕ) (o : InFlight) (out : List InFlight)
-      (e : Moves p s s' t x gone list' y o out) where
+  module _ (t x : ℕ) (gone : List InFlight) (list' mark' : ℕ → Bool) (y : ℕ) (o : InFlight) (out : List InFlight)
+      (e : Moves p s s' t x gone list' mark' y o out) where
     sf : Alike p s s' t
-    sf = moves-alike p s s' i t x gone list' y o out e
+    sf = moves-alike p s s' i t x gone list' mark' y o out e
 
     em-x : (s' .node x) .emitter ≡ y
     em-x = rw (e .frame .here)
@@ -119,13 +119,13 @@ module _ (p : Params) (s s' : View) (i : Inv p s) (i' : Inv p s') (z c q : ℕ) 
     up' j u = (u .0, sf .alive j (u .1))
 
     up : (j : ℕ) → Up p s j → Up p s' j
-    up j u = (u .0, moves-sames p s s' i t x gone list' y o out e j .alive ∙ u .1)
+    up j u = (u .0, moves-sames p s s' i t x gone list' mark' y o out e j .alive ∙ u .1)
 
     dead' : (k : ℕ) → Dead s' k → Dead s k
-    dead' k d = sym (moves-sames p s s' i t x gone list' y o out e k .alive) ∙ d
+    dead' k d = sym (moves-sames p s s' i t x gone list' mark' y o out e k .alive) ∙ d
 
     dead : (k : ℕ) → Dead s k → Dead s' k
-    dead k d = moves-sames p s s' i t x gone list' y o out e k .alive ∙ d
+    dead k d = moves-sames p s s' i t x gone list' mark' y o out e k .alive ∙ d
 
     fx : Up p s x
     fx = (xN t x gone list' y (e .leaves), e .leaves .live)
@@ -172,7 +172,7 @@ module _ (p : Params) (s s' : View) (i : Inv p s) (i' : Inv p s') (z c q : ℕ) 
             let ezj : z ≡ j = sym (x-em t x gone list' y (e .leaves)) ∙ (rw r at (h .1)) in
             absurd (live-not-dead ((up' j u) .1) (rw (sym ezj) (a .dead)))
 
-    relay : (g w d j b : ℕ) → Up p s' g → Lists s' g z → d < 2 ^ j → Up p s' w → iter (λ j. (s' .node j) .emitter) (2 ^ b) w ≡ g
+    relay : (g w d j b : ℕ) → Up p s' g → Marks s' g z → d < 2 ^ j → Up p s' w → iter (λ j. (s' .node j) .emitter) (2 ^ b) w ≡ g
         → 2 ^ b < p .cnt (crashedIn s') → Coming p s' R w (t + (j + 1) * p .D)
     relay g w d j b ug lg dj uw hw bm =
         record {
@@ -185,7 +185,7 @@ module _ (p : Params) (s s' : View) (i : Inv p s) (i' : Inv p s') (z c q : ℕ) 
       where
         gx : Dec (g ≡ x) → g ≡ x
         gx (yes q) = q
-        gx (no n) = absurd (a .unknown g (up' g ug) (rw (e .frame .other g n) at lg))
+        gx (no n) = absurd (a .unknown g (i .base .marked g z (rw (e .frame .other g n) at lg)))
 
         r : (m : InFlight) × (m ∈ out) × (m .to ≡ p .ahead list' x (2 ^ b))
         r = let below : 2 ^ b < p .cnt list' = rw list-is bm in e .rs .complete b (omega arith)
@@ -199,14 +199,14 @@ module _ (p : Params) (s s' : View) (i : Inv p s) (i' : Inv p s') (z c q : ℕ) 
     moves-spreading = record {
       up = up x fx;
       dead = dead z (a .dead);
-      knows = rw (e .frame .here) (rw (x-em t x gone list' y (e .leaves)) at (e .leaves .adds .is));
+      knows = rw (e .frame .here) (rw (x-em t x gone list' y (e .leaves)) at (e .marks .is));
       early = x-early t x gone list' y (e .leaves);
       count = refl;
       em-is = λ j. refl;
       two = λ r. e .other (sym em-x ∙ r);
       lists = λ j k u d n. sf .list j k (a .lists j k (up' j u) (dead' k d) n);
       emitter = em-up;
-      observer = λ j u. rw (moves-sames p s s' i t x gone list' y o out e j .observer) (obs j u (a .observer j (up' j u)));
+      observer = λ j u. rw (moves-sames p s s' i t x gone list' mark' y o out e j .observer) (obs j u (a .observer j (up' j u)));
       observers = λ g h k. fo g k (sent g h (inl k));
       reports = λ g h k. fr g k (sent g h (inr k));
       relay = λ g w d j b ug lg hd dj uw hw bm. inr (relay g w d j b ug lg dj uw hw bm);
@@ -228,12 +228,12 @@ module _ (p : Params) (s s' : View) (i : Inv p s) (i' : Inv p s') (z c q : ℕ) 
             rw (e .frame .other j n, e .frame .last')
             (λ ne. omega (arith, a .watch j (up' j u) (λ r. n (r ∙ sym (x-q t x gone list' y (e .leaves)))) ne, sf .t≥))
 
-  module _ (t x : ℕ) (list' : ℕ → Bool) (e : Alone p s s' t x list') where
+  module _ (t x : ℕ) (list' mark' : ℕ → Bool) (e : Alone p s s' t x list' mark') where
     only : (j : ℕ) → Up p s' j → j ≡ x
     only j u = go (ℕ-discrete j x)
       where
         lj : Live s j
-        lj = alone-alike p s s' i t x list' e .alive j (u .1)
+        lj = alone-alike p s s' i t x list' mark' e .alive j (u .1)
 
         cyc : (p .gap x j < p .gap x x) ⊎ (p .gap j x < p .gap j x) → ⊥
         cyc (inl h) = leaves-dead p s s' i t x [] list' x (e .leaves) j (leaves-between p s s' i t x [] list' x (e .leaves) j h) lj
@@ -241,10 +241,10 @@ module _ (p : Params) (s s' : View) (i : Inv p s) (i' : Inv p s') (z c q : ℕ) 
 
         go : Dec (j ≡ x) → j ≡ x
         go (yes r) = r
-        go (no n) = absurd (cyc (p .gap-cyc j x x (u .0) (alone-N p s s' i t x list' e) n))
+        go (no n) = absurd (cyc (p .gap-cyc j x x (u .0) (alone-N p s s' i t x list' mark' e) n))
 
     ux : Up p s' x
-    ux = (alone-N p s s' i t x list' e, rw (e .frame .here))
+    ux = (alone-N p s s' i t x list' mark' e, rw (e .frame .here))
 
     alone-dead : (k : ℕ) → Dead s' k → Dead s k
     alone-dead k d = go (ℕ-discrete k x)

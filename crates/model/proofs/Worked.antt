@@ -1,29 +1,29 @@
 -- A file with a crash, in number order and shuffled, whose settled state is computed and meets every hypothesis of `settling`; one with three
 -- crashes at one tick, likewise for `joining`; one in which a node leaves its emitter by report; and the S of document 01's edge. Assumes nothing.
-use mathlib.Core.Path.{_≡_, refl, sym, ap, subst}
+use mathlib.Core.Path.{_≡_, refl, sym, ap, subst, _∙_}
 use mathlib.Core.Bool.{true}
 use mathlib.Core.List.{List, [], _∷_, map}
 use mathlib.Core.Option.{none, some}
 use Prim.Native.Nat.{ℕ, _<_}
 use native.Mathlib.Omega.{arith}
 use lib.ListN.{getD}
-use Rattle.ring.specs.Ring.{keep, numbers, among, eachOnce, listed, listing, unlisted, passing, round, place, ahead}
+use Rattle.ring.specs.Ring.{keep, numbers, among, eachOnce, listed, listing, unlisting, merging, unlisted, passing, round, place, ahead}
 use Rattle.ring.specs.Ring.{firstUnlisted, back, next, count, powers, jumps, targets}
 use Rattle.node.specs.declared.Node.{Node}
-use Rattle.node.specs.Node.{due, R, reports, opening, onHeartbeat, onObserver, onReport, onHeartbeatDue, onMessage, leaving}
+use Rattle.node.specs.Node.{due, R, reports, opening, learnt, onHeartbeat, onObserver, onReport, onHeartbeatDue, onMessage, leaving}
 use Rattle.logline.specs.Line.{letterR, letterK}
 use Rattle.model.specs.Platform.{alive, survivors, start, crashEntries, messageEntries, timerEntry, timerEntries, pending, earlier, first, upTo}
-use Rattle.model.specs.Platform.{InFlight, State, message, messageAt, nextSurvivor}
+use Rattle.model.specs.Platform.{InFlight, State, message, messageAt, nextSurvivor, crashedList}
 use Rattle.model.specs.Platform.{nextEvent, delayIn, delayOf, numbered, nodeOf, taken, without, received, apply, fits, tried, try, left, steps, after}
 use Rattle.plans.specs.Plan.{Crash, Plan, within, startRanges, longEnough, crashRange, risingFrom, rising, later, hits, noneTwice, crashOrder}
 use Rattle.plans.specs.Plan.{ringOrder, orderOf, ringTest, ringCount, ringRange, delayOrder, fewDelays, every, startTest, crashTest, delayTest, planTest}
 use Rattle.plans.specs.Plain.{Plain}
 use Rattle.model.specs.Range.{Accepted, NotBefore}
 use Rattle.model.specs.Lines.{line, otherOf, moves, messageDeed, deedOf, deedLines, eventLines}
-use Rattle.model.specs.Claims.{S, settledBy, Spaced, NoneLeftBefore, SettledAt, joinedBy, NoneLeftBy, JoinedAt}
+use Rattle.model.specs.Claims.{S, settledBy, Spaced, NoneLeftBefore, SettledAt, joinedBy, NoneLeftBy, JoinedAt, completeBy}
 use Rattle.model.proofs.NextEvent.{Best, best}
 use Rattle.model.proofs.RangesKept.{after-range}
-use Rattle.model.proofs.Theorems.{settling, joining}
+use Rattle.model.proofs.Theorems.{settling, joining, completing}
 use Rattle.model.proofs.Plans.{plan-accepted}
 use Rattle.model.proofs.Search.{none-left-before}
 
@@ -59,10 +59,10 @@ pub record Ends (ring : List ℕ) (fields : List (List ℕ)) : Type 0 where
 -- nodes 0, 1 and 3 list node 2, and are neighbours in the ring 0, 1, 3; in the shuffled one, in the ring 0, 3, 1
 pub four-ends : Ends [] ((3 ∷ 1 ∷ 4 ∷ []) ∷ (0 ∷ 3 ∷ 4 ∷ []) ∷ (1 ∷ 0 ∷ 4 ∷ []) ∷ [])
     × Ends shuffled ((1 ∷ 3 ∷ 4 ∷ []) ∷ (3 ∷ 0 ∷ 4 ∷ []) ∷ (0 ∷ 1 ∷ 4 ∷ []) ∷ [])
-unfolding four endOf keep numbers listed listing unlisted passing round place ahead firstUnlisted back next count powers jumps targets reports opening
-    onHeartbeat onObserver onReport onHeartbeatDue leaving onMessage ringOrder orderOf hits among alive survivors start crashEntries messageEntries
-    timerEntry timerEntries pending earlier first upTo nextEvent delayIn delayOf numbered taken without received apply fits tried try left
-    steps after S settledBy
+unfolding four endOf keep numbers listed listing unlisting merging unlisted passing round place ahead firstUnlisted back next count powers jumps
+    targets reports opening learnt onHeartbeat onObserver onReport onHeartbeatDue leaving onMessage ringOrder orderOf hits among alive survivors start
+    crashEntries messageEntries timerEntry timerEntries pending earlier first upTo nextEvent delayIn delayOf numbered taken without received apply
+    fits tried try left steps after S settledBy
 four-ends =
     (record { nodes = refl; done = refl; by = refl; end = refl }, record { nodes = refl; done = refl; by = refl; end = refl })
 
@@ -129,10 +129,10 @@ rejoined = (5 ∷ 4 ∷ []) ∷ (0 ∷ 5 ∷ []) ∷ (4 ∷ 0 ∷ []) ∷ []
 -- node 4, in the mixed ring node 5, has come to observe the survivor before it, whose observer is still a crashed node; then all are joined
 pub trip-ends : Rejoins [] 81 ((5 ∷ 1 ∷ []) ∷ (0 ∷ 5 ∷ []) ∷ (4 ∷ 0 ∷ []) ∷ []) rejoined
     × Rejoins mixed 82 ((5 ∷ 4 ∷ []) ∷ (0 ∷ 1 ∷ []) ∷ (4 ∷ 0 ∷ []) ∷ []) rejoined
-unfolding trip neighbours keep numbers listed listing unlisted passing round place ahead firstUnlisted back next count powers jumps targets reports opening
-    onHeartbeat onObserver onReport onHeartbeatDue leaving onMessage ringOrder orderOf hits among alive start crashEntries messageEntries
-    timerEntry timerEntries pending earlier first upTo nextEvent delayIn delayOf numbered taken without received apply fits tried try left
-    steps after joinedBy
+unfolding trip neighbours keep numbers listed listing unlisting merging unlisted passing round place ahead firstUnlisted back next count powers jumps
+    targets reports opening learnt onHeartbeat onObserver onReport onHeartbeatDue leaving onMessage ringOrder orderOf hits among alive start
+    crashEntries messageEntries timerEntry timerEntries pending earlier first upTo nextEvent delayIn delayOf numbered taken without received apply
+    fits tried try left steps after joinedBy
 trip-ends = (
   record { not-yet = refl; tick = refl; nodes = refl; done = refl; by = refl; end = refl },
   record { not-yet = refl; tick = refl; nodes = refl; done = refl; by = refl; end = refl },
@@ -165,10 +165,10 @@ trip-joins j h =
     (joins [] _ _ _ (trip-accepted .0) (trip-ends .0) j h, joins mixed _ _ _ (trip-accepted .1) (trip-ends .1) j h)
 
 next-is-4 : nextSurvivor (trip []) ((after (trip []) 81) .done) 0 ≡ 4
-unfolding trip keep numbers listed listing unlisted passing round place ahead firstUnlisted back next count powers jumps targets reports opening
-    onHeartbeat onObserver onReport onHeartbeatDue leaving onMessage ringOrder orderOf hits among alive nextSurvivor start crashEntries messageEntries
-    timerEntry timerEntries pending earlier first upTo nextEvent delayIn delayOf numbered taken without received apply fits tried try left
-    steps after
+unfolding trip keep numbers listed listing unlisting merging unlisted passing round place ahead firstUnlisted back next count powers jumps targets
+    reports opening learnt onHeartbeat onObserver onReport onHeartbeatDue leaving onMessage ringOrder orderOf hits among alive nextSurvivor start
+    crashEntries messageEntries timerEntry timerEntries pending earlier first upTo nextEvent delayIn delayOf numbered taken without received apply
+    fits tried try left steps after
 next-is-4 = refl
 
 -- neither 2 × W × (f - 1) + D, which makes 10 here, nor W × f + D, which makes 8, would do: no event due by 10 is left after those 81, and
@@ -181,6 +181,52 @@ too-soon =
     let now : NotBefore (trip []) s 11 11 11 = subst (λ t. NotBefore (trip []) s t t t) (trip-ends .0 .tick) (after-range (trip []) pl 81 .past) in
     let observer : (nodeOf s 0) .observer ≡ 1 = ap (λ (l : List (List ℕ)). getD (getD l 0 []) 1 0) (trip-ends .0 .not-yet) in
     (none-left-before (trip []) pl s 11 now, λ joined. omega (arith, joined .observer, observer, next-is-4))
+
+-- ---- a file in which a report dies with its relays: P,5,3,5,2,92 and C,4,1, C,5,3, C,5,4. No report of node 1 reaches node 0, and a heartbeat
+-- brings it. With f = 3 and m = 2, c + 2 × W × f + D + (m − 1) × (H + D) is 5 + 2 × 5 × 3 + 2 + 1 × (3 + 2) = 42, and all that is due by then is done
+
+unfoldable pub lost : Plan
+lost =
+    let at : ℕ → ℕ → Crash = λ tick node. record { tick = tick; node = node } in
+    record { n = 5; h = 3; w = 5; d = 2; end = 92; ring = []; crashes = at 4 1 ∷ at 5 3 ∷ at 5 4 ∷ []; delays = [] }
+
+-- the lists of nodes 0 and 2, the survivors, after some events
+unfoldable pub twoLists : ℕ → List ℕ
+twoLists events = map (λ k. (nodeOf (after lost events) k) .list) (0 ∷ 2 ∷ [])
+
+-- node 0 lists 3 and 4, node 2 also 1; by the 54th event, a heartbeat of node 2 at tick 24, node 0 lists it too, but has no report of it
+pub record Brought : Type 0 where
+  pub short : twoLists 53 ≡ 24 ∷ 26 ∷ []
+  pub heard : twoLists 54 ≡ 26 ∷ 26 ∷ []
+  pub tick : (after lost 54) .last ≡ 24
+  pub unreported : (nodeOf (after lost 200) 0) .mark ≡ 24
+  pub full : twoLists 200 ≡ 26 ∷ 26 ∷ []
+  pub done : (after lost 200) .done ≡ 3
+  pub by : completeBy lost 2 ≡ 42
+  pub end : nextEvent lost (after lost 200) ≡ none
+
+pub lost-ends : Brought
+unfolding lost twoLists keep numbers listed listing unlisting merging unlisted passing round place ahead firstUnlisted back next count powers jumps
+    targets reports opening learnt onHeartbeat onObserver onReport onHeartbeatDue leaving onMessage ringOrder orderOf hits among alive survivors start
+    crashEntries messageEntries timerEntry timerEntries pending earlier first upTo nextEvent delayIn delayOf numbered taken without received apply
+    fits tried try left steps after joinedBy completeBy
+lost-ends = record { short = refl; heard = refl; tick = refl; unreported = refl; full = refl; done = refl; by = refl; end = refl }
+
+pub lost-accepted : Accepted lost
+unfolding lost planTest startTest startRanges within longEnough ringTest ringCount ringRange crashTest every crashRange crashOrder rising
+    risingFrom later noneTwice eachOnce hits among delayTest delayOrder fewDelays
+lost-accepted = plan-accepted lost refl
+
+-- the same by the theorem: its hypotheses are met
+pub lost-completes : (j : ℕ) → j < 5 → alive lost ((after lost 200) .done) j ≡ true → (nodeOf (after lost 200) j) .list ≡ crashedList lost 3
+unfolding Best lost NoneLeftBy NoneLeftBefore
+lost-completes j h l =
+    let pl : Plain lost = lost-accepted .plain in
+    let s : State = after lost 200 in
+    let over : NotBefore lost s 93 93 93 = subst (Best lost pl s) (lost-ends .end) (best lost pl s) in
+    let left : NoneLeftBefore lost s 43 = λ e m. omega (arith, none-left-before lost pl s 93 over e m) in
+    (completing lost lost-accepted 200) .complete 2 (lost-ends .done) (subst (NoneLeftBy lost s) (sym (lost-ends .by)) left) j h l
+    ∙ ap (crashedList lost) (lost-ends .done)
 
 -- ---- a file in which a node leaves its emitter by report: P,9,3,10,7,47 with six crashes. Node 6 takes node 2 at tick 46, by its expired
 -- watch; the 167th event, at tick 47, is a report of node 2
@@ -205,17 +251,17 @@ firstIn s = let m : InFlight = messageAt s 0 in m .kind ∷ m .to ∷ m .subject
 
 -- the report moves node 6 on to node 1, the next one back, and gives that 2 × W from tick 47
 pub record SixLeaves : Type 0 where
-  pub observes-2 : six 166 ≡ record { emitter = 2; observer = 7; watch = due 66; heartbeat = due 48; list = 56 }
+  pub observes-2 : six 166 ≡ record { emitter = 2; observer = 7; watch = due 66; heartbeat = due 48; list = 56; mark = 56 }
   pub message-next : nextEvent nine (after nine 166) ≡ some (record { tick = 47; event = message 0 })
   pub report-of-2 : firstIn (after nine 166) ≡ R ∷ 6 ∷ 2 ∷ []
-  pub observes-1 : six 167 ≡ record { emitter = 1; observer = 7; watch = due 67; heartbeat = due 48; list = 60 }
+  pub observes-1 : six 167 ≡ record { emitter = 1; observer = 7; watch = due 67; heartbeat = due 48; list = 60; mark = 60 }
   -- and it passes node 2 alone, the one just left: nodes 3, 4 and 5 were passed in moves before
   pub lines : eventLines nine (after nine 166) (after nine 167) (record { tick = 47; event = message 0 })
       ≡ line letterR 47 6 2 60 ∷ line letterK 47 6 1 60 ∷ []
 
 pub six-leaves : SixLeaves
-unfolding nine six firstIn keep numbers listed listing unlisted passing round place ahead firstUnlisted back next count powers jumps targets reports
-    opening onHeartbeat onObserver onReport onHeartbeatDue leaving onMessage ringOrder orderOf hits among alive survivors start crashEntries messageEntries
-    timerEntry timerEntries pending earlier first upTo nextEvent delayIn delayOf numbered taken without received apply fits tried try left
-    steps after otherOf moves messageDeed deedOf deedLines
+unfolding nine six firstIn keep numbers listed listing unlisting merging unlisted passing round place ahead firstUnlisted back next count powers jumps
+    targets reports learnt opening onHeartbeat onObserver onReport onHeartbeatDue leaving onMessage ringOrder orderOf hits among alive survivors start
+    crashEntries messageEntries timerEntry timerEntries pending earlier first upTo nextEvent delayIn delayOf numbered taken without received apply
+    fits tried try left steps after otherOf moves messageDeed deedOf deedLines
 six-leaves = record { observes-2 = refl; message-next = refl; report-of-2 = refl; observes-1 = refl; lines = refl }

@@ -1,10 +1,10 @@
 -- What demand 3 claims of one state, in the words of the customer's terms and of document 01's 'The platform': which nodes have crashed,
--- that no live node is listed, that every survivor is settled; what request 106 of document 02 claims of crashes close together; and the
--- ranges. proofs/Theorems.antt proves it of every state that a file leads to. Assumes nothing.
+-- that no live node is listed, that every survivor is settled; what requests 106 and 107 of document 02 claim of crashes close together;
+-- and the ranges. proofs/Theorems.antt proves it of every state that a file leads to. Assumes nothing.
 use mathlib.Core.Path.{_≡_}
 use mathlib.Core.Bool.{true, false}
 use mathlib.Core.List.{List, List·Memᴰ}
-use Prim.Native.Nat.{ℕ, suc, _+_, _*_, _^_, _≤_, _<_}
+use Prim.Native.Nat.{ℕ, suc, _+_, _-_, _*_, _^_, _≤_, _<_}
 use Rattle.ring.specs.Ring.{listed, jumps}
 use Rattle.model.specs.Platform.{State, Entry, crashEntry, alive, survivors, nextSurvivor, survivorBefore, crashedList, nodeOf, pending, steps, after}
 use Rattle.plans.specs.Plain.{rowAt}
@@ -90,6 +90,17 @@ pub record JoinedAt (p : Plan) (s : State) (j : ℕ) : Type 0 where
 pub record Joins (p : Plan) (s : State) : Type 0 where
   pub joined : (i : ℕ) → s .done ≡ suc i → NoneLeftBy p s (joinedBy p i)
       → (j : ℕ) → j < p .n → alive p (s .done) j ≡ true → JoinedAt p s j
+
+-- ---- request 107: then the lists 'all equal the crashed nodes'
+
+-- (m − 1) × (H + D) ticks 'after the bound of #106', where C line i is the last one done and m nodes survive
+unfoldable pub completeBy : Plan → ℕ → ℕ
+completeBy p i = joinedBy p i + (survivors p (suc i) - 1) * (p .h + p .d)
+
+-- Where i + 1 crashes are done, whenever they came, and no event due by that tick is left, every survivor lists exactly the crashed nodes.
+pub record Completes (p : Plan) (s : State) : Type 0 where
+  pub complete : (i : ℕ) → s .done ≡ suc i → NoneLeftBy p s (completeBy p i)
+      → (j : ℕ) → j < p .n → alive p (s .done) j ≡ true → (nodeOf s j) .list ≡ crashedList p (s .done)
 
 -- ---- nothing that the rules lead to is out of range, whatever W
 

@@ -15,7 +15,8 @@ use Rattle.limits.specs.Limits.{mostInFlight, logRoom}
 
 -- ---- the state
 
--- a message in flight: its number, its kind (the letter), sender, receiver, subject (on R) and the tick at which it is due
+-- a message in flight: its number, its kind (the letter), sender, receiver, subject (on R), the tick at which it is due and the list that it
+-- carries (on H)
 pub record InFlight : Type 0 where
   pub number : ℕ
   pub kind : ℕ
@@ -23,6 +24,7 @@ pub record InFlight : Type 0 where
   pub to : ℕ
   pub subject : ℕ
   pub due : ℕ
+  pub list : ℕ
 
 -- how many C lines are done, the last event's tick (0 at opening), the next message number, the nodes by number, the messages in
 -- flight by message number
@@ -35,10 +37,10 @@ pub record State : Type 0 where
 
 -- node x; a number that no node has stands for one that is alone
 abbrev pub nodeOf : State → ℕ → Node
-nodeOf s x = getD (s .nodes) x (alone x 0)
+nodeOf s x = getD (s .nodes) x (alone x 0 0)
 
 abbrev pub noMessage : InFlight
-noMessage = record { number = 0; kind = 0; from = 0; to = 0; subject = 0; due = 0 }
+noMessage = record { number = 0; kind = 0; from = 0; to = 0; subject = 0; due = 0; list = 0 }
 
 -- the message in flight at a place
 abbrev pub messageAt : State → ℕ → InFlight
@@ -149,7 +151,7 @@ delayOf p number = delayIn (p .d) (p .delays) number
 unfoldable pub numbered : Plan → ℕ → ℕ → ℕ → List Message → List InFlight
 numbered p t x k [] = []
 numbered p t x k (m ∷ ms) =
-    record { number = k; kind = m .kind; from = x; to = m .to; subject = m .subject; due = t + delayOf p k } ∷ numbered p t x (suc k) ms
+    record { number = k; kind = m .kind; from = x; to = m .to; subject = m .subject; due = t + delayOf p k; list = m .list } ∷ numbered p t x (suc k) ms
 
 -- node x has taken a turn at tick t; `rest` is what is left of the messages in flight, and what it sends joins them
 unfoldable pub taken : Plan → State → ℕ → ℕ → List InFlight → Turn → State
@@ -168,7 +170,8 @@ without i l = take i l ++ drop (suc i) l
 -- a message is delivered; to a crashed node it is dropped
 unfoldable pub received : Plan → State → ℕ → InFlight → Turn
 received p s t m =
-    cond (alive p (s .done) (m .to)) (onMessage (orderOf p) (p .w) t (m .to) (m .kind) (m .from) (m .subject) (nodeOf s (m .to))) (silent (nodeOf s (m .to)))
+    cond (alive p (s .done) (m .to)) (onMessage (orderOf p) (p .w) t (m .to) (m .kind) (m .from) (m .subject) (m .list) (nodeOf s (m .to)))
+    (silent (nodeOf s (m .to)))
 
 unfoldable pub apply : Plan → State → ℕ → Event → State
 apply p s t (crash k) = record { done = suc (s .done); last = t; next = s .next; nodes = s .nodes; flight = s .flight }

@@ -11,7 +11,7 @@ use Rattle.node.specs.declared.Node.{Node}
 use Rattle.limits.specs.Limits.{mostInFlight, mostNext}
 use Rattle.plans.specs.Plan.{Crash, Plan, planTest}
 use Rattle.plans.specs.Plain.{rowAt, Plain}
-use Rattle.node.specs.Range.{NodeRange, LiveRange, Known, nodeTest, liveTest, timersTest, kindTest}
+use Rattle.node.specs.Range.{NodeRange, LiveRange, Known, Carried, nodeTest, liveTest, timersTest, kindTest, carriedTest}
 use Rattle.model.specs.Platform.{InFlight, State, alive, nodeOf}
 
 -- ---- a plan
@@ -31,6 +31,7 @@ pub record FlightRange (p : Plan) (t : ℕ) (m : InFlight) : Type 0 where
   pub subject : m .subject < p .n
   pub apart : m .from ≢ m .to
   pub due : m .due ≤ t + p .d
+  pub list : Carried (p .n) (m .kind) (m .list)
 
 -- message numbers rise from lo on and are below hi
 unfoldable pub Rises : ℕ → ℕ → List InFlight → Type 0
@@ -74,7 +75,7 @@ nodesTest p done t i (a ∷ ns) = nodeHere p done t i a && nodesTest p done t (s
 unfoldable pub messageTest : Plan → ℕ → InFlight → Bool
 messageTest p t m =
     kindTest (m .kind) && (ltb (m .from) (p .n) && (ltb (m .to) (p .n) && (ltb (m .subject) (p .n)
-    && (not (eqb (m .from) (m .to)) && (leb t (m .due) && leb (m .due) (t + p .d))))))
+    && (not (eqb (m .from) (m .to)) && (leb t (m .due) && (leb (m .due) (t + p .d) && carriedTest (p .n) (m .kind) (m .list)))))))
 
 -- messages whose numbers rise from lo on and are below hi
 unfoldable pub flightTest : Plan → ℕ → ℕ → ℕ → List InFlight → Bool

@@ -1,7 +1,7 @@
 -- Each rule leaves a live node in range in range, and what it sends is sendable. It holds in any ring order. Assumes nothing.
 use mathlib.Core.Path.{_≡_, refl, sym, ap, _∙_}
 use mathlib.Core.Logic.{_⊎_, inl, inr, _≢_}
-use mathlib.Core.Bool.{false, true≢false}
+use mathlib.Core.Bool.{true, false, true≢false}
 use mathlib.Core.List.{List, List·Memᴰ, List·Memᴰ·not-nil, List·Memᴰ·cases-cons, List·Memᴰ·eq-of-singleton}
 use Prim.Native.Nat.{ℕ, _^_, _≤_, _<_}
 use native.Mathlib.Omega.{arith}
@@ -9,20 +9,22 @@ use borrow.Author.Tests.{eqb-false}
 use lib.ListN.{length}
 use lib.Pow.{pow-pos}
 use Rattle.limits.specs.Limits.{mostNodes, mostSent}
-use Rattle.ring.specs.Ring.{listed, place, targets, InOrder}
-use Rattle.ring.proofs.Lists.{listing-lt, listing-lists, listing-other, listed-none}
+use Rattle.ring.specs.Ring.{listed, partOf, place, targets, InOrder}
+use Rattle.ring.proofs.Lists.{listing-lt, listing-lists, listing-other, listed-none, merging-lt, merging-keeps, merging-neither}
+use Rattle.ring.proofs.Lists.{part-none, part-more, part-listing}
 use Rattle.ring.proofs.Gaps.{gap}
 use Rattle.ring.proofs.GoingBack.{Found}
 use Rattle.ring.proofs.Neighbours.{open-back-below, open-back-other, open-next-below, open-next-other, count-some, found-back}
 use Rattle.ring.proofs.Passed.{from-below}
 use Rattle.node.specs.declared.Message.{Message}
 use Rattle.node.specs.declared.Node.{Node}
-use Rattle.node.specs.Node.{Turn, off, H, O, R, message, reports, silent, leftList, newEmitter, passedOver}
+use Rattle.node.specs.Node.{Turn, off, H, O, R, message, reports, silent, leftList, leftMark, newEmitter, passedOver}
 use Rattle.node.specs.Node.{opening, onHeartbeat, onObserver, onReport, onHeartbeatDue, onWatchDue, onMessage}
 use Rattle.node.specs.Range.{NodeRange, LiveRange, NotOverdue, Known}
-use Rattle.node.proofs.Moves.{Opened, joins, starts-alone, opened, Heard, renews, unheard, heard, observed}
+use Rattle.node.proofs.Moves.{Opened, joins, starts-alone, opened, heardList, Heard, renews, unheard, heard, observed}
 use Rattle.node.proofs.Moves.{Left, stops, moves, left, Reported, known, own, leaves, relays, reported, beaten}
-use Rattle.node.proofs.Sends.{Sendable, reports-sendable, left-few, told-few}
+use Rattle.node.proofs.Learning.{learnt-lt, learnt-not-sender, learnt-not-me}
+use Rattle.node.proofs.Sends.{Sendable, carries-none, reports-sendable, left-few, told-few}
 
 -- fields in range stay so at a later tick
 pub later-range : (n h w t u : ℕ) (a : Node) → t ≤ u → NodeRange n h w t a → NodeRange n h w u a
@@ -31,6 +33,7 @@ later-range n h w t u a l f = record {
   observer = f .observer;
   list = f .list;
   unlisted = f .unlisted;
+  mark = f .mark;
   watch = omega (arith, f .watch);
   heartbeat = omega (arith, f .heartbeat);
 }
@@ -59,6 +62,7 @@ module _ (n : ℕ) (order : List ℕ) (io : InOrder n order) (me : ℕ) (below :
               observer = open-next-below n order io me below;
               list = pow-pos n;
               unlisted = listed-none _;
+              mark = part-none 0;
               watch = omega arith;
               heartbeat = omega arith;
             },
@@ -69,7 +73,15 @@ module _ (n : ℕ) (order : List ℕ) (io : InOrder n order) (me : ℕ) (below :
             },
           )
       go a (starts-alone one) = (
-        record { emitter = below; observer = below; list = pow-pos n; unlisted = listed-none me; watch = omega arith; heartbeat = omega arith },
+        record {
+          emitter = below;
+          observer = below;
+          list = pow-pos n;
+          unlisted = listed-none me;
+          mark = part-none 0;
+          watch = omega arith;
+          heartbeat = omega arith;
+        },
         record { lists = listed-none me; observes = λ on. absurd (on refl); sends = λ on. absurd (on refl) },
       )
 
@@ -90,22 +102,30 @@ module _ (n : ℕ) (order : List ℕ) (io : InOrder n order) (me : ℕ) (below :
           passed = omega arith;
         }
 
-    pub heartbeat-took : (from : ℕ) → from ≢ me → Took n h w last t me a (onHeartbeat w t from a)
-    heartbeat-took from ne = go (onHeartbeat w t from a) (heard w t from a)
+    pub heartbeat-took : (from list : ℕ) → from ≢ me → list < 2 ^ n → Took n h w last t me a (onHeartbeat w t me from list a)
+    heartbeat-took from list ne lN = go (onHeartbeat w t me from list a) (heard w t me from list a)
       where
-        go : (u : Turn) → Heard w t from a u → Took n h w last t me a u
+        within : heardList w t me from list a < 2 ^ n
+        within = merging-lt n (a .list) _ (f .list) (learnt-lt me from list n lN)
+
+        go : (u : Turn) → Heard w t me from list a u → Took n h w last t me a u
         go u (unheard e) = silent-took
         go u (renews e) = record {
           fields = λ late.
               record {
                 emitter = f .emitter;
                 observer = f .observer;
-                list = f .list;
-                unlisted = f .unlisted;
+                list = within;
+                unlisted = merging-neither (a .list) _ (a .emitter) (f .unlisted) (rw e (learnt-not-sender me from list));
+                mark = part-more n (a .mark) (a .list) _ (f .list) within (merging-keeps (a .list) _) (f .mark);
                 watch = omega arith;
                 heartbeat = omega (arith, f .heartbeat, late);
               };
-          live = record { lists = l .lists; observes = λ on q. ne (sym e ∙ q); sends = l .sends };
+          live = record {
+            lists = merging-neither (a .list) _ me (l .lists) (learnt-not-me me from list);
+            observes = λ on q. ne (sym e ∙ q);
+            sends = l .sends;
+          };
           timers = λ o. record { watch = λ on. omega arith; heartbeat = o .heartbeat };
           sends = λ v m. absurd (List·Memᴰ·not-nil m);
           few = omega arith;
@@ -119,6 +139,7 @@ module _ (n : ℕ) (order : List ℕ) (io : InOrder n order) (me : ℕ) (below :
         observer = fN;
         list = f .list;
         unlisted = f .unlisted;
+        mark = f .mark;
         watch = omega (arith, f .watch, late);
         heartbeat = omega arith;
       };
@@ -143,6 +164,9 @@ module _ (n : ℕ) (order : List ℕ) (io : InOrder n order) (me : ℕ) (below :
       within : leftList a < 2 ^ n
       within = listing-lt n (a .list) (a .emitter) (f .list) (f .emitter)
 
+      left-mark : partOf (leftMark a) (leftList a) ≡ true
+      left-mark = part-listing n (a .mark) (a .list) (a .emitter) (f .list) (f .emitter) (f .mark)
+
       sent : (v : Message) → newEmitter order a ≢ me
           → (v ≡ message O (newEmitter order a) 0) ⊎ List·Memᴰ v (reports (a .emitter) (targets order (leftList a) (place order me)))
           → Sendable n me v
@@ -153,6 +177,7 @@ module _ (n : ℕ) (order : List ℕ) (io : InOrder n order) (me : ℕ) (below :
             apart = other;
             subject = omega arith;
             about = λ q. absurd (eqb-false O R refl q);
+            list = carries-none n O;
           })
       sent v other (inr m) =
           reports-sendable n order io me below (leftList a) left-unlisted (a .emitter) (f .emitter) (listing-lists (a .list) (a .emitter)) v m
@@ -164,6 +189,7 @@ module _ (n : ℕ) (order : List ℕ) (io : InOrder n order) (me : ℕ) (below :
           observer = below;
           list = within;
           unlisted = left-unlisted;
+          mark = left-mark;
           watch = omega arith;
           heartbeat = omega arith;
         };
@@ -179,6 +205,7 @@ module _ (n : ℕ) (order : List ℕ) (io : InOrder n order) (me : ℕ) (below :
           observer = f .observer;
           list = within;
           unlisted = new-emitter .unlisted;
+          mark = left-mark;
           watch = omega arith;
           heartbeat = omega (arith, f .heartbeat, late);
         };
@@ -210,6 +237,7 @@ module _ (n : ℕ) (order : List ℕ) (io : InOrder n order) (me : ℕ) (below :
                 observer = f .observer;
                 list = listing-lt n (a .list) subject (f .list) sN;
                 unlisted = listing-other (a .list) subject (a .emitter) other (f .unlisted);
+                mark = part-listing n (a .mark) (a .list) subject (f .list) sN (f .mark);
                 watch = omega (arith, f .watch, late);
                 heartbeat = omega (arith, f .heartbeat, late);
               };
@@ -220,12 +248,12 @@ module _ (n : ℕ) (order : List ℕ) (io : InOrder n order) (me : ℕ) (below :
               passed = omega arith;
             }
 
-    pub message-took : (kind from subject : ℕ) → Known kind → from < n → from ≢ me → (kind ≡ R → subject < n)
-        → Took n h w last t me a (onMessage order w t me kind from subject a)
+    pub message-took : (kind from subject list : ℕ) → Known kind → from < n → from ≢ me → (kind ≡ R → subject < n) → list < 2 ^ n
+        → Took n h w last t me a (onMessage order w t me kind from subject list a)
     unfolding onMessage
-    message-took kind from subject (inl e) fN ne sN = rw e (heartbeat-took from ne)
-    message-took kind from subject (inr (inl e)) fN ne sN = rw e (observer-took from fN ne)
-    message-took kind from subject (inr (inr e)) fN ne sN = rw e (report-took subject (sN e))
+    message-took kind from subject list (inl e) fN ne sN lN = rw e (heartbeat-took from list ne lN)
+    message-took kind from subject list (inr (inl e)) fN ne sN lN = rw e (observer-took from fN ne)
+    message-took kind from subject list (inr (inr e)) fN ne sN lN = rw e (report-took subject (sN e))
 
     pub beat-took : a .heartbeat ≢ off → Took n h w last t me a (onHeartbeatDue h t a)
     beat-took on = rw (beaten h t a) (record {
@@ -234,6 +262,7 @@ module _ (n : ℕ) (order : List ℕ) (io : InOrder n order) (me : ℕ) (below :
         observer = f .observer;
         list = f .list;
         unlisted = f .unlisted;
+        mark = f .mark;
         watch = omega (arith, f .watch, late);
         heartbeat = omega arith;
       };
@@ -245,6 +274,7 @@ module _ (n : ℕ) (order : List ℕ) (io : InOrder n order) (me : ℕ) (below :
         apart = l .sends on;
         subject = omega arith;
         about = λ q. absurd (eqb-false H R refl q);
+        list = record { below = f .list; empty = λ q. absurd (q refl) };
       });
       few = omega arith;
       passed = omega arith;

@@ -6,6 +6,7 @@ use mathlib.Core.List.{List, List·Memᴰ, Memᴰ·map, Memᴰ·of-map}
 use Prim.Native.Nat.{ℕ, _≤_, _<_}
 use native.Mathlib.Omega.{arith}
 use lib.ListN.{length}
+use lib.Pow.{pow-pos}
 use Rattle.limits.specs.Limits.{mostNodes, mostSent}
 use Rattle.ring.specs.Ring.{rowSize, listed, listing, place, targets, InOrder}
 use Rattle.ring.proofs.Counts.{targets-few}
@@ -13,18 +14,23 @@ use Rattle.ring.proofs.Targets.{target-below, target-other, target-unlisted}
 use Rattle.node.specs.declared.Message.{Message}
 use Rattle.node.specs.declared.Node.{Node}
 use Rattle.node.specs.Node.{Turn, R, message, reports, leftList, onMessage}
-use Rattle.node.specs.Range.{Known}
+use Rattle.node.specs.Range.{Known, Carried}
 use Rattle.node.proofs.Messages.{length-reports}
 use Rattle.node.proofs.Moves.{Heard, renews, unheard, Left, stops, moves, Reported, known, own, leaves, relays}
 use Rattle.node.proofs.Moves.{Messaged, beats, observes, tells, messaged}
 
--- a message that node me of n may send: to another node, and of a subject that is a node; on R, not the receiver
+-- a message that node me of n may send: to another node, and of a subject that is a node; on R, not the receiver; only an H carries a list
 pub record Sendable (n me : ℕ) (v : Message) : Type 0 where
   pub kind : Known (v .kind)
   pub to : v .to < n
   pub apart : v .to ≢ me
   pub subject : v .subject < n
   pub about : v .kind ≡ R → v .subject ≢ v .to
+  pub list : Carried n (v .kind) (v .list)
+
+-- a message without a list
+pub carries-none : (n kind : ℕ) → Carried n kind 0
+carries-none n kind = record { below = pow-pos n; empty = λ q. refl }
 
 -- ---- reports
 
@@ -56,6 +62,7 @@ module _ (n : ℕ) (order : List ℕ) (io : InOrder n order) (me : ℕ) (below :
         apart = target-apart (r .0) (r .1);
         subject = sN;
         about = λ q e. true≢false (sym on ∙ ap (listed d) e ∙ open-y);
+        list = carries-none n R;
       })
 
 -- ---- how many
@@ -74,14 +81,14 @@ module _ (order : List ℕ) (few : length order ≤ mostNodes) where
   told-few w tick me subject n u (leaves e f g v l) = left-few w tick me n v l
   told-few w tick me subject n u (relays e f g) = omega (arith, reports-few subject (listing (n .list) subject) (place order me))
 
-  pub message-few : (w tick me kind from subject : ℕ) (n : Node) → length (onMessage order w tick me kind from subject n .sends) ≤ mostSent
-  message-few w tick me kind from subject n = go _ (messaged order w tick me kind from subject n)
+  pub message-few : (w tick me kind from subject list : ℕ) (n : Node) → length (onMessage order w tick me kind from subject list n .sends) ≤ mostSent
+  message-few w tick me kind from subject list n = go _ (messaged order w tick me kind from subject list n)
     where
-      silent-few : (u : Turn) → Heard w tick from n u → length (u .sends) ≤ mostSent
+      silent-few : (u : Turn) → Heard w tick me from list n u → length (u .sends) ≤ mostSent
       silent-few u (renews e) = omega arith
       silent-few u (unheard e) = omega arith
 
-      go : (u : Turn) → Messaged order w tick me kind from subject n u → length (u .sends) ≤ mostSent
+      go : (u : Turn) → Messaged order w tick me kind from subject list n u → length (u .sends) ≤ mostSent
       go u (beats e v h) = silent-few v h
       go u (observes e) = omega arith
       go u (tells e f v r) = told-few w tick me subject n v r

@@ -9,10 +9,11 @@ use native.Mathlib.Decide.{ℕ-discrete}
 use borrow.Author.Tests.{eq-eqb, ne-eqb, eqb-true, leb-true, le-leb, lt-leb, ltb-true, lt-ltb, le-ltb, not-true}
 use lib.Dec.{eqb, leb, ltb}
 use lib.Pow.{pow-pos}
-use Rattle.ring.specs.Ring.{listed}
+use Rattle.ring.specs.Ring.{listed, partOf}
 use Rattle.node.specs.declared.Node.{Node}
 use Rattle.node.specs.Node.{H, O, R}
 use Rattle.node.specs.Range.{NodeRange, LiveRange, NotOverdue, Known, nodeTest, apart, liveTest, notOverdue, timersTest, kindTest}
+use Rattle.node.specs.Range.{Carried, carriedTest}
 
 -- ---- a node's fields
 
@@ -25,13 +26,15 @@ module _ (n h w t : ℕ) (a : Node) where
       let x = and-eq-true-iff _ _ .0 (v .1) in
       let y = and-eq-true-iff _ _ .0 (x .1) in
       let z = and-eq-true-iff _ _ .0 (y .1) in
+      let r = and-eq-true-iff _ _ .0 (z .1) in
       record {
         emitter = ltb-true _ _ (u .0);
         observer = ltb-true _ _ (v .0);
         list = ltb-true _ _ (x .0);
         unlisted = not-true _ (y .0);
+        mark = r .1;
         watch = leb-true _ _ (z .0);
-        heartbeat = leb-true _ _ (z .1);
+        heartbeat = leb-true _ _ (r .0);
       }
 
   pub facts-node : NodeRange n h w t a → nodeTest n h w t a ≡ true
@@ -42,6 +45,7 @@ module _ (n h w t : ℕ) (a : Node) where
         lt-ltb _ _ (f .observer),
         lt-ltb _ _ (f .list),
         f .unlisted,
+        f .mark,
         le-leb _ _ (f .watch),
         le-leb _ _ (f .heartbeat),
       )
@@ -62,7 +66,7 @@ module _ (n h w t : ℕ) (a : Node) where
       list-out l = rw (lt-ltb (a .emitter) n e<, lt-ltb (a .observer) n o<, le-ltb (a .list) (2 ^ n) (omega arith))
 
       module _ (l≤ : a .list ≤ all) (r : Bool) (is : r ≡ listed (a .list) (a .emitter)) where
-        rest-on : nodeTest n h w t a ≡ (not r && (leb (a .watch) (suc (t + 2 * w)) && leb (a .heartbeat) (suc (t + h))))
+        rest-on : nodeTest n h w t a ≡ (not r && (leb (a .watch) (suc (t + 2 * w)) && (leb (a .heartbeat) (suc (t + h)) && partOf (a .mark) (a .list))))
         unfolding nodeTest
         rest-on =
             rw (lt-ltb (a .emitter) n e<, lt-ltb (a .observer) n o<, lt-ltb (a .list) (2 ^ n) (omega (arith, pow-pos n)), ← is)
@@ -74,8 +78,15 @@ module _ (n h w t : ℕ) (a : Node) where
           pub watch-out : t + 2 * w + 1 < a .watch → false ≡ nodeTest n h w t a
           watch-out x = rw (rest-on, un, lt-leb (a .watch) (suc (t + 2 * w)) (omega arith))
 
-          pub heartbeat-last : a .watch ≤ t + 2 * w + 1 → leb (a .heartbeat) (t + h + 1) ≡ nodeTest n h w t a
-          heartbeat-last x = rw (rest-on, un, le-leb (a .watch) (suc (t + 2 * w)) (omega arith), add-one (t + h))
+          module _ (w≤ : a .watch ≤ t + 2 * w + 1) where
+            watch-in : nodeTest n h w t a ≡ (leb (a .heartbeat) (suc (t + h)) && partOf (a .mark) (a .list))
+            watch-in = rw (rest-on, un, le-leb (a .watch) (suc (t + 2 * w)) (omega arith))
+
+            pub heartbeat-out : t + h + 1 < a .heartbeat → false ≡ nodeTest n h w t a
+            heartbeat-out x = rw (watch-in, lt-leb (a .heartbeat) (suc (t + h)) (omega arith))
+
+            pub mark-last : a .heartbeat ≤ t + h + 1 → partOf (a .mark) (a .list) ≡ nodeTest n h w t a
+            mark-last x = rw (watch-in, le-leb (a .heartbeat) (suc (t + h)) (omega arith))
 
 -- ---- a live node
 
@@ -173,3 +184,20 @@ module _ (k : ℕ) where
   kind-fits (inl e) = omega arith
   kind-fits (inr (inl e)) = omega arith
   kind-fits (inr (inr e)) = omega arith
+
+-- ---- a list that a message carries
+
+module _ (n kind list : ℕ) where
+  pub carried-facts : carriedTest n kind list ≡ true → Carried n kind list
+  unfolding carriedTest
+  carried-facts e =
+      let u = and-eq-true-iff (ltb list (2 ^ n)) _ .0 e in
+      record { below = ltb-true _ _ (u .0); empty = λ q. eqb-true list 0 (rw (ne-eqb kind H q) at (u .1)) }
+
+  pub facts-carried : Carried n kind list → carriedTest n kind list ≡ true
+  unfolding carriedTest
+  facts-carried c = rw (lt-ltb list (2 ^ n) (c .below)) (go (ℕ-discrete kind H))
+    where
+      go : Dec (kind ≡ H) → (eqb kind H || eqb list 0) ≡ true
+      go (yes q) = rw (eq-eqb kind H q)
+      go (no q) = rw (ne-eqb kind H q, eq-eqb list 0 (c .empty q))

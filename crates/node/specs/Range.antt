@@ -3,22 +3,23 @@
 -- Assumes nothing.
 use mathlib.Core.Path.{_≡_}
 use mathlib.Core.Logic.{_≢_, _⊎_}
-use mathlib.Core.Bool.{Bool, false, not, _&&_, _||_}
+use mathlib.Core.Bool.{Bool, true, false, not, _&&_, _||_}
 use Prim.Native.Nat.{ℕ, _+_, _*_, _^_, _≤_, _<_}
 use lib.Dec.{eqb, leb, ltb}
-use Rattle.ring.specs.Ring.{listed}
+use Rattle.ring.specs.Ring.{listed, partOf}
 use Rattle.node.specs.declared.Node.{Node}
 use Rattle.node.specs.Node.{off, due, H, O, R}
 
 -- ---- facts
 
--- any node's fields: emitter, observer and list are of nodes below n, the list does not have the emitter, and a timer is off or due at a
--- tick that a rule can set
+-- any node's fields: emitter, observer and list are of nodes below n, the list does not have the emitter, the mark is part of the list and
+-- so of nodes below n too, and a timer is off or due at a tick that a rule can set
 pub record NodeRange (n h w t : ℕ) (a : Node) : Type 0 where
   pub emitter : a .emitter < n
   pub observer : a .observer < n
   pub list : a .list < 2 ^ n
   pub unlisted : listed (a .list) (a .emitter) ≡ false
+  pub mark : partOf (a .mark) (a .list) ≡ true
   pub watch : a .watch ≤ due (t + 2 * w)
   pub heartbeat : a .heartbeat ≤ due (t + h)
 
@@ -38,12 +39,18 @@ pub record NotOverdue (t : ℕ) (a : Node) : Type 0 where
 abbrev pub Known : ℕ → Type 0
 Known kind = (kind ≡ H) ⊎ ((kind ≡ O) ⊎ (kind ≡ R))
 
+-- a list that a message of a kind carries: it is of nodes below n, and empty unless the message is an H
+pub record Carried (n kind list : ℕ) : Type 0 where
+  pub below : list < 2 ^ n
+  pub empty : kind ≢ H → list ≡ 0
+
 -- ---- the same as computed tests
 
 unfoldable pub nodeTest : ℕ → ℕ → ℕ → ℕ → Node → Bool
 nodeTest n h w t a =
     ltb (a .emitter) n && (ltb (a .observer) n && (ltb (a .list) (2 ^ n)
-    && (not (listed (a .list) (a .emitter)) && (leb (a .watch) (due (t + 2 * w)) && leb (a .heartbeat) (due (t + h))))))
+    && (not (listed (a .list) (a .emitter)) && (leb (a .watch) (due (t + 2 * w)) && (leb (a .heartbeat) (due (t + h))
+    && partOf (a .mark) (a .list))))))
 
 -- a timer is off, or what it is about is another node
 unfoldable pub apart : ℕ → ℕ → ℕ → Bool
@@ -62,3 +69,6 @@ timersTest t a = notOverdue t (a .watch) && notOverdue t (a .heartbeat)
 
 unfoldable pub kindTest : ℕ → Bool
 kindTest k = eqb k H || (eqb k O || eqb k R)
+
+unfoldable pub carriedTest : ℕ → ℕ → ℕ → Bool
+carriedTest n kind list = ltb list (2 ^ n) && (eqb kind H || eqb list 0)

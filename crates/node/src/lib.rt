@@ -7,23 +7,26 @@ ghost use lib.ListN.{length, take};
 ghost use lib.Seq.{sets};
 ghost use Rattle.limits.specs.Limits.{mostNodes, mostH, mostW, mostTick};
 ghost use Rattle.node.specs.Node.{message, reports, silent, sending, alone, opening, onHeartbeat, onObserver, onReport, onHeartbeatDue, onWatchDue};
-ghost use Rattle.node.specs.Node.{onMessage, turned, relayed, leaving, withPassed};
+ghost use Rattle.node.specs.Node.{onMessage, turned, relayed, leaving, withPassed, learnt};
 ghost use Rattle.node.specs.Range.{nodeTest, apart, liveTest};
 
-// A node's fields. A timer is 0 where it is off, else one more than the tick at which it is due.
+// A node's fields. The mark has those of its listed nodes of which it took a report, or which it left as its emitter: a further report of them does
+// nothing. A timer is 0 where it is off, else one more than the tick at which it is due.
 pub struct Node {
     pub emitter: u8,
     pub observer: u8,
     pub watch: u32,
     pub heartbeat: u32,
     pub list: u64,
+    pub mark: u64,
 }
 
-// A message as its sender gives it away: its letter (b'H', b'O' or b'R'), its receiver and, on R, its subject.
+// A message as its sender gives it away: its letter (b'H', b'O' or b'R'), its receiver, on R its subject and on H its sender's list.
 pub struct Message {
     pub kind: u8,
     pub to: u8,
     pub subject: u8,
+    pub list: u64,
 }
 
 // A node after a rule, with what it sends: the first `count` of seven messages. The others are zero. And how many listed nodes its search for a
@@ -42,6 +45,7 @@ fn no_message() -> Message
         kind: 0,
         to: 0,
         subject: 0,
+        list: 0,
     }
 }
 
@@ -103,6 +107,7 @@ fn put_reports(
             kind: b'R',
             to: to[i],
             subject,
+            list: 0,
         };
         i += 1;
     }
@@ -131,8 +136,8 @@ fn relay(order: &[u8], me: u8, subject: u8, t: Turned) -> Turned
 }
 
 // A node that is alone.
-fn lone(me: u8, list: u64) -> Node
-    ensures { λ r. ⌜ r ≡ alone me list ⌝ }
+fn lone(me: u8, list: u64, mark: u64) -> Node
+    ensures { λ r. ⌜ r ≡ alone me list mark ⌝ }
 {
     Node {
         emitter: me,
@@ -140,29 +145,33 @@ fn lone(me: u8, list: u64) -> Node
         watch: 0,
         heartbeat: 0,
         list,
+        mark,
     }
 }
 
-// Leaving the emitter: it is listed and reported, and the first unlisted node going back from it becomes the emitter. The search begins at the node
+// Leaving the emitter: it is listed, marked and reported, and the first unlisted node going back from it becomes the emitter. The search begins at the node
 // that is left, so that it is passed too.
 fn leave_emitter(order: &[u8], w: u32, tick: u32, me: u8, n: Node) -> Turned
     requires { ⌜ (1 ≤ length (now order)) × (length (now order) ≤ mostNodes) × (w ≤ mostW) × (tick ≤ mostTick) × (n .emitter < mostNodes) ⌝ }
     ensures { λ r. ⌜ r ≡ turned (leaving (now (order .entry)) w tick me n) ⌝ }
 {
     let list = ring::with_listed(n.list, n.emitter);
+    let mark = ring::with_listed(n.mark, n.emitter);
     let p = ring::place_of(order, n.emitter);
     let found = ring::find_back(order, list, p + 1);
     if found.node == me {
-        return with_passed(quiet(lone(me, list)), found.passed);
+        return with_passed(quiet(lone(me, list, mark)), found.passed);
     }
     let mut m = n;
     m.emitter = found.node;
     m.watch = tick + 2 * w + 1;
     m.list = list;
+    m.mark = mark;
     let observe = Message {
         kind: b'O',
         to: found.node,
         subject: 0,
+        list: 0,
     };
     let turned = with_passed(sends_one(m, observe), found.passed);
     relay(order, me, n.emitter, turned)
@@ -174,7 +183,7 @@ pub fn opened(order: &[u8], h: u32, w: u32, me: u8) -> Node
     ensures { λ r. ⌜ r ≡ opening (now (order .entry)) h w me ⌝ }
 {
     if order.len() <= 1 {
-        return lone(me, 0);
+        return lone(me, 0, 0);
     }
     let p = ring::place_of(order, me);
     let before = ring::find_back(order, 0, p);
@@ -185,19 +194,30 @@ pub fn opened(order: &[u8], h: u32, w: u32, me: u8) -> Node
         watch: w + 1,
         heartbeat: h + 1,
         list: 0,
+        mark: 0,
     }
 }
 
-// Message H: from the emitter it renews the watch.
-pub fn on_heartbeat(w: u32, tick: u32, from: u8, n: Node) -> Turned
-    requires { ⌜ (w ≤ mostW) × (tick ≤ mostTick) ⌝ }
-    ensures { λ r. ⌜ r ≡ turned (onHeartbeat w tick from n) ⌝ }
+// What a node takes from the list that an H carries: not itself and not the sender.
+fn learnt_from(me: u8, from: u8, list: u64) -> u64
+    requires { ⌜ (me < mostNodes) × (from < mostNodes) ⌝ }
+    ensures { λ r. ⌜ r ≡ learnt me from list ⌝ }
+{
+    let others = ring::with_unlisted(list, me);
+    ring::with_unlisted(others, from)
+}
+
+// Message H: from the emitter it renews the watch, and the nodes of the list that it carries are listed.
+pub fn on_heartbeat(w: u32, tick: u32, me: u8, from: u8, list: u64, n: Node) -> Turned
+    requires { ⌜ (w ≤ mostW) × (tick ≤ mostTick) × (me < mostNodes) × (from < mostNodes) ⌝ }
+    ensures { λ r. ⌜ r ≡ turned (onHeartbeat w tick me from list n) ⌝ }
 {
     if n.emitter != from {
         return quiet(n);
     }
     let mut m = n;
     m.watch = tick + w + 1;
+    m.list = ring::with_all(n.list, learnt_from(me, from, list));
     quiet(m)
 }
 
@@ -212,12 +232,12 @@ pub fn on_observer(tick: u32, from: u8, n: Node) -> Turned
     quiet(m)
 }
 
-// Message R: a subject that is new here is listed and reported on; an emitter is also left.
+// Message R: a subject that is not marked here is marked, listed and reported on; an emitter is also left.
 pub fn on_report(order: &[u8], w: u32, tick: u32, me: u8, subject: u8, n: Node) -> Turned
     requires { ⌜ (1 ≤ length (now order)) × (length (now order) ≤ mostNodes) × (w ≤ mostW) × (tick ≤ mostTick) × (subject < mostNodes) ⌝ }
     ensures { λ r. ⌜ r ≡ turned (onReport (now (order .entry)) w tick me subject n) ⌝ }
 {
-    if ring::is_listed(n.list, subject) {
+    if ring::is_listed(n.mark, subject) {
         return quiet(n);
     }
     if subject == me {
@@ -228,10 +248,11 @@ pub fn on_report(order: &[u8], w: u32, tick: u32, me: u8, subject: u8, n: Node) 
     }
     let mut m = n;
     m.list = ring::with_listed(n.list, subject);
+    m.mark = ring::with_listed(n.mark, subject);
     relay(order, me, subject, quiet(m))
 }
 
-// Heartbeat due: H to the observer.
+// Heartbeat due: H to the observer, with the list.
 pub fn on_heartbeat_due(h: u32, tick: u32, n: Node) -> Turned
     requires { ⌜ (h ≤ mostH) × (tick ≤ mostTick) ⌝ }
     ensures { λ r. ⌜ r ≡ turned (onHeartbeatDue h tick n) ⌝ }
@@ -240,6 +261,7 @@ pub fn on_heartbeat_due(h: u32, tick: u32, n: Node) -> Turned
         kind: b'H',
         to: n.observer,
         subject: 0,
+        list: n.list,
     };
     let mut m = n;
     m.heartbeat = tick + h + 1;
@@ -263,13 +285,15 @@ pub fn on_message(
     kind: u8,
     from: u8,
     subject: u8,
+    list: u64,
     n: Node,
 ) -> Turned
-    requires { ⌜ (1 ≤ length (now order)) × (length (now order) ≤ mostNodes) × (w ≤ mostW) × (tick ≤ mostTick) × (subject < mostNodes) ⌝ }
-    ensures { λ r. ⌜ r ≡ turned (onMessage (now (order .entry)) w tick me kind from subject n) ⌝ }
+    requires { ⌜ (1 ≤ length (now order)) × (length (now order) ≤ mostNodes) × (w ≤ mostW) × (tick ≤ mostTick) × (me < mostNodes) ⌝ }
+    requires { ⌜ (from < mostNodes) × (subject < mostNodes) ⌝ }
+    ensures { λ r. ⌜ r ≡ turned (onMessage (now (order .entry)) w tick me kind from subject list n) ⌝ }
 {
     match kind {
-        b'H' => on_heartbeat(w, tick, from, n),
+        b'H' => on_heartbeat(w, tick, me, from, list, n),
         b'O' => on_observer(tick, from, n),
         _ => on_report(order, w, tick, me, subject, n),
     }
@@ -297,7 +321,10 @@ pub fn node_in_range(n: u8, h: u32, w: u32, t: u32, a: Node) -> bool
     if t + 2 * w + 1 < a.watch {
         return false;
     }
-    a.heartbeat <= t + h + 1
+    if t + h + 1 < a.heartbeat {
+        return false;
+    }
+    ring::is_part(a.mark, a.list)
 }
 
 // A timer is off, or what it is about is another node.

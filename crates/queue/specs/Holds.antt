@@ -27,7 +27,7 @@ subjectIn w = w % 256
 
 -- a message as a row
 unfoldable pub packed : InFlight → Row
-packed m = record { due = m .due; number = m .number; word = wordOf (m .kind) (m .from) (m .to) (m .subject) }
+packed m = record { due = m .due; number = m .number; word = wordOf (m .kind) (m .from) (m .to) (m .subject); list = m .list }
 
 -- what messages are ordered by
 abbrev pub due : InFlight → ℕ

@@ -54,6 +54,18 @@ listed d i = eqb (d / 2 ^ i % 2) 1
 unfoldable pub listing : ℕ → ℕ → ℕ
 listing d i = bitOr d (2 ^ i)
 
+-- d without node i
+unfoldable pub unlisting : ℕ → ℕ → ℕ
+unlisting d i = cond (listed d i) (d - 2 ^ i) d
+
+-- d with all nodes listed that e lists
+unfoldable pub merging : ℕ → ℕ → ℕ
+merging d e = bitOr d e
+
+-- every node that m lists is one that d lists: m adds nothing to d
+unfoldable pub partOf : ℕ → ℕ → Bool
+partOf m d = eqb (bitOr m d) d
+
 -- d with all nodes of a list listed
 unfoldable pub listingAll : ℕ → List ℕ → ℕ
 listingAll d [] = d

@@ -5,8 +5,8 @@ ghost use mathlib.Core.Path.{_≡_};
 ghost use Prim.Native.Nat.{_-_, _^_, _<_, _≤_};
 ghost use lib.ListN.{length, getD};
 ghost use Rattle.limits.specs.Limits.{mostNodes};
-ghost use Rattle.ring.specs.Ring.{numbers, listed, listing, unlistedSet, place, round, ahead, back, next, count, jumps, targets, row, tableAnswer};
-ghost use Rattle.ring.specs.Ring.{tableRow, tableRows};
+ghost use Rattle.ring.specs.Ring.{numbers, listed, listing, unlisting, merging, partOf, unlistedSet, place, round, ahead, back, next, count, jumps};
+ghost use Rattle.ring.specs.Ring.{targets, row, tableAnswer, tableRow, tableRows};
 
 // The targets in a row.
 pub const ROW_SIZE: usize = 6;
@@ -46,6 +46,31 @@ pub fn with_listed(d: u64, i: u8) -> u64
     ensures { λ r. ⌜ r ≡ listing d i ⌝ }
 {
     d | 1 << i
+}
+
+// A dead list without node i.
+pub fn with_unlisted(list: u64, i: u8) -> u64
+    requires { ⌜ i < mostNodes ⌝ }
+    ensures { λ r. ⌜ r ≡ unlisting list i ⌝ }
+{
+    if is_listed(list, i) {
+        return list - (1 << i);
+    }
+    list
+}
+
+// The dead list d with all that e lists.
+pub fn with_all(d: u64, e: u64) -> u64
+    ensures { λ r. ⌜ r ≡ merging d e ⌝ }
+{
+    d | e
+}
+
+// Whether d lists every node that m lists.
+pub fn is_part(m: u64, d: u64) -> bool
+    ensures { λ r. ⌜ r ≡ partOf m d ⌝ }
+{
+    m | d == d
 }
 
 // The set of all of n nodes.

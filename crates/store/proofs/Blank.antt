@@ -14,7 +14,7 @@ use Rattle.fields.specs.Fields.{zeros}
 use Rattle.plans.specs.Plan.{Plan}
 use Rattle.model.specs.Platform.{State}
 use Rattle.store.specs.Columns.{Column, Part, size, used, packs, columnBytes, bytesOf, restZero, unusedTest, columnsOf, placesTest, restTest}
-use Rattle.store.specs.Store.{spareHead, spareNodes, spareTail}
+use Rattle.store.specs.Store.{spareHead, spareTail}
 use Rattle.store.specs.Store.{headParts, ringParts, nodeParts, crashParts, delayParts, messageParts, contents, columns, encode}
 use Rattle.store.specs.Inside.{Fits}
 use Rattle.store.proofs.Parts.{length-packs}
@@ -66,9 +66,9 @@ rest-full k (g ∷ gs) b h =
     rw (places, slice-empty (g .field .at + g .field .width * k) b, rest-full k gs b (h′ .1))
 
 pub unused-parts : (b : List ℕ) (p : Plan) (s : State) → unusedTest b (columns p s)
-    ≡ (restZero b spareHead 0 && (restTest ringParts b (length (p .ring)) && (restTest nodeParts b (length (s .nodes)) && (restZero b spareNodes 0
+    ≡ (restZero b spareHead 0 && (restTest ringParts b (length (p .ring)) && (restTest nodeParts b (length (s .nodes))
     && (restTest crashParts b (length (p .crashes)) && (restTest delayParts b (length (p .delays))
-    && (restTest messageParts b (length (s .flight)) && restZero b spareTail 0)))))))
+    && (restTest messageParts b (length (s .flight)) && restZero b spareTail 0))))))
 unfolding unusedTest columns
 unused-parts b p s =
     rw (

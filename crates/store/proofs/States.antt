@@ -120,10 +120,10 @@ module _ (p : Plan) (s : State) (f : Fits p s) where
       fits-with (withNode s i a) (length-set (s .nodes) i a) few (f .head) (fit-set nodeParts (s .nodes) i a (f .nodeRows) (search needs)) (f .messageRows)
 
   pub message-fits : (m : InFlight) → length (s .flight) < mostInFlight → m .number < 256 ^ 8
-      → m .kind < 256 → m .from < 256 → m .to < 256 → m .subject < 256 → m .due < 256 ^ 4
+      → m .kind < 256 → m .from < 256 → m .to < 256 → m .subject < 256 → m .due < 256 ^ 4 → m .list < 256 ^ 8
       → Fits p (withMessage s m)
   unfolding withFlight RowFits RowsFit headParts timeParts routeParts
-  message-fits m h n k1 k2 k3 k4 k5 =
+  message-fits m h n k1 k2 k3 k4 k5 k6 =
       let k = f .head in
       let e : length (s .flight ++ (m ∷ [])) ≡ length (s .flight) + 1 = length-append (s .flight) (m ∷ []) in
       let row : RowsFit messageParts (m ∷ []) = search needs in

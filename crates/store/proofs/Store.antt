@@ -21,9 +21,9 @@ use Rattle.plans.specs.Plain.{rowAt}
 use Rattle.store.specs.Columns.{Column, unused, cell, number, joined, roomTest, unusedTest}
 use Rattle.store.specs.Columns.{columnsOf, numbersOf, cellsAt, RowFits, RowsFit, placesTest}
 use Rattle.limits.specs.Limits.{storeSize}
-use Rattle.store.specs.Store.{nodeCount, crashCount, delayCount, messageCount, ringSize, spareHead, ringNodes, spareNodes, spareTail}
-use Rattle.store.specs.Store.{emitters, observers, watches, heartbeats, deadLists, crashTicks, crashNodes, delayNumbers, delayTicks}
-use Rattle.store.specs.Store.{messageNumbers, messageDues, messageKinds, messageSenders, messageReceivers, messageSubjects}
+use Rattle.store.specs.Store.{nodeCount, crashCount, delayCount, messageCount, ringSize, spareHead, ringNodes, spareTail}
+use Rattle.store.specs.Store.{emitters, observers, watches, heartbeats, deadLists, marks, crashTicks, crashNodes, delayNumbers, delayTicks}
+use Rattle.store.specs.Store.{messageNumbers, messageDues, messageKinds, messageSenders, messageReceivers, messageSubjects, messageLists}
 use Rattle.store.specs.Store.{Contents, contents, headParts, ringParts, nodeParts, crashParts, delayParts, timeParts, routeParts, messageParts}
 use Rattle.store.specs.Store.{columns, encode, nodeIn, crashRowIn, delayRowIn, messageIn, planIn, stateIn}
 use Rattle.store.specs.Inside.{Counts, Fits, Held}
@@ -73,7 +73,7 @@ module _ (p : Plan) (s : State) where
   beforeNodes = beforeRing ++ columnsOf ringParts (p .ring)
 
   abbrev pub beforeCrashes : List Column
-  beforeCrashes = beforeNodes ++ (columnsOf nodeParts (s .nodes) ++ (unused spareNodes ∷ []))
+  beforeCrashes = beforeNodes ++ columnsOf nodeParts (s .nodes)
 
   abbrev pub beforeDelays : List Column
   beforeDelays = beforeCrashes ++ columnsOf crashParts (p .crashes)
@@ -91,7 +91,7 @@ module _ (p : Plan) (s : State) where
   afterCrashes = columnsOf delayParts (p .delays) ++ afterDelays
 
   abbrev pub afterNodes : List Column
-  afterNodes = unused spareNodes ∷ (columnsOf crashParts (p .crashes) ++ afterCrashes)
+  afterNodes = columnsOf crashParts (p .crashes) ++ afterCrashes
 
   abbrev pub afterRing : List Column
   afterRing = columnsOf nodeParts (s .nodes) ++ afterNodes
@@ -221,9 +221,9 @@ module _ (p : Plan) (s : State) where
     nodes-read : map (nodeIn b) (numbers 0 (length (s .nodes))) ≡ s .nodes
     unfolding encode cellsAt numbersOf nodeParts
     nodes-read =
-        let d : Node = record { emitter = 0; observer = 0; watch = 0; heartbeat = 0; list = 0 } in
+        let d : Node = record { emitter = 0; observer = 0; watch = 0; heartbeat = 0; list = 0; mark = 0 } in
         rows-read (columns p s) beforeNodes afterNodes nodeParts (s .nodes) at-nodes laid (f .nodeRows) d (nodeIn b)
-        (λ i e. rw (same-at e 0, same-at e 1, same-at e 2, same-at e 3, same-at e 4))
+        (λ i e. rw (same-at e 0, same-at e 1, same-at e 2, same-at e 3, same-at e 4, same-at e 5))
 
     crashes-read : map (crashRowIn b) (numbers 0 (length (p .crashes))) ≡ p .crashes
     unfolding encode cellsAt numbersOf crashParts
@@ -242,9 +242,9 @@ module _ (p : Plan) (s : State) where
     messages-read : map (messageIn b) (numbers 0 (length (s .flight))) ≡ s .flight
     unfolding encode cellsAt numbersOf timeParts routeParts
     messages-read =
-        let d : InFlight = record { number = 0; kind = 0; from = 0; to = 0; subject = 0; due = 0 } in
+        let d : InFlight = record { number = 0; kind = 0; from = 0; to = 0; subject = 0; due = 0; list = 0 } in
         rows-read (columns p s) beforeMessages afterMessages messageParts (s .flight) at-messages laid (f .messageRows) d (messageIn b)
-        (λ i e. rw (same-at e 0, same-at e 1, same-at e 2, same-at e 3, same-at e 4, same-at e 5))
+        (λ i e. rw (same-at e 0, same-at e 1, same-at e 2, same-at e 3, same-at e 4, same-at e 5, same-at e 6))
 
     -- what was encoded is what the bytes hold
     pub plan-encode : planIn (encode p s) ≡ p
@@ -298,9 +298,10 @@ module _ (b : List ℕ) where
         watch = cell b watches i;
         heartbeat = cell b heartbeats i;
         list = cell b deadLists i;
+        mark = cell b marks i;
       }
   unfolding planIn stateIn
-  node-read i h = row-made (nodeIn b) (number b nodeCount) i (alone i 0) h ∙ rw (one-mul i)
+  node-read i h = row-made (nodeIn b) (number b nodeCount) i (alone i 0 0) h ∙ rw (one-mul i)
 
   pub ring-number : (i : ℕ) → i < length (planIn b .ring) → getD (planIn b .ring) i 0 ≡ fieldAt b (ringNodes .at + i) 1
   unfolding planIn
@@ -336,6 +337,7 @@ module _ (b : List ℕ) where
         to = fieldAt b (messageReceivers .at + i) 1;
         subject = fieldAt b (messageSubjects .at + i) 1;
         due = cell b messageDues i;
+        list = cell b messageLists i;
       }
   unfolding stateIn
   message-read i h =
@@ -387,7 +389,7 @@ module _ (b : List ℕ) where
       let s : State = stateIn b in
       let messages : ReadFrom b (afterDelays p s) = columns-read b (s .flight) (messageIn b 0) messageParts (afterMessages p s) message-cells (refl, tt) in
       let delays : ReadFrom b (afterCrashes p s) = columns-read b (p .delays) (delayRowIn b 0) delayParts (afterDelays p s) delay-cells messages in
-      let crashes : ReadFrom b (afterNodes p s) = (refl, columns-read b (p .crashes) (crashRowIn b 0) crashParts (afterCrashes p s) crash-cells delays) in
+      let crashes : ReadFrom b (afterNodes p s) = columns-read b (p .crashes) (crashRowIn b 0) crashParts (afterCrashes p s) crash-cells delays in
       let nodes : ReadFrom b (afterRing p s) = columns-read b (s .nodes) (nodeIn b 0) nodeParts (afterNodes p s) node-cells crashes in
       let ring : ReadFrom b (columnsOf ringParts (p .ring) ++ afterRing p s) =
       columns-read b (p .ring) (cell b ringNodes 0) ringParts (afterRing p s) ring-cells nodes in

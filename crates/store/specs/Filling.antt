@@ -38,7 +38,7 @@ putDelay b i number delay = cellPut (rowPut delayParts b i (record { number = nu
 
 -- a node of which all bytes are zero
 unfoldable pub zeroNode : Node
-zeroNode = record { emitter = 0; observer = 0; watch = 0; heartbeat = 0; list = 0 }
+zeroNode = record { emitter = 0; observer = 0; watch = 0; heartbeat = 0; list = 0; mark = 0 }
 
 -- no node is opened yet
 unfoldable pub unopened : Plan → State

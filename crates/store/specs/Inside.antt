@@ -36,6 +36,7 @@ pub record SmallNode (a : Node) : Type 0 where
   pub watch : a .watch < 256 ^ 4
   pub heartbeat : a .heartbeat < 256 ^ 4
   pub list : a .list < 256 ^ 8
+  pub mark : a .mark < 256 ^ 8
 
 -- a plan and a state that a store can hold: every number fits its field
 pub record Fits (p : Plan) (s : State) : Type 0 where
@@ -95,11 +96,11 @@ abbrev pub delayRow : Delay → DelayRow
 delayRow r = record { number = r .number; delay = r .delay }
 
 abbrev pub flying : InFlight → Flight
-flying m = record { number = m .number; due = m .due; kind = m .kind; from = m .from; to = m .to; subject = m .subject }
+flying m = record { number = m .number; due = m .due; kind = m .kind; from = m .from; to = m .to; subject = m .subject; list = m .list }
 
 -- and the message that such a row stands for
 abbrev pub messageOf : Flight → InFlight
-messageOf m = record { number = m .number; kind = m .kind; from = m .from; to = m .to; subject = m .subject; due = m .due }
+messageOf m = record { number = m .number; kind = m .kind; from = m .from; to = m .to; subject = m .subject; due = m .due; list = m .list }
 
 -- ---- the search for a message's L row
 

@@ -76,9 +76,8 @@ heartbeats = field 512 4 64
 abbrev pub deadLists : Field
 deadLists = field 768 8 64
 
--- bytes 1280 to 1791
-abbrev pub spareNodes : Field
-spareNodes = field 1280 1 512
+abbrev pub marks : Field
+marks = field 1280 8 64
 
 -- the rows of C lines and of L lines
 abbrev pub crashTicks : Field
@@ -112,9 +111,12 @@ messageReceivers = field 41024 1 2048
 abbrev pub messageSubjects : Field
 messageSubjects = field 43072 1 2048
 
--- bytes 45120 to 65535
+abbrev pub messageLists : Field
+messageLists = field 45120 8 2048
+
+-- bytes 61504 to 65535
 abbrev pub spareTail : Field
-spareTail = field 45120 1 20416
+spareTail = field 61504 1 4032
 
 -- ---- encoding
 
@@ -153,6 +155,7 @@ nodeParts =
     ∷ part watches (λ a. a .watch)
     ∷ part heartbeats (λ a. a .heartbeat)
     ∷ part deadLists (λ a. a .list)
+    ∷ part marks (λ a. a .mark)
     ∷ []
 
 unfoldable pub crashParts : List (Part Crash)
@@ -161,7 +164,7 @@ crashParts = part crashTicks (λ r. r .tick) ∷ part crashNodes (λ r. r .node)
 unfoldable pub delayParts : List (Part Delay)
 delayParts = part delayNumbers (λ r. r .number) ∷ part delayTicks (λ r. r .delay) ∷ []
 
--- a message's number and due; its kind, sender, receiver and subject
+-- a message's number and due; its kind, sender, receiver, subject and list
 unfoldable pub timeParts : List (Part InFlight)
 timeParts = part messageNumbers (λ m. m .number) ∷ part messageDues (λ m. m .due) ∷ []
 
@@ -171,6 +174,7 @@ routeParts =
     ∷ part messageSenders (λ m. m .from)
     ∷ part messageReceivers (λ m. m .to)
     ∷ part messageSubjects (λ m. m .subject)
+    ∷ part messageLists (λ m. m .list)
     ∷ []
 
 abbrev pub messageParts : List (Part InFlight)
@@ -182,10 +186,10 @@ columns p s =
     columnsOf headParts (contents p s ∷ [])
     ++ (unused spareHead ∷ (columnsOf ringParts (p .ring)
     ++ (columnsOf nodeParts (s .nodes)
-    ++ (unused spareNodes ∷ (columnsOf crashParts (p .crashes)
+    ++ (columnsOf crashParts (p .crashes)
     ++ (columnsOf delayParts (p .delays)
     ++ (columnsOf messageParts (s .flight)
-    ++ (unused spareTail ∷ []))))))))
+    ++ (unused spareTail ∷ [])))))))
 
 -- the store of a plan and a state
 unfoldable pub encode : Plan → State → List ℕ
@@ -200,6 +204,7 @@ nodeIn b i = record {
   watch = cell b watches i;
   heartbeat = cell b heartbeats i;
   list = cell b deadLists i;
+  mark = cell b marks i;
 }
 
 abbrev pub crashRowIn : List ℕ → ℕ → Crash
@@ -216,6 +221,7 @@ messageIn b i = record {
   to = cell b messageReceivers i;
   subject = cell b messageSubjects i;
   due = cell b messageDues i;
+  list = cell b messageLists i;
 }
 
 -- the plan that a store's bytes hold

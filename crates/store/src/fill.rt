@@ -7,7 +7,8 @@ ghost use lib.ListN.{length};
 ghost use Rattle.limits.specs.Limits.{mostNodes, mostDelays, storeSize};
 ghost use Rattle.store.specs.Filling.{putStart, putRing, putNode, putCrash, putDelay, unopened};
 ghost use Rattle.plans.specs.Plan.{startPlan};
-ghost use Rattle.store.specs.Store.{encode};
+ghost use Rattle.store.specs.Columns.{cellPut};
+ghost use Rattle.store.specs.Store.{deadLists, marks, encode};
 
 // The P line.
 fn put_start(s: &mut [u8], n: u64, h: u64, w: u64, d: u64, end: u64)
@@ -21,6 +22,15 @@ fn put_start(s: &mut [u8], n: u64, h: u64, w: u64, d: u64, end: u64)
     fields::put(s, layout::END_TICK, 4, end);
 }
 
+// The dead list and the mark of node i.
+fn put_lists(s: &mut [u8], i: usize, list: u64, mark: u64)
+    requires { ⌜ (i < mostNodes) × (length (now s) ≡ storeSize) ⌝ }
+    ensures { λ _. ⌜ now (s .exit) ≡ cellPut (cellPut (now (s .entry)) deadLists i list) marks i mark ⌝ }
+{
+    fields::put(s, layout::DEAD_LISTS + 8 * i, 8, list);
+    fields::put(s, layout::MARKS + 8 * i, 8, mark);
+}
+
 // Node i.
 pub fn put_node(s: &mut [u8], i: usize, a: Node)
     requires { ⌜ (i < mostNodes) × (length (now s) ≡ storeSize) ⌝ }
@@ -30,7 +40,7 @@ pub fn put_node(s: &mut [u8], i: usize, a: Node)
     fields::put(s, layout::OBSERVERS + 1 * i, 1, a.observer as u64);
     fields::put(s, layout::WATCHES + 4 * i, 4, a.watch as u64);
     fields::put(s, layout::HEARTBEATS + 4 * i, 4, a.heartbeat as u64);
-    fields::put(s, layout::DEAD_LISTS + 8 * i, 8, a.list);
+    put_lists(s, i, a.list, a.mark);
 }
 
 // Zeros and the P line: a store without rows, whose nodes are not opened yet.

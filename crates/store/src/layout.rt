@@ -51,7 +51,7 @@ pub const HEARTBEATS: usize = 512;
 
 pub const DEAD_LISTS: usize = 768;
 
-pub const SPARE_NODES: usize = 1280;
+pub const MARKS: usize = 1280;
 
 // ---- the rows of C lines and of L lines
 
@@ -77,4 +77,6 @@ pub const MESSAGE_RECEIVERS: usize = 41024;
 
 pub const MESSAGE_SUBJECTS: usize = 43072;
 
-pub const SPARE_TAIL: usize = 45120;
+pub const MESSAGE_LISTS: usize = 45120;
+
+pub const SPARE_TAIL: usize = 61504;

@@ -18,7 +18,7 @@ pub struct DelayRow {
     pub delay: u8,
 }
 
-// A message in flight. Its kind is its letter: b'H', b'O' or b'R'.
+// A message in flight. Its kind is its letter: b'H', b'O' or b'R'. Its list is its sender's on H, else empty.
 pub struct Flight {
     pub number: u64,
     pub due: u32,
@@ -26,4 +26,5 @@ pub struct Flight {
     pub from: u8,
     pub to: u8,
     pub subject: u8,
+    pub list: u64,
 }

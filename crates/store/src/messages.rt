@@ -34,6 +34,7 @@ pub fn message_at(s: &[u8], i: usize) -> Flight
     let from = cells::get1(s, layout::MESSAGE_SENDERS + i);
     let to = cells::get1(s, layout::MESSAGE_RECEIVERS + i);
     let subject = cells::get1(s, layout::MESSAGE_SUBJECTS + i);
+    let list = fields::get(s, layout::MESSAGE_LISTS + 8 * i, 8);
     Flight {
         number,
         due,
@@ -41,6 +42,7 @@ pub fn message_at(s: &[u8], i: usize) -> Flight
         from,
         to,
         subject,
+        list,
     }
 }
 
@@ -87,7 +89,7 @@ fn close_times(s: &mut [u8], i: usize, n: usize)
     close_gap(s, layout::MESSAGE_DUES, 4, i, n);
 }
 
-// The message at place i of n leaves the columns of kinds, senders, receivers and subjects.
+// The message at place i of n leaves the columns of kinds, senders, receivers, subjects and lists.
 fn close_routes(s: &mut [u8], i: usize, n: usize)
     requires { ⌜ (i < n) × (n ≤ mostInFlight) × (length (now s) ≡ storeSize) ⌝ }
     ensures { λ _. ⌜ now (s .exit) ≡ rowOut routeParts (now (s .entry)) i n ⌝ }
@@ -96,6 +98,7 @@ fn close_routes(s: &mut [u8], i: usize, n: usize)
     close_gap(s, layout::MESSAGE_SENDERS, 1, i, n);
     close_gap(s, layout::MESSAGE_RECEIVERS, 1, i, n);
     close_gap(s, layout::MESSAGE_SUBJECTS, 1, i, n);
+    close_gap(s, layout::MESSAGE_LISTS, 8, i, n);
 }
 
 // The message at a place is taken out, and those after it move down.
@@ -119,7 +122,7 @@ fn put_times(s: &mut [u8], n: usize, m: Flight)
     fields::put(s, layout::MESSAGE_DUES + 4 * n, 4, m.due as u64);
 }
 
-// A message's kind, sender, receiver and subject, put at place n.
+// A message's kind, sender, receiver, subject and list, put at place n.
 fn put_route(s: &mut [u8], n: usize, m: Flight)
     requires { ⌜ (n < mostInFlight) × (length (now s) ≡ storeSize) ⌝ }
     ensures { λ _. ⌜ now (s .exit) ≡ rowPut routeParts (now (s .entry)) n (messageOf m) ⌝ }
@@ -128,6 +131,7 @@ fn put_route(s: &mut [u8], n: usize, m: Flight)
     fields::put(s, layout::MESSAGE_SENDERS + 1 * n, 1, m.from as u64);
     fields::put(s, layout::MESSAGE_RECEIVERS + 1 * n, 1, m.to as u64);
     fields::put(s, layout::MESSAGE_SUBJECTS + 1 * n, 1, m.subject as u64);
+    fields::put(s, layout::MESSAGE_LISTS + 8 * n, 8, m.list);
 }
 
 // A message is put after the last, with its own number.
@@ -159,7 +163,7 @@ fn clear_times(s: &mut [u8], n: usize)
     clear_field(s, layout::MESSAGE_DUES, 4, n);
 }
 
-// The kinds, senders, receivers and subjects of n messages are cleared away.
+// The kinds, senders, receivers, subjects and lists of n messages are cleared away.
 fn clear_routes(s: &mut [u8], n: usize)
     requires { ⌜ (n ≤ mostInFlight) × (length (now s) ≡ storeSize) ⌝ }
     ensures { λ _. ⌜ now (s .exit) ≡ rowsCleared routeParts (now (s .entry)) n ⌝ }
@@ -168,6 +172,7 @@ fn clear_routes(s: &mut [u8], n: usize)
     clear_field(s, layout::MESSAGE_SENDERS, 1, n);
     clear_field(s, layout::MESSAGE_RECEIVERS, 1, n);
     clear_field(s, layout::MESSAGE_SUBJECTS, 1, n);
+    clear_field(s, layout::MESSAGE_LISTS, 8, n);
 }
 
 // All messages are cleared away: none is in flight.

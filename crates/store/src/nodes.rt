@@ -22,12 +22,14 @@ pub fn node_at(s: &[u8], i: usize) -> Node
     let watch = cells::get4(s, layout::WATCHES + 4 * i);
     let heartbeat = cells::get4(s, layout::HEARTBEATS + 4 * i);
     let list = fields::get(s, layout::DEAD_LISTS + 8 * i, 8);
+    let mark = fields::get(s, layout::MARKS + 8 * i, 8);
     Node {
         emitter,
         observer,
         watch,
         heartbeat,
         list,
+        mark,
     }
 }
 

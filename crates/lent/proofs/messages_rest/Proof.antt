@@ -28,9 +28,14 @@ returns-5 c = search (part-fails, part-holds, needs)
 
 returns-6 : tie.Need-returns-6
 unfolding restTest timeParts routeParts
-returns-6 c = search (part-holds, last-part, needs)
+returns-6 c = search (part-fails, part-holds, needs) depth 8
+
+returns-7 : tie.Need-returns-7
+unfolding restTest timeParts routeParts
+returns-7 c = search (part-holds, last-part, needs) depth 8
 
 pub messages-rest-spec : {M : Type 1} → statement M
 messages-rest-spec =
     tie.close (tie.spec (λ c κs. search needs) returns (λ c κs. search needs) returns-2 (λ c κs. search needs) returns-3
-    (λ c κs. search needs) returns-4 (λ c κs. search needs) returns-5 (λ c κs. search needs) returns-6)
+    (λ c κs. search needs) returns-4 (λ c κs. search needs) returns-5 (λ c κs. search needs) returns-6
+    (λ c κs. search needs) returns-7)

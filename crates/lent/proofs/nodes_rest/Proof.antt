@@ -24,9 +24,13 @@ returns-4 c = search (part-fails, part-holds, needs)
 
 returns-5 : tie.Need-returns-5
 unfolding restTest nodeParts
-returns-5 c = search (part-holds, last-part, needs)
+returns-5 c = search (part-fails, part-holds, needs)
+
+returns-6 : tie.Need-returns-6
+unfolding restTest nodeParts
+returns-6 c = search (part-holds, last-part, needs)
 
 pub nodes-rest-spec : {M : Type 1} → statement M
 nodes-rest-spec =
     tie.close (tie.spec (λ c κs. search needs) returns (λ c κs. search needs) returns-2 (λ c κs. search needs) returns-3
-    (λ c κs. search needs) returns-4 (λ c κs. search needs) returns-5)
+    (λ c κs. search needs) returns-4 (λ c κs. search needs) returns-5 (λ c κs. search needs) returns-6)

@@ -12,46 +12,39 @@ returns-2 : tie.Need-returns-2
 returns-2 c = rw unused-here (search (part-holds, nodes-fail, needs))
 
 returns-3 : tie.Need-returns-3
-returns-3 c = rw unused-here (search (part-fails, part-holds, nodes-hold, needs))
+returns-3 c = rw unused-here (search (part-holds, nodes-hold, crashes-fail, needs))
 
 returns-4 : tie.Need-returns-4
-returns-4 c = rw unused-here (search (part-holds, nodes-hold, crashes-fail, needs))
+returns-4 c = rw unused-here (search (part-holds, nodes-hold, crashes-hold, delays-fail, needs) fits 20000)
 
 returns-5 : tie.Need-returns-5
-returns-5 c = rw unused-here (search (part-holds, nodes-hold, crashes-hold, delays-fail, needs) fits 20000)
+returns-5 c =
+    let delays = c .before .before .before in
+    let crashes = delays .before .before .before in
+    let nodes = crashes .before .before .before in
+    let head = nodes .before .before .before in
+    rw unused-here (part-holds (head .before .ring-rest .ensures) (head .if1 .left)
+    (nodes-hold _ (nodes .before .nodes-rest .ensures) (nodes .before .before .node-count .ensures) (nodes .if2 .left)
+    (crashes-hold _ (crashes .before .rows-rest .ensures) (crashes .before .before .crash-count .ensures) (crashes .if3 .left)
+    (delays-hold _ (delays .before .rows-rest2 .ensures) (delays .before .before .delay-count .ensures) (delays .if4 .left)
+    (messages-fail _ (c .before .messages-rest .ensures) (c .before .before .message-count .ensures) (c .if5 .taken) _)))))
 
 returns-6 : tie.Need-returns-6
 returns-6 c =
-    let delays = c .before .before .before in
-    let crashes = delays .before .before .before in
-    let spare = crashes .before .before .before in
-    let nodes = spare .before .before in
-    let head = nodes .before .before .before in
-    rw unused-here (part-holds (head .before .ring-rest .ensures) (head .if1 .left)
-    (nodes-hold _ (nodes .before .nodes-rest .ensures) (nodes .before .before .node-count .ensures) (nodes .if2 .left)
-    (part-holds (spare .before .is-zero .ensures) (spare .if3 .left)
-    (crashes-hold _ (crashes .before .rows-rest .ensures) (crashes .before .before .crash-count .ensures) (crashes .if4 .left)
-    (delays-hold _ (delays .before .rows-rest2 .ensures) (delays .before .before .delay-count .ensures) (delays .if5 .left)
-    (messages-fail _ (c .before .messages-rest .ensures) (c .before .before .message-count .ensures) (c .if6 .taken) _))))))
-
-returns-7 : tie.Need-returns-7
-returns-7 c =
     let messages = c .before in
     let delays = messages .before .before .before in
     let crashes = delays .before .before .before in
-    let spare = crashes .before .before .before in
-    let nodes = spare .before .before in
+    let nodes = crashes .before .before .before in
     let head = nodes .before .before .before in
     rw unused-here (part-holds (head .before .ring-rest .ensures) (head .if1 .left)
     (nodes-hold _ (nodes .before .nodes-rest .ensures) (nodes .before .before .node-count .ensures) (nodes .if2 .left)
-    (part-holds (spare .before .is-zero .ensures) (spare .if3 .left)
-    (crashes-hold _ (crashes .before .rows-rest .ensures) (crashes .before .before .crash-count .ensures) (crashes .if4 .left)
-    (delays-hold _ (delays .before .rows-rest2 .ensures) (delays .before .before .delay-count .ensures) (delays .if5 .left)
-    (messages-hold _ (messages .before .messages-rest .ensures) (messages .before .before .message-count .ensures) (messages .if6 .left)
-    (c .is-zero2 .ensures)))))))
+    (crashes-hold _ (crashes .before .rows-rest .ensures) (crashes .before .before .crash-count .ensures) (crashes .if3 .left)
+    (delays-hold _ (delays .before .rows-rest2 .ensures) (delays .before .before .delay-count .ensures) (delays .if4 .left)
+    (messages-hold _ (messages .before .messages-rest .ensures) (messages .before .before .message-count .ensures) (messages .if5 .left)
+    (c .is-zero .ensures))))))
 
 pub unused-zero-spec : {M : Type 1} → statement M
 unused-zero-spec =
     tie.close (tie.spec (λ c κs. search needs) returns (λ c κs. search needs) (λ c κs. search needs) returns-2 (λ c κs. search needs)
-    returns-3 (λ c κs. search needs) (λ c κs. search needs) returns-4 (λ c κs. search needs) (λ c κs. search needs) returns-5
-    (λ c κs. search needs) (λ c κs. search needs) returns-6 (λ c κs. search needs) returns-7)
+    (λ c κs. search needs) returns-3 (λ c κs. search needs) (λ c κs. search needs) returns-4 (λ c κs. search needs)
+    (λ c κs. search needs) returns-5 (λ c κs. search needs) returns-6)

@@ -1,5 +1,6 @@
 -- `node::node_in_range` meets its contract. Assumes nothing.
-use Rattle.node.proofs.Tests.{emitter-out, observer-out, list-out, listed-out, watch-out, heartbeat-last}
+use mathlib.Core.Path.{_∙_}
+use Rattle.node.proofs.Tests.{emitter-out, observer-out, list-out, listed-out, watch-out, heartbeat-out, mark-last}
 use borrow.Author.Needs.{needs}
 use Rattle.node.proofs.node_in_range.Statement.{statement}
 use Rattle.node.proofs.node_in_range.Tie as tie
@@ -26,11 +27,20 @@ returns-5 c =
 
 returns-6 : tie.Need-returns-6
 returns-6 c =
-    let at-if4 = c .before .before .before in
+    let at-if4 = c .before .before .before .before in
     let all = at-if4 .before .before .before .before .all-nodes .ensures in
-    heartbeat-last _ _ _ _ _ (search needs) (search needs) _ all (search needs) _ (at-if4 .before .is-listed .ensures) (at-if4 .if4 .left) (search needs)
+    heartbeat-out _ _ _ _ _ (search needs) (search needs) _ all (search needs) _ (at-if4 .before .is-listed .ensures) (at-if4 .if4 .left) (search needs)
+    (c .if6 .taken)
+
+returns-7 : tie.Need-returns-7
+returns-7 c =
+    let at-if4 = c .before .before .before .before .before in
+    let all = at-if4 .before .before .before .before .all-nodes .ensures in
+    c .is-part .ensures
+    ∙ mark-last _ _ _ _ _ (search needs) (search needs) _ all (search needs) _ (at-if4 .before .is-listed .ensures) (at-if4 .if4 .left) (search needs)
+    (search needs)
 
 pub node-in-range-spec : {M : Type 1} → statement M
 node-in-range-spec =
     tie.close (tie.spec returns returns-2 (λ c κs. search needs) returns-3 (λ c κs. search needs) returns-4 (λ c. search needs) (λ c. search needs)
-    (λ c. search needs) returns-5 (λ c. search needs) (λ c. search needs) returns-6)
+    (λ c. search needs) returns-5 (λ c. search needs) (λ c. search needs) returns-6 (λ c κs. search needs) returns-7)

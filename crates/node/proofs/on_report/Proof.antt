@@ -28,16 +28,17 @@ relay-requires c κs = let one = turned-count _ (silent _) (c .quiet3 .ensures) 
 
 returns-4 : tie.Need-returns-4
 returns-4 c =
-    let at-if3 = c .before .before .before in
+    let at-marked = c .before .before in
+    let at-if3 = at-marked .before .before in
     let at-if2 = at-if3 .before .before in
     let at-if1 = at-if2 .before in
     c .relay .ensures
     ∙ ap (relayed _ _ _) (c .before .quiet3 .ensures)
     ∙ sym
-    (report-new _ _ _ _ _ _ _ (at-if1 .before .is-listed .ensures) (at-if1 .if1 .left) (at-if2 .if2 .left) (at-if3 .if3 .left) _
-    (c .before .before .with-listed .ensures) (search needs))
+    (report-new _ _ _ _ _ _ _ (at-if1 .before .is-listed .ensures) (at-if1 .if1 .left) (at-if2 .if2 .left) (at-if3 .if3 .left) _ _
+    (at-marked .before .with-listed .ensures) (at-marked .with-listed2 .ensures) (search needs))
 
 pub on-report-spec : {M : Type 1} → statement M
 on-report-spec =
     tie.close (tie.spec (λ c κs. search needs) (λ c κs. search needs) returns (λ c κs. search needs) returns-2 (λ c κs. search needs)
-    returns-3 (λ c κs. search needs) (λ c κs. search needs) relay-requires returns-4)
+    returns-3 (λ c κs. search needs) (λ c κs. search needs) (λ c κs. search needs) relay-requires returns-4)

@@ -1,7 +1,7 @@
 -- `course::act::do_message` meets its contract. Assumes nothing.
 use Rattle.course.proofs.Parting.{apart-acting}
 use Rattle.course.proofs.Looking.{apart-dead}
-use Rattle.course.proofs.Deliveries.{delivery-tick, delivery-place, delivery-subject, delivery-settling, delivery-stepped}
+use Rattle.course.proofs.Deliveries.{delivery-tick, delivery-place, delivery-sender, delivery-subject, delivery-settling, delivery-stepped}
 use borrow.Author.Needs.{needs}
 use native.Mathlib.Omega.{arith}
 use Rattle.course.proofs.act.do_message.Statement.{statement}
@@ -23,8 +23,9 @@ message-turn-requires c κs =
     let f = at-unpack .unpack in
     let t = delivery-tick _ _ (start .args .c) (start .args .t) (p .whole) k (p .delivers) _ (row .ensures) _ (f .ensures) in
     let to = delivery-place _ _ (start .args .c) (start .args .t) (p .whole) k (p .delivers) _ (row .ensures) _ (f .ensures) in
+    let from = delivery-sender _ _ (start .args .c) (start .args .t) (p .whole) k (p .delivers) _ (row .ensures) _ (f .ensures) in
     let of = delivery-subject _ _ (start .args .c) (start .args .t) (p .whole) k (p .delivers) _ (row .ensures) _ (f .ensures) in
-    (apart-acting (k .apart) (k .ready), (apart-dead (k .apart) _ (k .dead), (t, to, of)))
+    (apart-acting (k .apart) (k .ready), (apart-dead (k .apart) _ (k .dead), (t, to, from, of)))
 
 message-deed-requires : tie.Need-message-deed-requires
 message-deed-requires c κs =

@@ -5,7 +5,7 @@ use Rattle.limits.specs.Limits.{mostInFlight}
 use Rattle.store.specs.Store.{stateIn}
 use mathlib.Core.Path.{_∙_}
 use Rattle.event.proofs.Readiness.{held-sized, ready-crashes, ready-acting}
-use Rattle.event.proofs.Doing.{event-tick, message-here, message-place, message-subject, message-count, message-turns, message-refused}
+use Rattle.event.proofs.Doing.{event-tick, message-here, message-place, message-sender, message-subject, message-count, message-turns, message-refused}
 use Rattle.event.proofs.Doing.{turn-of, rest-room, message-done, taken-left}
 use native.Mathlib.Omega.{arith}
 use borrow.Author.Needs.{needs}
@@ -28,8 +28,9 @@ message-turn-requires c κs =
     let m = at-message-at .message-at in
     let t = event-tick _ (start .pre .0) _ _ (start .pre .1) in
     let to = message-place _ (start .pre .0) _ _ (start .pre .1) _ (m .ensures) in
+    let from = message-sender _ (start .pre .0) _ _ (start .pre .1) _ (m .ensures) in
     let of = message-subject _ (start .pre .0) _ _ (start .pre .1) _ (m .ensures) in
-    (ready-acting _ (start .pre .0), (at-crashed-list .crashed-list .ensures, (t, to, of)))
+    (ready-acting _ (start .pre .0), (at-crashed-list .crashed-list .ensures, (t, to, from, of)))
 
 message-count-requires : tie.Need-message-count-requires
 message-count-requires c κs =

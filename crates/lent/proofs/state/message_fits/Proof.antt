@@ -1,7 +1,7 @@
 -- `lent::state::message_fits` meets its contract. Assumes nothing.
 use Rattle.fields.proofs.Answers.{fails, holds}
 use Rattle.plans.proofs.Tests.{ranges}
-use Rattle.lent.proofs.StateTests.{kind-out, sender-out, receiver-out, subject-out, to-itself, due-before, due-last}
+use Rattle.lent.proofs.StateTests.{kind-out, sender-out, receiver-out, subject-out, to-itself, due-before, due-after, list-last}
 use native.Mathlib.Omega.{arith}
 use borrow.Author.Needs.{needs}
 use Rattle.lent.proofs.state.message_fits.Statement.{statement}
@@ -48,8 +48,8 @@ returns-6 c =
     due-before _ _ _ (holds (q .before .is-kind .ensures) (q .if1 .left)) _ (q .before .before .node-count .ensures) (r .if2 .left) (s .if3 .left)
     (u .if4 .left) (v .if5 .left) (c .if6 .taken)
 
-add-result : tie.Need-add-result
-add-result c =
+add-if7 : tie.Need-add-if7
+add-if7 c =
     let v = c .before .before .before in
     let q = v .before .before .before .before .before .before .before .before in
     let r = ranges _ (q .before .before .before .before .pre .plan) in
@@ -57,16 +57,35 @@ add-result c =
 
 returns-7 : tie.Need-returns-7
 returns-7 c =
-    let w = c .before .before in
+    let w = c .before .before .before in
     let v = w .before .before in
     let u = v .before .before in
     let s = u .before .before in
     let r = s .before .before in
     let q = r .before .before in
-    due-last _ _ _ (holds (q .before .is-kind .ensures) (q .if1 .left)) _ (q .before .before .node-count .ensures) (r .if2 .left) (s .if3 .left)
-    (u .if4 .left) (v .if5 .left) (w .if6 .left) _ (c .before .longest-delay .ensures)
+    due-after _ _ _ (holds (q .before .is-kind .ensures) (q .if1 .left)) _ (q .before .before .node-count .ensures) (r .if2 .left) (s .if3 .left)
+    (u .if4 .left) (v .if5 .left) (w .if6 .left) _ (c .before .before .longest-delay .ensures) (c .if7 .taken)
+
+is-carried-requires : tie.Need-is-carried-requires
+is-carried-requires c κs =
+    let v = c .before .before .before .before .before in
+    let q = v .before .before .before .before .before .before .before .before in
+    let r = ranges _ (q .before .before .before .before .pre .plan) in
+    (omega (arith, q .before .before .node-count .ensures, r .n-low), omega (arith, q .before .before .node-count .ensures, r .n-high))
+
+returns-8 : tie.Need-returns-8
+returns-8 c =
+    let z = c .before in
+    let w = z .before .before .before in
+    let v = w .before .before in
+    let u = v .before .before in
+    let s = u .before .before in
+    let r = s .before .before in
+    let q = r .before .before in
+    list-last _ _ _ (holds (q .before .is-kind .ensures) (q .if1 .left)) _ (q .before .before .node-count .ensures) (r .if2 .left) (s .if3 .left)
+    (u .if4 .left) (v .if5 .left) (w .if6 .left) _ (z .before .before .longest-delay .ensures) (z .if7 .left) (c .is-carried .ensures)
 
 pub message-fits-spec : {M : Type 1} → statement M
 message-fits-spec =
     tie.close (tie.spec (λ c κs. search needs) (λ c. search needs) (λ c κs. search needs) returns returns-2 returns-3 returns-4 returns-5
-    returns-6 (λ c κs. search needs) add-result returns-7)
+    returns-6 (λ c κs. search needs) add-if7 returns-7 is-carried-requires returns-8)

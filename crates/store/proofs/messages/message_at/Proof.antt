@@ -7,10 +7,12 @@ use Rattle.store.proofs.messages.message_at.Statement.{statement}
 use Rattle.store.proofs.messages.message_at.Tie as tie
 
 returns : tie.Need-returns
-returns c = let b = c .before .before .before .before .before .before .before in cc (ap flying (message-read (b .args .s .now) (b .args .i) (b .pre .1)))
+returns c =
+    let b = c .before .before .before .before .before .before .before .before in
+    cc (ap flying (message-read (b .args .s .now) (b .args .i) (b .pre .1)))
 
 pub message-at-spec : {M : Type 1} → statement M
 message-at-spec =
     tie.close (tie.spec (λ c. search needs) (λ c. search needs) (λ c κs. search needs) (λ c. search needs) (λ c. search needs)
     (λ c κs. search needs) (λ c. search needs) (λ c κs. search needs) (λ c. search needs) (λ c κs. search needs) (λ c. search needs)
-    (λ c κs. search needs) (λ c. search needs) (λ c κs. search needs) returns)
+    (λ c κs. search needs) (λ c. search needs) (λ c κs. search needs) (λ c. search needs) (λ c. search needs) (λ c κs. search needs) returns)
