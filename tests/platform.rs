@@ -988,7 +988,7 @@ fn summary(seen: &Seen, count: u64) -> Result<(), String> {
     let [settled, joined, full] = owed;
     println!("platform: owed after calls on stores that a file led to, and so: {settled} settled rings, {joined} joined ones, {full} full lists");
     println!("platform: {learnt} steps by which a node lists what a heartbeat names, {named} by which it relays a report of a listed node");
-    if count > 0 && owed.iter().any(|owed| *owed < count) {
+    if count > 0 && (*settled < count || *joined < 2 * count || *full < count) {
         return Err("too few claims were owed".to_string());
     }
     if count > 0 && (*learnt < count / 2 || *named < count / 3) {
