@@ -20,6 +20,7 @@
 #define END_TICK 300
 #define MOST_AT_A_TICK 64
 
+/* This program's own choice: a record opens with any W, but with a shorter one live nodes get listed. */
 #if W < H + D
 #error "live nodes would be listed"
 #endif

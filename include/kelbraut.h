@@ -34,7 +34,7 @@ extern "C" {
 #define KELBRAUT_BAD_LENGTH 1     /* run file: no bytes, or more than 65,536 */
 #define KELBRAUT_BAD_FORM 2       /* line: letter, number of fields, digits, line feed or order of the letters */
 #define KELBRAUT_BAD_NUMBER 3     /* line, or opening of a node: a number outside its range, a node not below N */
-#define KELBRAUT_SHORT_TIME_OUT 4 /* P line: W below H + D */
+#define KELBRAUT_SHORT_TIME_OUT 4 /* no longer given, by no call and for no file: a P line with W below H + D is accepted */
 #define KELBRAUT_BAD_ORDER 5      /* C or L line: not rising, or a node twice */
 #define KELBRAUT_MANY_DELAYS 6    /* L line: the 2,049th */
 #define KELBRAUT_BAD_STORE 7      /* not 65,536 bytes, a field out of range, or an unused byte not zero; part of stores: no
@@ -144,7 +144,8 @@ extern "C" {
  *     while the ring runs.
  *
  * A record opens with any `w` of the range, also with one below H + D; live nodes then get listed. A node that is listed
- * though it lives is not told so, and goes on. README.md says how to choose W, and how soon all survivors list a node.
+ * though it lives is not told so, and goes on. README.md says how to choose W, how soon all survivors list a node, and how
+ * to rehearse what a short W does.
  */
 uint64_t kelbraut_node_open(uint8_t *record, size_t record_size, uint64_t number, uint64_t nodes, uint64_t h, uint64_t w);
 
@@ -277,7 +278,7 @@ static inline uint64_t kelbraut_list(const uint8_t message[KELBRAUT_MESSAGE]) {
  *     uint8_t store[KELBRAUT_STORE], log[KELBRAUT_LOG_PART];
  *     uint64_t letter = 0, tick, node, other, size;
  *     uint64_t answer = kelbraut_open(file, file_size, store, sizeof store);
- *     while (answer == KELBRAUT_ACCEPTED && letter != KELBRAUT_END) {
+ *     while (answer == KELBRAUT_ACCEPTED && !kelbraut_is_end(letter)) {
  *         answer = kelbraut_step(store, sizeof store, log, sizeof log, &letter, &tick, &node, &other, &size);
  *         if (answer == KELBRAUT_ACCEPTED) {
  *             fwrite(log, 1, size, stdout);
@@ -300,13 +301,17 @@ static inline uint64_t kelbraut_list(const uint8_t message[KELBRAUT_MESSAGE]) {
  * Run file: lines of fields parted by commas, each line ended by one line feed (hexadecimal 0A); first the P line, then a Q
  * line or none, then C lines, then L lines. Numbers are decimal, with no sign, space or leading zero.
  *
- *     P,N,H,W,D,end     N nodes, 1 to 64, numbered from 0; a heartbeat every H ticks, 1 to 1,000; the time-out W, at
- *                       least H + D, 1 to 65,535; delays of at most D ticks, 1 to 255; the end tick, 0 to 1,000,000
+ *     P,N,H,W,D,end     N nodes, 1 to 64, numbered from 0; a heartbeat every H ticks, 1 to 1,000; the time-out W, 1 to
+ *                       65,535; delays of at most D ticks, 1 to 255; the end tick, 0 to 1,000,000
  *     Q,node,node,..    the ring in this order: N numbers, each node once; without this line it is in number order
  *     C,tick,node       the node crashes at this tick, 0 to end; rising by tick, then node, no node twice
  *     L,number,delay    the message of this number, 0 to 999,999, takes this many ticks, 1 to D; rising by number, at
  *                       most 2,048 lines. Messages are numbered from 0 in the order of sending; without a line one
  *                       takes D ticks
+ *
+ * W may be below H + D, to see how bad that is: live nodes get listed, and with many nodes the reports of them soon are more
+ * than 2,048 in flight, so that the next event is refused by 8. The last line of such a run has KELBRAUT_END_SHORT in the
+ * place of KELBRAUT_END. Which of the two it is goes by the P line alone.
  *
  * Events: those of the earliest tick that has any, and of these first the crashes, by node; then the messages due, by
  * number; then the timers of live nodes, by node, the watch before the heartbeat. The ring's order says who is before and
@@ -341,13 +346,19 @@ static inline uint64_t kelbraut_list(const uint8_t message[KELBRAUT_MESSAGE]) {
 #define KELBRAUT_SENT 'S'    /* the node sends a heartbeat; other: its observer */
 #define KELBRAUT_END 'E'     /* none is left up to the end tick; tick: that tick, node: how many survive, other: how many
                                 messages are in flight, list: the crashed nodes */
+#define KELBRAUT_END_SHORT 'F' /* the same of a run whose W is below H + D */
+
+/* Whether a step's letter says that none is left: a loop that waits for one of the two alone may never end. */
+static inline int kelbraut_is_end(uint64_t letter) {
+    return letter == KELBRAUT_END || letter == KELBRAUT_END_SHORT;
+}
 
 /*
  * Opens a store from a run file and writes all of its bytes, whatever they held. Answers 0, or, with nothing written, the
  * number of the refusal and its line in one:
  *
- *     KELBRAUT_NUMBER(answer)    1; then for the first bad line 2, 3, and 4 on P, 13 on Q, 5 on C and L, 6 on L; then 7,
- *                                which here is about the store's length alone
+ *     KELBRAUT_NUMBER(answer)    1; then for the first bad line 2, 3, and 13 on Q, 5 on C and L, 6 on L; then 7, which here
+ *                                is about the store's length alone
  *     KELBRAUT_LINE(answer)      the first bad line, counted from 1; 0 where the number is 1 or 7
  */
 uint64_t kelbraut_open(const uint8_t *file, size_t file_size, uint8_t *store, size_t store_size);
@@ -358,8 +369,9 @@ uint64_t kelbraut_open(const uint8_t *file, size_t file_size, uint8_t *store, si
 /*
  * Does the next event and writes its line, or its two lines, at the start of the log part; the rest of that part stays.
  * `letter`, `tick`, `node` and `other` become those of the event's own line, the first one; `size` becomes the length of all
- * that is written. Where no event is left, the line is that of KELBRAUT_END and the store stays. A refused step writes no
- * line and leaves the five numbers, the log part and the store, so that after 8 the next step is refused again.
+ * that is written. Where no event is left, the line is that of KELBRAUT_END, or of KELBRAUT_END_SHORT, and the store stays. A
+ * refused step writes no line and leaves the five numbers, the log part and the store, so that after 8 the next step is
+ * refused again.
  * Answers 0, 7, 9 or 8.
  */
 uint64_t kelbraut_step(uint8_t *store, size_t store_size, uint8_t *log, size_t log_size, uint64_t *letter, uint64_t *tick,

@@ -2,6 +2,7 @@
 //! call, with what it answers.
 #![allow(dead_code)]
 
+use simulator::layout;
 use simulator::limits::*;
 use simulator::log;
 use simulator::platform::{Ending, Run};
@@ -43,6 +44,17 @@ pub fn refused(number: u8) -> Answer {
 /// What opening answers: the number of the refusal and its line.
 pub fn opening(number: u8, line: u64) -> u64 {
     u64::from(number) + 256 * line
+}
+
+/// Whether a step that answers this letter is done: E, or F where W is below H + D.
+pub fn is_end(letter: u64) -> bool {
+    letter == u64::from(b'E') || letter == u64::from(b'F')
+}
+
+/// The letter of a store's last line, which goes by its P line alone, whatever else it holds.
+pub fn last_letter(store: &[u8]) -> u8 {
+    let [period, timeout, delay] = [layout::PERIOD, layout::TIMEOUT, layout::LONGEST_DELAY].map(|field| layout::get(store, field, 0));
+    if timeout < period + delay { b'F' } else { b'E' }
 }
 
 pub mod dispatcher {
@@ -90,6 +102,7 @@ pub mod dispatcher {
 
 pub mod proved {
     //! The calls of the static library. A slice goes over as its address and its length.
+    use super::super::common::told;
     use super::{dispatcher, Answer, Call, BEFORE};
     use simulator::limits::MAX_STORES;
 
@@ -121,7 +134,8 @@ pub mod proved {
     }
 
     pub fn open(file: &[u8], store: &mut [u8]) -> u64 {
-        unsafe { kelbraut_open(file.as_ptr(), file.len(), store.as_mut_ptr(), store.len()) }
+        let answer = unsafe { kelbraut_open(file.as_ptr(), file.len(), store.as_mut_ptr(), store.len()) };
+        told(answer % 256) + answer / 256 * 256
     }
 
     pub fn call(call: Call, store: &mut [u8], part: &mut [u8]) -> Answer {
@@ -134,7 +148,7 @@ pub mod proved {
                 Call::Write => kelbraut_write(s, s_size, p, p_size, &mut a),
             }
         };
-        [number, a, b, c, d, e]
+        [told(number), a, b, c, d, e]
     }
 
     pub fn dispatch(part: &mut [u8], length: u64, turns: u64) -> dispatcher::Answer {
@@ -147,7 +161,7 @@ pub mod proved {
             kelbraut_dispatch(part.as_mut_ptr(), part.len(), length, turns, &mut given, events, &mut stopped)
         };
         let events = std::array::from_fn(|index| numbers[index + 1]);
-        dispatcher::Answer { number, given, events, stopped, around: [numbers[0], numbers[MAX_STORES + 1]] }
+        dispatcher::Answer { number: told(number), given, events, stopped, around: [numbers[0], numbers[MAX_STORES + 1]] }
     }
 }
 

@@ -7,7 +7,8 @@
 //! - no store that has an event left and is not stopped waits more than seven turns of others;
 //! - turns are missing only where no store can go on.
 //!
-//! The call does not say to whom each turn goes. On some parts it is made with 0, 1, 2 and so on turns, which shows that too.
+//! The call does not say to whom each turn goes. On some parts it is made with 0, 1, 2 and so on turns, which shows that too. Stores with W
+//! below H + D stand beside others in one part, and each ends in its own letter.
 //!
 //! Usage: dispatch [SEED [COUNT]]. A difference prints its seed and index and the call, and the program fails.
 //!
@@ -24,7 +25,9 @@ mod mock;
 mod stores;
 
 use calls::dispatcher::{accepted, answer_of, refused, Answer};
-use calls::{proved, simulated, Call};
+use calls::{is_end, last_letter, proved, simulated, Call};
+#[cfg(mock)]
+use common::found;
 use common::{count, ended, same, seed};
 use lent::Lent;
 use simulator::dispatch::{dispatch, Given};
@@ -88,6 +91,12 @@ struct Seen {
     between: u64,
     /// Turns that were read off the call itself.
     read_off: u64,
+    /// Accepted calls by the stores of their part: all with W at least H + D, all with less, both.
+    timeouts: [u64; 3],
+    /// Turns of stores with W below H + D; such stores that were stopped, and that did their last event.
+    short: [u64; 3],
+    /// Steps of single stores that answer E, and F.
+    ends: [u64; 2],
 }
 
 impl Seen {
@@ -115,6 +124,8 @@ impl Seen {
     fn count(&mut self, part: &[u8], given: &Given, length: u64, turns: u64) {
         let stores = part.len() / STORE_BYTES;
         self.stores[stores - 1] += 1;
+        let short = (0..stores).filter(|index| last_letter(&part[place_of(*index)]) == b'F').count();
+        self.timeouts[if short == 0 { 0 } else { 1 + usize::from(short < stores) }] += 1;
         if let Some(place) = LENGTHS.iter().position(|other| *other == length) {
             self.lengths[place] += 1;
         }
@@ -149,6 +160,10 @@ impl Seen {
             return Err(format!("can go on after {} of {turns} turns", given.turns.len()));
         }
         self.waited += u64::from(wait == MAX_STORES - 1);
+        if last_letter(after) == b'F' {
+            let finished = of_store > 0 && !still && !stopped;
+            self.short.iter_mut().zip([of_store, u64::from(stopped), u64::from(finished)]).for_each(|(sum, count)| *sum += count);
+        }
         self.passed_bound += u64::from(layout::get(after, layout::NEXT_NUMBER, 0) > MAX_NEXT_NUMBER + 1);
         if stopped {
             self.stopped[index] += 1;
@@ -173,6 +188,11 @@ impl Seen {
         self.between += 1;
         let told = |error| format!("{call:?} of store {index}: {error}");
         same("the call", (answer, log), (wanted, log_left)).map_err(told)?;
+        if call == Call::Step && answer[0] == 0 && is_end(answer[1]) {
+            let letter = last_letter(&part.part()[place_of(index)]);
+            self.ends[usize::from(letter == b'F')] += 1;
+            same("the last letter", answer[1], u64::from(letter)).map_err(told)?;
+        }
         part.holds("part", &left).map_err(told)
     }
 }
@@ -185,6 +205,11 @@ const SIX: &str = "P,2,1,2,1,2\nC,2,1\n";
 const ONE: &str = "P,1,1,2,1,5\nC,0,0\n";
 const NONE: &str = "P,1,1,2,1,5\n";
 const OVERFULL: &str = "P,64,1,34,33,200\n";
+/// With W below H + D: runs of three events, of one and of none; and one that is refused by 8 after 2,048, at the first watch.
+const SHORT: &str = "P,2,2,2,1,6\nC,3,1\n";
+const SHORT_ONE: &str = "P,1,1,1,1,5\nC,0,0\n";
+const SHORT_NONE: &str = "P,1,1,1,1,5\n";
+const SHORT_OVERFULL: &str = "P,64,1,33,40,33\n";
 
 fn opened(file: &str) -> Vec<u8> {
     reached(file.as_bytes(), 0)
@@ -193,6 +218,11 @@ fn opened(file: &str) -> Vec<u8> {
 /// A store so many events before its refusal.
 fn overfull_in(events: u64) -> Vec<u8> {
     reached(OVERFULL.as_bytes(), 2_048 - events)
+}
+
+/// The same with W below H + D.
+fn short_overfull_in(events: u64) -> Vec<u8> {
+    reached(SHORT_OVERFULL.as_bytes(), 2_048 - events)
 }
 
 /// The store with one of its numbers changed.
@@ -222,11 +252,12 @@ struct Stock {
 impl Stock {
     fn new(seed: u64) -> Stock {
         let mut random = Random::seeded(seed ^ 0x7374_6f63);
-        let mut stock = Stock { done: vec![opened(NONE), opened("P,3,2,3,1,0\n")], ..Stock::default() };
+        let mut stock = Stock { done: [NONE, "P,3,2,3,1,0\n", SHORT_NONE, "P,3,2,2,1,1\n"].map(opened).to_vec(), ..Stock::default() };
         let accepted = |file: &Vec<u8>| plan::read(file).ok();
         (0..60).filter_map(|index| accepted(&generator::file(seed, index, SMALL))).for_each(|plan| stock.add(plan, &mut random));
         stock.long.extend((0..24).map(|index| reached(&generator::plan(seed, index), 300 * (index % 2))));
         stock.refusing.extend([0, 0, 1, 2, 5, 11, 12, 13, 30, 999, 1_000, 1_001].map(overfull_in));
+        stock.refusing.extend([0, 1, 11, 12, 999].map(short_overfull_in));
         for order in ORDERS {
             let crashes = (12..64).map(|node| (32, node)).collect();
             let file = Draft { crashes, ..generator::crowd(order) }.bytes();
@@ -394,6 +425,29 @@ fn worked_bound(seen: &mut Seen) -> Result<(), String> {
     Ok(())
 }
 
+/// Stores with W below H + D beside others: they go round with them, are stopped and done like them, and each ends in its own letter. The
+/// last lines of the first two differ in that alone.
+fn worked_short(seen: &mut Seen) -> Result<(), String> {
+    let four = [EIGHT, SHORT, NONE, SHORT_ONE].map(opened);
+    worked(seen, &four, &[((2, u64::MAX), &[0, 1, 3, 0, 1, 0, 0], &[8, 3, 0, 1], 0)])?;
+    worked(seen, &four, &[((2, 4), &[0, 1, 3, 0], &[4, 2, 0, 1], 0), ((1, 3), &[0, 1, 0], &[2, 1], 0)])?;
+    worked(seen, &[SHORT, SHORT_NONE].map(opened), &[((1, 9), &[0, 0, 0], &[3], 0)])?;
+    let stopping = [opened(SHORT), short_overfull_in(2), opened(EIGHT)];
+    worked(seen, &stopping, &[((2, u64::MAX), &[0, 1, 2, 0, 1, 2, 2, 2], &[3, 2, 8], 0b10)])?;
+    worked(seen, &[overfull_in(0), short_overfull_in(0)], &[((7, 9), &[0, 1], &[], 0b11)])?;
+    let mut part = Lent::new(&four.concat());
+    seen.call(&mut part, 1_000, 8)?;
+    for (index, line) in
+        ["E,6,1,0,0000000000000002\n", "F,6,1,0,0000000000000002\n", "E,5,1,0,0000000000000000\n", "F,5,0,0,0000000000000001\n"].iter().enumerate()
+    {
+        seen.between(Call::Step, &mut part, index)?;
+        let mut log = [b' '; LOG_BYTES];
+        proved::call(Call::Step, &mut part.part().to_vec()[place_of(index)], &mut log);
+        same("the last line", &log[..line.len()], line.as_bytes())?;
+    }
+    Ok(())
+}
+
 // ---- refusals
 
 /// The number that a part of good stores gets by its length and the turn length alone.
@@ -424,8 +478,8 @@ fn part_lengths(seen: &mut Seen) -> Result<(), String> {
     Ok(())
 }
 
-/// One store of a part is damaged, in its first or its last bytes or in a mark, or a message of it carries a node from N on: the whole call is
-/// refused, though that store would get no turn.
+/// One store of a part is damaged, in its first or its last bytes or in a mark, or its W is 0, or a message of it carries a node from N on: the
+/// whole call is refused, though that store would get no turn. With W a tick shorter, which is then below H + D, it is not damaged.
 fn damaged(seen: &mut Seen) -> Result<(), String> {
     let good: Vec<Vec<u8>> = [SIX, ONE, NONE, EIGHT, ONE, EIGHT, NONE, SIX].map(opened).to_vec();
     let places = |stores: usize| (0..stores).map(move |index| (stores, index));
@@ -433,7 +487,7 @@ fn damaged(seen: &mut Seen) -> Result<(), String> {
         let store = &good[index];
         let mut last_byte = store.clone();
         last_byte[STORE_BYTES - 1] = 1;
-        let bounds = [(layout::NODES, 65), (layout::NEXT_NUMBER, MAX_NEXT_NUMBER + 1), (layout::MARK, 2)]
+        let bounds = [(layout::NODES, 65), (layout::NEXT_NUMBER, MAX_NEXT_NUMBER + 1), (layout::MARK, 2), (layout::TIMEOUT, 0)]
             .map(|(field, number)| changed(store, field, number));
         let carried = changed(&reached(EIGHT.as_bytes(), 2), layout::MESSAGE_LIST, 4);
         for bytes in [last_byte, vec![0; STORE_BYTES], carried].into_iter().chain(bounds) {
@@ -444,6 +498,13 @@ fn damaged(seen: &mut Seen) -> Result<(), String> {
                 same(&format!("{turns} turns of {length}, store {index} of {stores} damaged,"), answer, refused(number))?;
             }
             seen.damaged[stores - 1][index] += 1;
+        }
+        let mut part = good[..stores].to_vec();
+        part[index] = changed(store, layout::TIMEOUT, layout::get(store, layout::TIMEOUT, 0) - 1);
+        same("the last letters", [store, &part[index]].map(|bytes| last_letter(bytes)), *b"EF")?;
+        for (length, turns) in [(1, 0), (1_000, 1), (2, u64::MAX)] {
+            let answer = seen.call(&mut Lent::new(&part.concat()), length, turns)?;
+            same(&format!("{turns} turns of {length}, store {index} of {stores} with a shorter W,"), answer.number, 0)?;
         }
     }
     Ok(())
@@ -499,6 +560,7 @@ fn all(seen: &mut Seen, stock: &Stock, seed: u64, count: u64) -> Result<(), Stri
     worked_refusals(seen)?;
     worked_starts(seen)?;
     worked_bound(seen)?;
+    worked_short(seen)?;
     damaged(seen)?;
     part_lengths(seen)?;
     mixed(seen, stock, seed, count)?;
@@ -509,6 +571,7 @@ fn all(seen: &mut Seen, stock: &Stock, seed: u64, count: u64) -> Result<(), Stri
 fn summary(seen: &Seen, count: u64) -> Result<(), String> {
     let Seen { calls, numbers, damaged, stores, lengths, turns, given, between, read_off, .. } = seen;
     let Seen { done_skipped, stopped_skipped, stopped, refused_after, refused_in, finished, waited, passed_bound, .. } = seen;
+    let Seen { timeouts, short, ends, .. } = seen;
     let answered = [0, 7, 14, 15].map(|number| (number, numbers[number]));
     let each_damaged: Vec<u64> = (0..MAX_STORES).flat_map(|stores| damaged[stores][..=stores].to_vec()).collect();
     println!("dispatch: {calls} calls agree; answers by number: {answered:?}; {between} calls on single stores between them");
@@ -518,6 +581,13 @@ fn summary(seen: &Seen, count: u64) -> Result<(), String> {
     println!("dispatch: by index, stores passed over as done {done_skipped:?}, as stopped {stopped_skipped:?}; stopped {stopped:?}");
     println!("dispatch: refused without and after events of the turn {refused_after:?}, in the first and a later turn {refused_in:?}");
     println!("dispatch: {finished:?} stores finished; {waited} waited seven turns; {passed_bound} passed the bound of message numbers");
+    let [only_long, only_short, both] = timeouts;
+    let [short_turns, short_stopped, short_finished] = short;
+    println!("dispatch: parts whose stores all have W at least H + D {only_long}, all less {only_short}, both {both}; steps that answer E and F {ends:?}");
+    println!("dispatch: {short_turns} turns of stores with W below H + D, {short_stopped} of these stopped, {short_finished} finished");
+    if count >= COUNT && (*both < count || *short_turns < 10 * count || [*only_short, *short_stopped, *short_finished, ends[1]].iter().any(|met| *met < count / 10)) {
+        return Err("too few stores with W below H + D came up".to_string());
+    }
     let kinds: [&[u64]; 12] = [
         &answered.map(|(_, count)| count),
         &each_damaged,
@@ -543,10 +613,8 @@ fn summary(seen: &Seen, count: u64) -> Result<(), String> {
 fn mistakes(stock: &Stock, seed: u64) -> Result<(), String> {
     for mistake in dispatch_mock::MISTAKES {
         dispatch_mock::make(mistake);
-        match all(&mut Seen::default(), stock, seed, 80) {
-            Ok(()) => return Err(format!("not found: {mistake:?}")),
-            Err(error) => println!("dispatch: {mistake:?} is found: {}", error.lines().next().unwrap_or("")),
-        }
+        let found = found(all(&mut Seen::default(), stock, seed, 80)).ok_or(format!("not found: {mistake:?}"))?;
+        println!("dispatch: {mistake:?} is found: {found}");
     }
     dispatch_mock::make(dispatch_mock::Mistake::Nothing);
     Ok(())

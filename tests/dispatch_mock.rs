@@ -1,6 +1,7 @@
 //! The dispatcher's call over the simulator and its store, with one mistake at a time: what tests/dispatch.rs has to find.
 
 use super::calls::dispatcher::{Answer, BEFORE};
+use super::calls::last_letter;
 use super::place_of;
 use simulator::layout;
 use simulator::limits::*;
@@ -18,7 +19,7 @@ macro_rules! mistakes {
             $($name,)*
         }
 
-        pub const MISTAKES: [Mistake; 83] = [$($name,)*];
+        pub const MISTAKES: [Mistake; 93] = [$($name,)*];
     };
 }
 
@@ -111,6 +112,17 @@ mistakes! {
     StoppedLeftWhereNone,
     DoneMarked,
     MarkedBeforeItIsTried,
+    // Stores with W below H + D.
+    FourForShort,
+    SevenForShort,
+    SevenForBoth,
+    ZeroTimeoutNotTested,
+    ShortSkipped,
+    ShortSkippedBesideOthers,
+    ShortMarked,
+    ShortTurn,
+    TimeoutRaised,
+    TimeoutOfFirstStore,
 }
 
 use Mistake::*;
@@ -172,7 +184,21 @@ fn out_of_range(bytes: &[u8]) -> bool {
     if is_made(CarriedNotTested) {
         forget(&mut seen, layout::MESSAGE_LIST, (layout::get(bytes, layout::MESSAGES, 0) as usize).min(MAX_IN_FLIGHT));
     }
-    !store::check(&seen)
+    if is_made(ZeroTimeoutNotTested) && layout::get(bytes, layout::TIMEOUT, 0) == 0 {
+        layout::put(&mut seen, layout::TIMEOUT, 0, 3);
+    }
+    !store::check(&seen) || is_made(SevenForShort) && is_short(bytes)
+}
+
+/// Whether W is below H + D.
+fn is_short(bytes: &[u8]) -> bool {
+    last_letter(bytes) == b'F'
+}
+
+/// Whether some stores of the part have W below H + D and others have not.
+fn has_both(part: &[u8]) -> bool {
+    let short = part.chunks_exact(STORE_BYTES).filter(|bytes| is_short(bytes)).count();
+    0 < short && short < part.len() / STORE_BYTES
 }
 
 /// Puts the first places of a field to zero.
@@ -193,7 +219,7 @@ fn bad_store(part: &[u8], turns: u64) -> bool {
             || is_made(DamagedSkipped))
     };
     let odd = part.len() % STORE_BYTES > 0 && !is_made(EndOfPartNotLookedAt) || part.is_empty() && is_made(EmptyGetsSeven);
-    odd || part.chunks_exact(STORE_BYTES).enumerate().any(|(index, bytes)| tested(index, bytes) && out_of_range(bytes))
+    odd || is_made(SevenForBoth) && has_both(part) || part.chunks_exact(STORE_BYTES).enumerate().any(|(index, bytes)| tested(index, bytes) && out_of_range(bytes))
 }
 
 /// The number of the refusal before any turn, 0 where there is none.
@@ -212,6 +238,7 @@ fn number(part: &[u8], length: u64, turns: u64) -> u8 {
     match tried.into_iter().find(|(_, bad)| *bad).map_or(0, |(number, _)| number) {
         REFUSED_STORES if is_made(FourteenAndFifteenSwapped) => REFUSED_TURN,
         REFUSED_TURN if is_made(FourteenAndFifteenSwapped) => REFUSED_STORES,
+        0 if is_made(FourForShort) && part.chunks_exact(STORE_BYTES).any(is_short) => 4,
         number => number,
     }
 }
@@ -262,7 +289,11 @@ impl Turns {
         let left = self.event_left(index);
         let untried = !left && self.tried >> index & 1 == 0;
         let held = self.stores[index].as_ref();
-        let skipped = is_made(RefusingSkipped) && held.is_some_and(|held| held.platform.clone().run(1).ending == Ending::Refused)
+        let short = held.is_some_and(|held| held.platform.plan().short_timeout());
+        let beside = self.stores.iter().flatten().any(|held| !held.platform.plan().short_timeout());
+        let skipped = is_made(ShortSkipped) && short
+            || is_made(ShortSkippedBesideOthers) && short && beside
+            || is_made(RefusingSkipped) && held.is_some_and(|held| held.platform.clone().run(1).ending == Ending::Refused)
             || is_made(PassedBoundSkipped) && held.is_some_and(|held| !held.platform.next_number_in_range());
         left && !skipped && (!self.is_stopped(index) || is_made(StoppedGoesOn))
             || untried && (is_made(DoneUsesOneTurn) || is_made(FinishedUsesOneTurn) && self.events[index] > 0)
@@ -306,6 +337,8 @@ impl Turns {
         if is_made(TestedAtEachTurn) && !store::check(&held.encode()) {
             return Err(REFUSED_STORE);
         }
+        let short = held.platform.plan().short_timeout();
+        let budget = if is_made(ShortTurn) && short && budget > 1 { budget - 1 } else { budget };
         let before = is_made(RefusedTurnTakenBack).then(|| held.clone());
         let Run { ending, events } = held.platform.run(budget);
         let next_refuses = is_made(MarkedBeforeItIsTried) && held.platform.clone().run(1).ending == Ending::Refused;
@@ -328,7 +361,7 @@ impl Turns {
             sum => sum + events,
         };
         let marked = refuses && !(is_made(StoppedWithoutEventsNotMarked) && events == 0)
-            || is_made(DoneMarked) && ending == Ending::Done
+            || (is_made(DoneMarked) || is_made(ShortMarked) && short) && ending == Ending::Done
             || next_refuses;
         self.stopped |= u64::from(marked) << index;
         if refuses && before.is_some() {
@@ -435,6 +468,13 @@ fn keep(part: &mut [u8], call: &mut Turns) {
         }
         if is_made(CarriedNotKept) {
             forget(bytes, layout::MESSAGE_LIST, MAX_IN_FLIGHT);
+        }
+        if is_made(TimeoutRaised) && is_short(bytes) {
+            layout::put(bytes, layout::TIMEOUT, 0, layout::get(bytes, layout::PERIOD, 0) + layout::get(bytes, layout::LONGEST_DELAY, 0));
+        }
+        if is_made(TimeoutOfFirstStore) && index > 0 {
+            let first = layout::get(&part[place_of(0)], layout::TIMEOUT, 0);
+            layout::put(&mut part[place_of(index)], layout::TIMEOUT, 0, first);
         }
     }
 }

@@ -1,5 +1,6 @@
 //! Demand 3 and requests 106 and 107 over all runs of small rings, by the simulator's search: every delay of every message, every crash at
-//! every tick. Nothing may be found with W = H + D or more; with W = H + D − 1, and by wrong rules, something has to be. At each move the
+//! every tick. Nothing may be found with W = H + D or more; with W = H + D − 1, and by wrong rules, something has to be, and the run file of
+//! what is found with W = H + D − 1 has to be accepted, to list a live node at the same tick and to end in F. At each move the
 //! number passed has to be the count of the listed nodes from the one left back to the new emitter, and every node reports a subject once.
 //! Most rings are in the order of their numbers, some in another. There too a tick goes by number, so that what it does is not what it does
 //! to the nodes renamed.
@@ -12,8 +13,10 @@
 //!                                     found, as a run file
 
 use simulator::exhaust::{Finding, Found, Late, Outcome, Rules, Search};
-use simulator::plan::Plan;
-use simulator::platform::{Platform, Step};
+use simulator::falsely;
+use simulator::log::Line;
+use simulator::plan::{self, Plan};
+use simulator::platform::{self, Platform};
 use simulator::settle::{self, Claim};
 use std::process::ExitCode;
 use std::time::Instant;
@@ -223,15 +226,15 @@ fn kept(search: &Search) -> Result<Outcome, String> {
     Ok(outcome)
 }
 
-/// The run that was found, done by the platform's events, lists a live node at the same tick.
+/// The run that was found, written as a run file with its delays as L lines, is accepted. Its log has a first line by which a live node is
+/// listed, at the same tick, and ends in F. The platform's nodes tell that tick too.
 fn lists_a_live_node(found: &Found) -> bool {
-    let mut platform = Platform::open(found.plan.clone());
-    while settle::no_live_node_listed(platform.nodes()) {
-        if !matches!(platform.step(), Step::Event(_)) {
-            return false;
-        }
-    }
-    platform.last_tick() == found.tick
+    let (Ok(plan), mut log) = (plan::read(&found.plan.bytes()), Vec::new()) else { return false };
+    let told = falsely::of_run(&mut Platform::open(plan.clone()));
+    let written = platform::rehearse(plan.clone(), &mut log).is_ok();
+    let last = log.split_inclusive(|byte| *byte == b'\n').next_back().and_then(|line| Line::read(line).ok());
+    let ends_in_f = last.is_some_and(|line| line.letter == b'F' && line.tick == u64::from(plan.end));
+    plan == found.plan && written && ends_in_f && told.first == Some(u64::from(found.tick)) && falsely::of_log(&log) == Ok(told)
 }
 
 /// A live node is listed.

@@ -1,5 +1,5 @@
-//! Compares the proved reader and writer of run files with the simulator's, on 01's edges and 02's of a Q line, on generated files and on
-//! damaged ones: a store is opened from each file, and its run file is written again.
+//! Compares the proved reader and writer of run files with the simulator's, on 01's edges and 02's of a Q line and of a W below H + D, on
+//! generated files and on damaged ones: a store is opened from each file, and its run file is written again.
 //!
 //! Usage: files [SEED [COUNT]]. A difference prints its seed and index and the file, and the program fails.
 
@@ -127,11 +127,10 @@ fn of_length(length: usize) -> Vec<u8> {
 
 /// 01's edges on run files, those with no star among them.
 fn edges(lent: &mut Lent) -> Result<(), String> {
-    let cases: [(&str, Opened); 43] = [
+    let cases: [(&str, Opened); 42] = [
         ("", (1, 0)),
         ("P,2,2,3,1,6\nC,3,1\n", (0, 0)),
         ("P,1,1,2,1,5\n", (0, 0)),
-        ("P,2,2,2,1,6\n", (4, 1)),
         ("P,02,2,3,1,6\n", (2, 1)),
         ("P,2,2,3,1,06\n", (2, 1)),
         ("P,0,2,3,1,06\n", (2, 1)),
@@ -183,6 +182,41 @@ fn edges(lent: &mut Lent) -> Result<(), String> {
     edge(lent, "2,049th not rising", &with_delays(MAX_DELAY_ROWS, "L,2047,5\n"), (5, next))?;
     edge(lent, "65,536 bytes", &of_length(FILE_BYTES), (3, 2))?;
     edge(lent, "65,537 bytes", &of_length(FILE_BYTES + 1), (1, 0))
+}
+
+/// 02's edges on W: any from 1 to 65,535 passes, whatever H and D. What else is wrong of a file with W below H + D gets its own number.
+fn timeout_edges(lent: &mut Lent) -> Result<(), String> {
+    let cases: [(&str, Opened); 16] = [
+        ("P,2,2,2,1,6\n", (0, 0)),
+        ("P,2,2,1,1,6\nC,3,1\n", (0, 0)),
+        ("P,2,2,2,1,6\nQ,1,0\nC,3,1\nL,0,1\n", (0, 0)),
+        ("P,1,1,1,1,5\n", (0, 0)),
+        ("P,2,2,2,1,6", (2, 1)),
+        ("P,2,2,02,1,6\n", (2, 1)),
+        ("P,2,2,,1,6\n", (2, 1)),
+        ("P,2,2,-1,1,6\n", (2, 1)),
+        ("P,2,2,2,1,1000001\n", (3, 1)),
+        ("P,2,1001,2,1,6\n", (3, 1)),
+        ("P,2,2,2,256,6\n", (3, 1)),
+        ("P,2,2,2,1,6\nZ\n", (2, 2)),
+        ("P,2,2,2,1,6\nC,7,1\n", (3, 2)),
+        ("P,2,2,2,1,6\nL,0,2\n", (3, 2)),
+        ("P,2,2,2,1,6\nC,3,1\nC,3,0\n", (5, 3)),
+        ("P,2,2,2,1,6\nC,3,1\nC,4,1\n", (5, 3)),
+    ];
+    for (file, expected) in cases {
+        edge(lent, "edge", file.as_bytes(), expected)?;
+    }
+    for (period, delay) in [(1, 1), (2, 1), (1, 2), (40, 60), (1_000, 1), (1, 255), (1_000, 255)] {
+        let enough = period + delay;
+        for timeout in [0, 1, 2, period, delay, enough - 1, enough, enough + 1, 256, 65_534, 65_535, 65_536, 65_537, 1 << 32] {
+            let expected = if (1..=MAX_TIMEOUT).contains(&timeout) { (0, 0) } else { (3, 1) };
+            edge(lent, "a time-out", format!("P,5,{period},{timeout},{delay},60\nC,5,3\n").as_bytes(), expected)?;
+        }
+    }
+    let many = with_delays(MAX_DELAY_ROWS, "L,2048,5\n");
+    let short = String::from_utf8_lossy(&many).replacen("P,2,2,7,", "P,2,2,6,", 1);
+    edge(lent, "2,049 L lines with a short W", short.as_bytes(), (6, MAX_DELAY_ROWS as u64 + 2))
 }
 
 /// 02's edges on the Q line: its place, its form, then its range, then each node once.
@@ -240,7 +274,7 @@ fn order_edges(lent: &mut Lent) -> Result<(), String> {
     }
     let others: [(&str, Opened); 7] = [
         ("Q,0,1,2\nP,3,2,3,1,6\n", (2, 1)),
-        ("P,3,2,2,1,6\nQ,1,1,1\n", (4, 1)),
+        ("P,3,2,2,1,6\nQ,1,1,1\n", (13, 2)),
         ("P,1,1,2,1,5\nQ,0\n", (0, 0)),
         ("P,1,1,2,1,5\nQ,0\nQ,0\n", (2, 3)),
         ("P,1,1,2,1,5\nQ,1\n", (3, 2)),
@@ -287,16 +321,38 @@ fn damaged(file: &[u8], random: &mut Random) -> Vec<u8> {
     copy
 }
 
-fn generated(lent: &mut Lent, seed: u64, count: u64) -> Result<(), String> {
+/// Files that were accepted, and those of them with W below H + D.
+#[derive(Default)]
+struct Seen {
+    accepted: u64,
+    short: u64,
+}
+
+impl Seen {
+    fn count(&mut self, file: &[u8]) {
+        if let Ok(plan) = plan::read(file) {
+            self.accepted += 1;
+            self.short += u64::from(plan.timeout < plan.period + plan.delay);
+        }
+    }
+}
+
+/// Of all accepted files a fifth at least has W below H + D.
+fn generated(lent: &mut Lent, seed: u64, count: u64) -> Result<Seen, String> {
+    let mut seen = Seen::default();
     for index in 0..count {
         let file = generator::file(seed, index, USUAL);
         let mut random = Random::new(seed, index);
-        alike(lent, &format!("seed {seed} index {index}"), &file)?;
-        for copy in 0..COPIES {
-            alike(lent, &format!("seed {seed} index {index} copy {copy}"), &damaged(&file, &mut random))?;
+        let copies = (0..COPIES).map(|copy| (format!(" copy {copy}"), damaged(&file, &mut random)));
+        for (which, file) in [(String::new(), file.clone())].into_iter().chain(copies) {
+            alike(lent, &format!("seed {seed} index {index}{which}"), &file)?;
+            seen.count(&file);
         }
     }
-    Ok(())
+    if count >= COUNT && seen.short * 5 < seen.accepted {
+        return Err(format!("{} of {} accepted files have a W below H + D", seen.short, seen.accepted));
+    }
+    Ok(seen)
 }
 
 /// How long opening takes for a file with as many lines as there can be: the fastest of some rounds.
@@ -318,9 +374,11 @@ fn main() -> ExitCode {
     let (seed, count) = (seed(), count(COUNT));
     println!("files: seed {seed}, {count} generated files");
     let mut lent = Lent::new();
-    let compared = edges(&mut lent).and_then(|()| order_edges(&mut lent)).and_then(|()| generated(&mut lent, seed, count));
-    if compared.is_ok() {
+    let edges = edges(&mut lent).and_then(|()| timeout_edges(&mut lent)).and_then(|()| order_edges(&mut lent));
+    let compared = edges.and_then(|()| generated(&mut lent, seed, count));
+    if let Ok(Seen { accepted, short }) = &compared {
+        println!("files: {accepted} generated files and damaged copies are accepted, {short} of them with W below H + D");
         speed(&mut lent);
     }
-    ended("files", compared.map(|()| "passed".to_string()))
+    ended("files", compared.map(|_| "passed".to_string()))
 }

@@ -54,7 +54,7 @@ struct Lent {
 fn proved(call: Call, lent: &mut Lent) -> u64 {
     let (r, rl) = (lent.record.as_mut_ptr(), lent.record.len());
     let (p, pl) = (lent.part.as_mut_ptr(), lent.part.len());
-    unsafe {
+    let answer = unsafe {
         match call {
             Call::Open { number, nodes, h, w } => kelbraut_node_open(r, rl, number, nodes, h, w),
             Call::Deliver { tick, kind, sender, subject, list } => {
@@ -62,7 +62,8 @@ fn proved(call: Call, lent: &mut Lent) -> u64 {
             }
             Call::Timers { tick } => kelbraut_node_timers(r, rl, tick, p, pl),
         }
-    }
+    };
+    common::told(answer)
 }
 
 // ---- the record's bytes and ranges, from docs/LAYOUTS.md
@@ -550,4 +551,5 @@ fn main() {
     println!("host: {learnt} heartbeats added to a list, {relayed} reports of listed nodes were passed on");
     assert!(reported > 10_000 && alone > 300, "too few moves by report");
     assert!(learnt > 3_000 && relayed > 500, "too few lists that came with heartbeats");
+    assert_eq!(common::never_given(), Ok(()));
 }

@@ -1,10 +1,18 @@
 //! Compares the proved log reader, columns and writer with the simulator's on seeded lines: good
-//! ones, ones with a field at or beyond a bound, damaged ones and random bytes.
+//! ones, ones with a field at or beyond a bound, damaged ones and random bytes. F is also held against E: with the one letter in
+//! place of the other all three answer the same but for that letter.
 //!
 //! Usage: `lines [SEED [COUNT]]`. Prints the seed; at a difference prints the case and exits by 1.
+//!
+//! Built with `--cfg mock`, it tests itself: the three calls are then those of lines_mock.rs, which make one mistake after another, and
+//! each mistake has to be found.
 
 mod common;
+#[cfg(mock)]
+mod lines_mock;
 
+#[cfg(mock)]
+use common::found;
 use common::{count, ended, same, seed};
 use simulator::log::{self, Line};
 use simulator::random::Random;
@@ -12,7 +20,9 @@ use std::process::ExitCode;
 
 mod proved {
     //! The calls of the static library. A slice goes over as its address and its length.
-    #[link(name = "lines", kind = "static")]
+    use super::common::told;
+
+    #[cfg_attr(not(mock), link(name = "lines", kind = "static"))]
     extern "C" {
         fn kelbraut_line_read(line: *const u8, length: usize, numbers: *mut u8, room: usize) -> u64;
         fn kelbraut_line_column(line: *const u8, length: usize, column: u64, out: *mut u8, room: usize) -> u64;
@@ -28,7 +38,7 @@ mod proved {
     }
 
     pub fn read(line: &[u8], numbers: &mut [u8]) -> u64 {
-        unsafe { kelbraut_line_read(line.as_ptr(), line.len(), numbers.as_mut_ptr(), numbers.len()) }
+        told(unsafe { kelbraut_line_read(line.as_ptr(), line.len(), numbers.as_mut_ptr(), numbers.len()) })
     }
 
     pub fn column(line: &[u8], column: u64, out: &mut [u8]) -> u64 {
@@ -37,13 +47,15 @@ mod proved {
 
     pub fn write(numbers: [u64; 5], out: &mut [u8]) -> u64 {
         let [letter, tick, node, other, list] = numbers;
-        unsafe { kelbraut_line_write(letter, tick, node, other, list, out.as_mut_ptr(), out.len()) }
+        told(unsafe { kelbraut_line_write(letter, tick, node, other, list, out.as_mut_ptr(), out.len()) })
     }
 }
 
 /// How many lines are tried where no count is given.
 const COUNT: u64 = 200_000;
-const LETTERS: &[u8] = b"CHORXWSKE";
+const LETTERS: &[u8] = b"CHORXWSKEF";
+/// The letters of a last line.
+const LAST: &[u8] = b"EF";
 
 /// A number near a bound of some column, or any.
 fn number(random: &mut Random) -> u64 {
@@ -59,12 +71,13 @@ fn number(random: &mut Random) -> u64 {
 fn numbers(random: &mut Random) -> [u64; 5] {
     let letter = match random.below(8) {
         0 => random.below(256),
-        1 => random.pick(&[256 + 67, 256 + 69, 256 + 75, u64::MAX, 1 << 32]),
+        1 => random.pick(&[256 + 67, 256 + 69, 256 + 70, 256 + 75, u64::MAX, 1 << 32 | 70, 1 << 32]),
+        2 => u64::from(random.pick(LAST)),
         _ => u64::from(random.pick(LETTERS)),
     };
     let list = random.draw() << random.below(64);
     let mut columns = [random.below(1_000_001), random.below(64), random.below(64)];
-    if letter == u64::from(b'E') {
+    if LAST.iter().any(|last| u64::from(*last) == letter) {
         columns = [random.below(1_000_001), random.below(65), random.below(2_049)];
     }
     if random.below(3) == 0 {
@@ -105,7 +118,7 @@ fn damage(random: &mut Random, line: &mut Vec<u8>) {
 
 fn line(random: &mut Random) -> Vec<u8> {
     if random.below(10) == 0 {
-        return (0..random.below(45)).map(|_| random.pick(b"CEK0123456789abcdef,,,,\n")).collect();
+        return (0..random.below(45)).map(|_| random.pick(b"CEFK0123456789abcdef,,,,\n")).collect();
     }
     let mut line = text(numbers(random));
     for _ in 0..random.pick(&[0, 0, 1, 1, 2, 3]) {
@@ -177,9 +190,12 @@ struct Seen {
     accepted: u64,
     form: u64,
     range: u64,
-    /// Lines K that are read; and lines that the writer refuses by 9 in a part of 40 bytes or more.
+    /// Lines K that are read, and lines E and F; and lines that the writer refuses by 9 in a part of 40 bytes or more.
     passed: u64,
+    last: [u64; 2],
     short: u64,
+    /// Lines and numbers with the one of E and F that were also tried with the other: accepted, and refused.
+    alike: [u64; 2],
 }
 
 fn case(random: &mut Random, seen: &mut Seen) -> Result<(), String> {
@@ -190,6 +206,7 @@ fn case(random: &mut Random, seen: &mut Seen) -> Result<(), String> {
         Ok(line) => {
             seen.accepted += 1;
             seen.passed += u64::from(line.letter == b'K');
+            (0..2).for_each(|place| seen.last[place] += u64::from(line.letter == LAST[place]));
         }
         Err(2) => seen.form += 1,
         Err(_) => seen.range += 1,
@@ -203,6 +220,135 @@ fn case(random: &mut Random, seen: &mut Seen) -> Result<(), String> {
     }
     let written = write(numbers, &lent).map_err(told)?;
     seen.short += u64::from(written == 9 && lent.len() >= NUMBER_BYTES);
+    for answer in [as_other(&line, &lent).map_err(told)?, as_other_written(numbers, &lent).map_err(told)?].into_iter().flatten() {
+        seen.alike[usize::from(answer != 0)] += 1;
+    }
+    Ok(())
+}
+
+// ---- F as E
+
+/// E for F, and F for E; nothing for any other letter.
+fn other_of(letter: u8) -> Option<u8> {
+    LAST.iter().position(|last| *last == letter).map(|place| LAST[1 - place])
+}
+
+/// A line with E read as the same line with F, and the other way round: the same answer, the same numbers and the same columns, but for the
+/// letter. The reader's answer; nothing where the line begins with another letter.
+fn as_other(line: &[u8], lent: &[u8]) -> Result<Option<u64>, String> {
+    let Some((letter, other)) = line.first().and_then(|letter| Some((*letter, other_of(*letter)?))) else { return Ok(None) };
+    let with_other = [&[other], &line[1..]].concat();
+    let lines = [(line, letter), (&with_other, other)];
+    let [one, two] = lines.map(|(line, letter)| {
+        let mut numbers = lent.to_vec();
+        let answer = proved::read(line, &mut numbers);
+        let is_own = answer == 0 && numbers[..8] == u64::from(letter).to_le_bytes();
+        if is_own {
+            numbers[..8].fill(0);
+        }
+        (answer, is_own, numbers)
+    });
+    same("reading E for F", &one, &two)?;
+    same("the letter of a last line", one.1, one.0 == 0)?;
+    for index in 0..6 {
+        let [one, two] = lines.map(|(line, letter)| {
+            let mut part = [b'.'; 40];
+            let size = proved::column(line, index, &mut part);
+            let is_own = index == 0 && size == 1 && part[0] == letter;
+            part[0] = if is_own { 0 } else { part[0] };
+            (size, is_own, part)
+        });
+        same(&format!("column {index} with E for F"), one, two)?;
+    }
+    Ok(Some(one.0))
+}
+
+/// The same for the writer. Its answer, 0 where it writes; nothing for another letter.
+fn as_other_written(numbers: [u64; 5], lent: &[u8]) -> Result<Option<u64>, String> {
+    let Some((letter, other)) = u8::try_from(numbers[0]).ok().and_then(|letter| Some((letter, other_of(letter)?))) else { return Ok(None) };
+    let [one, two] = [letter, other].map(|letter| {
+        let mut part = lent.to_vec();
+        let [_, tick, node, other, list] = numbers;
+        let answer = proved::write([u64::from(letter), tick, node, other, list], &mut part);
+        let is_own = answer > 9 && part[0] == letter;
+        if is_own {
+            part[0] = 0;
+        }
+        (answer, is_own, part)
+    });
+    same("writing E for F", &one, &two)?;
+    same("the letter that is written", one.1, one.0 > 9)?;
+    Ok(Some(if one.0 > 9 { 0 } else { one.0 }))
+}
+
+/// A last line after its letter, and the reader's number.
+const LAST_LINES: [(&str, u64); 31] = [
+    (",0,0,0,0000000000000000\n", 0),
+    (",6,1,0,0000000000000002\n", 0),
+    (",1000000,64,2048,ffffffffffffffff\n", 0),
+    (",1000000,63,2047,0123456789abcdef\n", 0),
+    (",1000001,64,2048,0000000000000000\n", 3),
+    (",1000000,65,2048,0000000000000000\n", 3),
+    (",1000000,64,2049,0000000000000000\n", 3),
+    (",18446744073709551616,0,0,0000000000000000\n", 3),
+    (",0,18446744073709551616,0,0000000000000000\n", 3),
+    (",0,0,18446744073709551616,0000000000000000\n", 3),
+    (",6,1,0,000000000000002\n", 2),
+    (",6,1,0,00000000000000002\n", 2),
+    (",6,1,0,000000000000000F\n", 2),
+    (",6,1,0,000000000000000g\n", 2),
+    (",6,1,0,\n", 2),
+    (",6,1,0\n", 2),
+    (",6,1\n", 2),
+    ("\n", 2),
+    (",6,1,0,0000000000000002,\n", 2),
+    (",6,1,0,0000000000000002,0\n", 2),
+    (",6,1,0,0000000000000002", 2),
+    (",6,1,0,0000000000000002\r\n", 2),
+    (",6,1,0,0000000000000002\n\n", 2),
+    (",06,1,0,0000000000000002\n", 2),
+    (",6,01,0,0000000000000002\n", 2),
+    (",6,1,00,0000000000000002\n", 2),
+    (",+6,1,0,0000000000000002\n", 2),
+    (",6, 1,0,0000000000000002\n", 2),
+    (",6,,0,0000000000000002\n", 2),
+    (",1000001,65,2049,000000000000000G\n", 2),
+    ("E,6,1,0,0000000000000002\n", 2),
+];
+
+/// Every edge of a last line with both letters; written again, a line that is read has the same bytes. A lower-case letter is none.
+fn last_lines() -> Result<(), String> {
+    for letter in LAST {
+        for (rest, wanted) in LAST_LINES {
+            let line = [&[*letter], rest.as_bytes()].concat();
+            let text = String::from_utf8_lossy(&line).into_owned();
+            let mut numbers = [0; NUMBER_BYTES];
+            same(&format!("reading {text:?}"), proved::read(&line, &mut numbers), wanted)?;
+            read(&line, &[b'.'; NUMBER_BYTES])?;
+            let columns = text.trim_end_matches('\n').split(',').chain([""]);
+            for (index, column) in columns.enumerate().filter(|_| wanted == 0) {
+                let mut part = [b'.'; 16];
+                same(&format!("column {index} of {text:?}"), proved::column(&line, index as u64, &mut part), column.len() as u64)?;
+                same(&format!("column {index} of {text:?}"), &part[..column.len()], column.as_bytes())?;
+            }
+            (0..6).try_for_each(|index| column(&line, index, &[b'.'; 16]))?;
+            if wanted == 0 {
+                let mut part = [b'.'; 80];
+                let five = std::array::from_fn(|place| u64::from_le_bytes(std::array::from_fn(|byte| numbers[8 * place + byte])));
+                same("the size of a last line", proved::write(five, &mut part), line.len() as u64)?;
+                same("a last line written again", &part[..line.len()], &line[..])?;
+                same("a last line in 79 bytes", proved::write(five, &mut part[..79]), 9)?;
+            }
+        }
+        let small = [&[letter.to_ascii_lowercase()], &b",6,1,0,0000000000000002\n"[..]].concat();
+        same("reading a small letter", proved::read(&small, &mut [0; NUMBER_BYTES]), 2)?;
+        for (tick, survivors, in_flight) in [(1_000_001, 64, 2_048), (1_000_000, 65, 2_048), (1_000_000, 64, 2_049)] {
+            let numbers = [u64::from(*letter), tick, survivors, in_flight, 0];
+            for room in [0, 79, 80] {
+                same("writing out of range", proved::write(numbers, &mut [b'.'; 80][..room]), 3)?;
+            }
+        }
+    }
     Ok(())
 }
 
@@ -232,20 +378,38 @@ fn bounds() -> Result<(), String> {
 /// The bounds, then seeded lines. Every kind of answer has to come up.
 fn compared(seed: u64, count: u64) -> Result<String, String> {
     bounds()?;
+    last_lines()?;
     let (mut random, mut seen) = (Random::seeded(seed), Seen::default());
     for index in 1..=count {
         case(&mut random, &mut seen).map_err(|error| format!("seed {seed}, case {index} differs\n{error}"))?;
     }
-    let Seen { accepted, form, range, passed, short } = seen;
-    let read = format!("{accepted} accepted, {passed} of them K, {form} refused by 2, {range} by 3");
-    let words = format!("seed {seed}, {count} cases agree: {read}; {short} lines not written into 40 to 79 bytes");
-    if count >= 1_000 && [accepted, form, range, passed, short].contains(&0) {
-        return Err(format!("{words}; an answer never came up"));
+    let Seen { accepted, form, range, passed, last: [e, f], short, alike } = seen;
+    let read = format!("{accepted} accepted, {passed} of them K, {e} E, {f} F; {form} refused by 2, {range} by 3");
+    let words = format!("seed {seed}, {count} cases agree: {read}; {short} lines not written into 40 to 79 bytes; {alike:?} alike with E and F");
+    if count >= 1_000 && ([accepted, form, range, passed, short].contains(&0) || [e, f, alike[0], alike[1]].iter().any(|lines| *lines < count / 200)) {
+        return Err(format!("{words}; an answer hardly came up"));
     }
     Ok(words)
 }
 
+/// Each of the mock's mistakes is found.
+#[cfg(mock)]
+fn mistakes(seed: u64) -> Result<(), String> {
+    for mistake in lines_mock::MISTAKES {
+        lines_mock::make(mistake);
+        let found = found(compared(seed, 2_000)).ok_or(format!("not found: {mistake:?}"))?;
+        println!("lines: {mistake:?} is found: {found}");
+    }
+    lines_mock::make(lines_mock::Mistake::Nothing);
+    Ok(())
+}
+
+#[cfg(not(mock))]
+fn mistakes(_: u64) -> Result<(), String> {
+    Ok(())
+}
+
 fn main() -> ExitCode {
     let (seed, count) = (seed(), count(COUNT));
-    ended("lines", compared(seed, count))
+    ended("lines", mistakes(seed).and_then(|()| compared(seed, count)))
 }

@@ -5,7 +5,7 @@
 #[path = "lists_mock.rs"]
 mod lists;
 
-use super::calls::{opening, refused, simulated, Answer, Call};
+use super::calls::{is_end, last_letter, opening, refused, simulated, Answer, Call};
 pub use lists::rules;
 use simulator::layout::*;
 use simulator::limits::*;
@@ -28,7 +28,7 @@ macro_rules! mistakes {
             $($name,)*
         }
 
-        pub const MISTAKES: [Mistake; 93] = [$($name,)*];
+        pub const MISTAKES: [Mistake; 117] = [$($name,)*];
     };
 }
 
@@ -129,6 +129,34 @@ mistakes! {
     ListsLostInRun,
     HalfOfListInRun,
     EmptyAsRunBegins,
+    // W below H + D: how a file with it is taken.
+    FourForShort,
+    FourBelowPeriod,
+    ThreeForShort,
+    RaisedAtOpening,
+    RaisedInFile,
+    // The letter of the last line.
+    AlwaysE,
+    AlwaysF,
+    FAtEnough,
+    EOneShort,
+    FWhereLiveListed,
+    FWhereLiveListLive,
+    FWhereCrashed,
+    FBelowPeriod,
+    FByDelayRows,
+    OwnNumbersOfE,
+    // Its range in a store, whose lists may hold live nodes.
+    SevenForShort,
+    SevenBelowPeriod,
+    SevenOfShortStep,
+    SevenOfShortRun,
+    SevenOfShortFile,
+    SevenWhereLiveListed,
+    ZeroTaken,
+    // The rules, which are the same.
+    LiveNotListed,
+    LongWatchAfterMove,
 }
 
 use Mistake::*;
@@ -170,8 +198,21 @@ fn forget_order(bytes: &mut [u8]) {
     copy_order(&[0; STORE_BYTES], bytes);
 }
 
+/// The number by which a plan with W below H + D is refused.
+fn refuses(plan: &Plan) -> Option<u8> {
+    match () {
+        () if !plan.short_timeout() => Option::None,
+        () if is_made(FourForShort) || is_made(FourBelowPeriod) && plan.timeout < plan.period => Some(4),
+        () if is_made(ThreeForShort) => Some(REFUSED_RANGE),
+        () => Option::None,
+    }
+}
+
 /// The store of a plan as opened.
-fn opened(plan: Plan) -> Vec<u8> {
+fn opened(mut plan: Plan) -> Vec<u8> {
+    if is_made(RaisedAtOpening) {
+        plan.timeout = plan.timeout.max(plan.period + plan.delay);
+    }
     let in_numbers = plan.order.is_sorted();
     let by_number = store::encode(&Platform::open(Plan { order: Vec::new(), ..plan.clone() }));
     let mut bytes = store::encode(&Platform::open(plan));
@@ -191,7 +232,10 @@ fn open(file: &[u8], store: &mut [u8]) -> u64 {
         Err(refusal) if is_made(LineBeforeNumber) => return refusal.line as u64 + 256 * u64::from(refusal.number),
         Err(refusal) => return opening(refusal.number, if is_made(LineNotCounted) { 1 } else { refusal.line as u64 }),
         Ok(_) if is_made(EveryFileRefused) => return opening(REFUSED_FORM, 0),
-        Ok(plan) => plan,
+        Ok(plan) => match refuses(&plan) {
+            Some(number) => return opening(number, 1),
+            Option::None => plan,
+        },
     };
     let bytes = opened(plan);
     if store.len() != STORE_BYTES {
@@ -215,12 +259,42 @@ fn unlist_emitters(store: &mut [u8], all: bool) {
     }
 }
 
+/// Whether the call refuses a store by 7 whose W is below H + D, or in which a live node is listed.
+fn seven(call: Call, store: &[u8]) -> bool {
+    let by_call = match call {
+        Call::Step => is_made(SevenOfShortStep),
+        Call::Run { .. } => is_made(SevenOfShortRun),
+        Call::Write => is_made(SevenOfShortFile),
+    };
+    let below_period = get(store, TIMEOUT, 0) < get(store, PERIOD, 0);
+    last_letter(store) == b'F' && (by_call || is_made(SevenForShort) || is_made(SevenBelowPeriod) && below_period)
+        || is_made(SevenWhereLiveListed) && live_listed(store, false)
+}
+
+/// Whether a live node is listed, by any node or by a live one.
+fn live_listed(store: &[u8], by_live: bool) -> bool {
+    let crashed = (0..get(store, CRASHES_DONE, 0).min(64)).fold(0, |list, row| list | 1u64 << (get(store, CRASH_NODE, row as usize) % 64));
+    (0..64).any(|node| get(store, DEAD_LIST, node) & !crashed != 0 && !(by_live && crashed >> node & 1 == 1))
+}
+
 /// What the call takes the store to hold, in number order where it forgets the order.
-fn hold(store: &[u8], forgets: bool) -> Option<Held> {
+fn hold(call: Call, store: &[u8]) -> Option<Held> {
     if store.len() != STORE_BYTES {
         return store::decode(store);
     }
+    if seven(call, store) {
+        return Option::None;
+    }
+    let forgets = if call == Call::Write { is_made(OrderNotWritten) } else { is_made(GoesByNumber) };
     let mut seen = store.to_vec();
+    if is_made(ZeroTaken) && get(&seen, TIMEOUT, 0) == 0 {
+        put(&mut seen, TIMEOUT, 0, 1);
+    }
+    if is_made(RaisedInFile) && call == Call::Write && store::check(&seen) {
+        let enough = get(&seen, PERIOD, 0) + get(&seen, LONGEST_DELAY, 0);
+        let timeout = get(&seen, TIMEOUT, 0).max(enough);
+        put(&mut seen, TIMEOUT, 0, timeout);
+    }
     if is_made(UnusedNotLookedAt) {
         seen[61_504..].fill(0);
     }
@@ -278,11 +352,35 @@ fn mislead(lines: &mut Vec<Line>, before: &[u8], after: &[u8]) {
     }
 }
 
+/// The letter of the last line by a wrong rule.
+fn mistaken_letter(store: &[u8]) -> u8 {
+    let [period, timeout, delay, rows] = [PERIOD, TIMEOUT, LONGEST_DELAY, DELAYS].map(|field| get(store, field, 0));
+    let enough = period + delay;
+    let most_of_rows = (0..rows as usize).map(|row| get(store, DELAY_TICKS, row)).max().unwrap_or(delay);
+    let short = match () {
+        () if is_made(AlwaysE) => false,
+        () if is_made(AlwaysF) => true,
+        () if is_made(FAtEnough) => timeout <= enough,
+        () if is_made(EOneShort) => timeout < enough - 1,
+        () if is_made(FWhereLiveListed) => live_listed(store, false),
+        () if is_made(FWhereLiveListLive) => live_listed(store, true),
+        () if is_made(FWhereCrashed) => timeout < enough && get(store, CRASHES_DONE, 0) > 0,
+        () if is_made(FBelowPeriod) => timeout < period,
+        () if is_made(FByDelayRows) => timeout < period + most_of_rows,
+        () => timeout < enough,
+    };
+    if short { b'F' } else { b'E' }
+}
+
 /// Writes the lines of an accepted step anew, with a mistake, into the part as it was lent.
 fn write_misled(answer: &mut Answer, before: &[u8], after: &[u8], lent: &[u8], part: &mut [u8]) {
     let text = part[..answer[5] as usize].to_vec();
     let mut lines: Vec<Line> = text.split_inclusive(|byte| *byte == b'\n').map(|line| Line::read(line).expect("a line")).collect();
     mislead(&mut lines, before, after);
+    if is_end(answer[1]) {
+        lines[0].letter = mistaken_letter(before);
+        answer[1] = u64::from(if is_made(OwnNumbersOfE) { b'E' } else { lines[0].letter });
+    }
     part.copy_from_slice(lent);
     let mut rest = &mut part[..];
     log::put(lines.iter().copied(), &mut rest).expect("the part is long enough");
@@ -345,6 +443,7 @@ fn keep(call: Call, held: &Held, before: &[u8], store: &mut [u8]) {
     let long_run = matches!(call, Call::Run { budget: 12.. });
     store.copy_from_slice(&held.encode());
     copy_order(before, store);
+    put(store, TIMEOUT, 0, get(before, TIMEOUT, 0));
     lists::mislay(before, store, long_run);
     if is_made(EmptyAsRunBegins) && long_run {
         lists::refill(before, store);
@@ -352,8 +451,7 @@ fn keep(call: Call, held: &Held, before: &[u8], store: &mut [u8]) {
 }
 
 fn call(call: Call, store: &mut [u8], part: &mut [u8]) -> Answer {
-    let forgets = if call == Call::Write { is_made(OrderNotWritten) } else { is_made(GoesByNumber) };
-    let mut held = hold(store, forgets);
+    let mut held = hold(call, store);
     let (before, lent, opened) = (store.to_vec(), part.to_vec(), held.clone());
     let (call, rest) = match call {
         Call::Run { budget } if is_made(RunDoesOneEvent) && budget > 1 => (Call::Run { budget: 1 }, budget - 1),
@@ -389,6 +487,10 @@ fn swap_by_due(store: &mut [u8]) {
     }
 }
 
+fn is_crashed(store: &[u8], node: u64) -> bool {
+    (0..get(store, CRASHES_DONE, 0)).any(|row| get(store, CRASH_NODE, row as usize) == node)
+}
+
 /// What is wrong after the call.
 fn spoil(call: Call, answer: &mut Answer, before: &[u8], store: &mut [u8], part: &mut [u8]) {
     match (call, answer[0]) {
@@ -396,7 +498,7 @@ fn spoil(call: Call, answer: &mut Answer, before: &[u8], store: &mut [u8], part:
         (Call::Step, 0) if is_made(StepWritesAllOfLog) => part[answer[5] as usize..].fill(b' '),
         (Call::Step, 8) if is_made(LetterOfRefusedStep) => answer[1] = u64::from(b'S'),
         (Call::Step, 7 | 9) if is_made(SizeOfRefusedStep) => answer[5] = 0,
-        (Call::Step, 0) if is_made(DoneMovesTheTick) && answer[1] == u64::from(b'E') => {
+        (Call::Step, 0) if is_made(DoneMovesTheTick) && is_end(answer[1]) => {
             put(store, LAST_TICK, 0, get(before, END, 0));
         }
         (Call::Step, 0) if is_made(RenewedByAnyone) && answer[1] == u64::from(b'H') => {
@@ -410,6 +512,14 @@ fn spoil(call: Call, answer: &mut Answer, before: &[u8], store: &mut [u8], part:
             if get(before, EMITTER, node as usize) != get(store, EMITTER, node as usize) {
                 put(store, WATCH, node as usize, tick + get(store, TIMEOUT, 0) + 1);
             }
+        }
+        (Call::Step, 0) if is_made(LiveNotListed) && answer[1] == u64::from(b'W') && !is_crashed(before, answer[4]) => {
+            store.copy_from_slice(before);
+            put(store, WATCH, answer[3] as usize, answer[2] + get(store, TIMEOUT, 0) + 1);
+        }
+        (Call::Step, 0) if is_made(LongWatchAfterMove) && answer[1] == u64::from(b'W') && get(store, WATCH, answer[3] as usize) > 0 => {
+            let enough = get(store, PERIOD, 0) + get(store, LONGEST_DELAY, 0);
+            put(store, WATCH, answer[3] as usize, answer[2] + 2 * get(store, TIMEOUT, 0).max(enough) + 1);
         }
         (Call::Step, 0) if is_made(FewerInFlight) && get(store, MESSAGES, 0) == MAX_IN_FLIGHT as u64 && before != &*store => {
             store.copy_from_slice(before);

@@ -2,6 +2,8 @@
  * The five calls of a rehearsal from C, as the header declares them: the ring is in the file's order, a run in pieces leaves
  * the store that steps leave, a step that moves an emitter writes two lines, the run file is written back, the dispatcher's
  * turns leave the stores that runs leave, and a refused call writes nothing that is lent to it, neither a byte nor a number.
+ * A file is opened with any W; the last line of its run has the letter E, or F where W is below H + D. No call answers
+ * by 4.
  */
 #include <inttypes.h>
 #include <stdio.h>
@@ -32,11 +34,18 @@ static const char LISTED_BEFORE[] = "P,6,5,7,2,90\nC,10,1\nC,40,2\n";
 static const char LISTED_BEFORE_SHUFFLED[] = "P,6,5,7,2,90\nQ,4,2,0,5,3,1\nC,10,0\nC,40,5\n";
 static const char REPORTED[] = "P,10,1,5,4,60\nC,1,2\nC,1,3\nC,2,8\nC,7,0\nC,12,9\nC,16,1\n";
 static const char OVERFULL[] = "P,64,1,34,33,200\n";
-static const char SHORT_TIME_OUT[] = "P,2,2,2,1,6\n";
+static const char SHORT[] = "P,6,5,6,2,90\nC,30,1\nC,35,2\nL,3,1\nL,40,1\n";
+static const char SHORT_ALONE[] = "P,3,2,2,1,8\n";
+static const char SHORT_AND_OUT_OF_RANGE[] = "P,2,2,2,1,6\nC,3,2\n";
+static const char SHORT_AND_TWICE[] = "P,2,2,2,1,6\nQ,0,0\n";
+static const char NO_TIME_OUT[] = "P,2,2,0,1,6\n";
 static const char TWICE[] = "P,3,2,3,1,6\nQ,0,2,0\n";
 static const char TWICE_AND_OUT_OF_RANGE[] = "P,3,2,3,1,6\nQ,0,3,0\n";
 static const char TWO_OF_THREE[] = "P,3,2,3,1,6\nQ,0,0\n";
 static const char RING_AFTER_CRASH[] = "P,3,2,3,1,6\nC,3,1\nQ,0,2,1\n";
+
+/* The number that is given by no call. */
+enum { UNUSED_NUMBER = 4 };
 
 /* What is read of a store: the first byte of a column, by docs/LAYOUTS.md. */
 enum { EMITTERS = 128, LISTS = 768 };
@@ -44,8 +53,14 @@ enum { EMITTERS = 128, LISTS = 768 };
 static uint8_t store[KELBRAUT_STORE], kept[KELBRAUT_STORE], part[KELBRAUT_FILE_PART + 8];
 static uint64_t a, b, c, d, e;
 
+/* Every answer goes through here. */
+static uint64_t given_answer(uint64_t answer) {
+    CHECK(KELBRAUT_NUMBER(answer) != UNUSED_NUMBER);
+    return answer;
+}
+
 static uint64_t open_text(const char *text, size_t size, size_t store_size) {
-    return kelbraut_open((const uint8_t *)text, size, store, store_size);
+    return given_answer(kelbraut_open((const uint8_t *)text, size, store, store_size));
 }
 
 /* A text is refused by a number at a line. */
@@ -56,17 +71,17 @@ static int refuses(const char *text, size_t size, size_t store_size, uint64_t nu
 
 static uint64_t step(size_t store_size, size_t log_size) {
     a = b = c = d = e = BEFORE;
-    return kelbraut_step(store, store_size, part, log_size, &a, &b, &c, &d, &e);
+    return given_answer(kelbraut_step(store, store_size, part, log_size, &a, &b, &c, &d, &e));
 }
 
 static uint64_t run(size_t store_size, uint64_t budget) {
     a = b = BEFORE;
-    return kelbraut_run(store, store_size, budget, &a, &b);
+    return given_answer(kelbraut_run(store, store_size, budget, &a, &b));
 }
 
 static uint64_t write_file(size_t store_size, size_t part_size) {
     a = BEFORE;
-    return kelbraut_write(store, store_size, part, part_size, &a);
+    return given_answer(kelbraut_write(store, store_size, part, part_size, &a));
 }
 
 /* The bytes of the part from a place on are as they were filled. */
@@ -77,7 +92,7 @@ static int unwritten(size_t from) {
     return from == sizeof part;
 }
 
-static void steps_and_runs(const char *text, size_t size) {
+static void steps_and_runs(const char *text, size_t size, uint64_t end) {
     uint64_t stepped = 0, ran = 0, answer;
     CHECK(open_text(text, size, sizeof store) == KELBRAUT_ACCEPTED);
     CHECK(run(sizeof store, 0) == KELBRAUT_ACCEPTED && a == 0 && b == 1);
@@ -85,12 +100,12 @@ static void steps_and_runs(const char *text, size_t size) {
         memset(part, 0xa5, sizeof part);
         CHECK(step(sizeof store, KELBRAUT_LOG_PART) == KELBRAUT_ACCEPTED);
         CHECK(part[0] == a && e <= KELBRAUT_LOG_PART && part[e - 1] == '\n' && unwritten(e));
-        if (a == KELBRAUT_END) {
+        if (kelbraut_is_end(a)) {
             break;
         }
         CHECK(b <= 90 && c < 6 && d < 6);
     }
-    CHECK(b == 90 && c == 4);
+    CHECK(a == end && b == 90 && c == 4);
     memcpy(kept, store, sizeof store);
     CHECK(open_text(text, size, sizeof store) == KELBRAUT_ACCEPTED);
     do {
@@ -128,7 +143,7 @@ static void moves(const char *text, size_t size, unsigned by_watch, unsigned by_
         CHECK(memcmp(store, kept, sizeof store) == 0 && unwritten(0));
         memcpy(emitters, store + EMITTERS, sizeof emitters);
         CHECK(step(sizeof store, 80) == KELBRAUT_ACCEPTED);
-        if (a == KELBRAUT_END) {
+        if (kelbraut_is_end(a)) {
             break;
         }
         int length = put_line(lines, a, d);
@@ -152,6 +167,45 @@ static void written_back(const char *text, size_t size) {
     CHECK(memcmp(part, text, a) == 0 && unwritten(a));
 }
 
+/*
+ * A file is opened with any W from 1 on, and written back. The last line of its run has the letter E, or F where W is
+ * below H + D. Each step from then on writes that line again, so that a loop which waits for E alone may not end.
+ */
+static void any_time_out(unsigned h, unsigned w, unsigned d) {
+    char text[64];
+    uint64_t end = w < h + d ? KELBRAUT_END_SHORT : KELBRAUT_END, size;
+    int length = sprintf(text, "P,3,%u,%u,%u,40\nC,20,1\n", h, w, d);
+    CHECK(open_text(text, (size_t)length, sizeof store) == KELBRAUT_ACCEPTED);
+    written_back(text, (size_t)length);
+    do {
+        CHECK(step(sizeof store, sizeof part) == KELBRAUT_ACCEPTED);
+    } while (!kelbraut_is_end(a));
+    memcpy(kept, store, sizeof store);
+    size = e;
+    for (unsigned again = 0; again < 3; again++) {
+        CHECK(step(sizeof store, sizeof part) == KELBRAUT_ACCEPTED && a == end && part[0] == end);
+        CHECK(b == 40 && c == 2 && e == size && memcmp(store, kept, sizeof store) == 0);
+    }
+    CHECK(run(sizeof store, 1) == KELBRAUT_ACCEPTED && a == 0 && b == 0);
+}
+
+static void any_time_outs(void) {
+    for (unsigned h = 1; h <= 4; h++) {
+        for (unsigned d = 1; d <= 4; d++) {
+            for (unsigned w = 1; w <= h + d + 1; w++) {
+                any_time_out(h, w, d);
+            }
+        }
+    }
+    any_time_out(1000, 1, 255);
+    any_time_out(1000, 1254, 255);
+    any_time_out(1000, 1255, 255);
+    any_time_out(1, 65535, 1);
+    for (uint64_t letter = 0; letter < 512; letter++) {
+        CHECK(kelbraut_is_end(letter) == (letter == 'E' || letter == 'F'));
+    }
+}
+
 /* The first heartbeats, by node: each goes to the node after it in the ring. */
 static void followed_by(const char *text, size_t size, const uint8_t after[6]) {
     CHECK(open_text(text, size, sizeof store) == KELBRAUT_ACCEPTED);
@@ -163,7 +217,10 @@ static void followed_by(const char *text, size_t size, const uint8_t after[6]) {
 static void refusals(void) {
     memset(part, 0xa5, sizeof part);
     CHECK(refuses(FILE_TEXT, 0, sizeof store, KELBRAUT_BAD_LENGTH, 0));
-    CHECK(refuses(SHORT_TIME_OUT, sizeof SHORT_TIME_OUT - 1, 0, KELBRAUT_SHORT_TIME_OUT, 1));
+    CHECK(refuses(SHORT, sizeof SHORT - 1, 0, KELBRAUT_BAD_STORE, 0));
+    CHECK(refuses(SHORT_AND_OUT_OF_RANGE, sizeof SHORT_AND_OUT_OF_RANGE - 1, 0, KELBRAUT_BAD_NUMBER, 2));
+    CHECK(refuses(SHORT_AND_TWICE, sizeof SHORT_AND_TWICE - 1, 0, KELBRAUT_BAD_RING, 2));
+    CHECK(refuses(NO_TIME_OUT, sizeof NO_TIME_OUT - 1, sizeof store, KELBRAUT_BAD_NUMBER, 1));
     CHECK(refuses(FILE_TEXT, sizeof FILE_TEXT - 2, sizeof store, KELBRAUT_BAD_FORM, 5));
     CHECK(refuses(TWICE, sizeof TWICE - 1, 0, KELBRAUT_BAD_RING, 2));
     CHECK(refuses(TWICE_AND_OUT_OF_RANGE, sizeof TWICE_AND_OUT_OF_RANGE - 1, sizeof store, KELBRAUT_BAD_NUMBER, 2));
@@ -223,7 +280,7 @@ static uint64_t dispatch(size_t size, uint64_t length, uint64_t turns) {
     memcpy(stores_kept, stores, sizeof stores);
     uint64_t answer = kelbraut_dispatch(stores, size, length, turns, &given, events, &stopped);
     CHECK(events[KELBRAUT_MOST_STORES] == BEFORE);
-    return answer;
+    return given_answer(answer);
 }
 
 /* A dispatcher's call is refused by a number and leaves all stores and numbers. */
@@ -310,11 +367,15 @@ int main(void) {
     moves(LISTED_BEFORE, sizeof LISTED_BEFORE - 1, 2, 0, 2);
     moves(LISTED_BEFORE_SHUFFLED, sizeof LISTED_BEFORE_SHUFFLED - 1, 2, 0, 2);
     moves(REPORTED, sizeof REPORTED - 1, 7, 1, 1);
-    steps_and_runs(SHUFFLED, sizeof SHUFFLED - 1);
+    moves(SHORT_ALONE, sizeof SHORT_ALONE - 1, 3, 3, 1);
+    any_time_outs();
+    steps_and_runs(SHORT, sizeof SHORT - 1, KELBRAUT_END_SHORT);
+    written_back(SHORT, sizeof SHORT - 1);
+    steps_and_runs(SHUFFLED, sizeof SHUFFLED - 1, KELBRAUT_END);
     written_back(SHUFFLED, sizeof SHUFFLED - 1);
-    steps_and_runs(IN_NUMBER_ORDER, sizeof IN_NUMBER_ORDER - 1);
+    steps_and_runs(IN_NUMBER_ORDER, sizeof IN_NUMBER_ORDER - 1, KELBRAUT_END);
     written_back(IN_NUMBER_ORDER, sizeof IN_NUMBER_ORDER - 1);
-    steps_and_runs(FILE_TEXT, sizeof FILE_TEXT - 1);
+    steps_and_runs(FILE_TEXT, sizeof FILE_TEXT - 1, KELBRAUT_END);
     written_back(FILE_TEXT, sizeof FILE_TEXT - 1);
     refusals();
     overfull();

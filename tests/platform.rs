@@ -2,9 +2,10 @@
 //! Every call must give the same answer and leave the same lent bytes and the same numbers behind its pointers: on files good and
 //! damaged, on steps and runs mixed at random, on runs of any budget from any place of a file, on stores of which every single byte is
 //! changed in turn, those of the ring's order, of marks and of carried lists in more ways, on lent stores that no file leads to, and on 01's
-//! edges and 02's of a Q line, of reported emitters, of the number of nodes passed and of the lists that heartbeats carry. The lines K of every
-//! step are also counted once more, from its lines alone, and of what a store holds that a file led to the words of demand 3 and of requests
-//! 106 and 107 are asked.
+//! edges and 02's of a Q line, of reported emitters, of the number of nodes passed, of the lists that heartbeats carry and of a W below H + D. The
+//! lines K of every step are also counted once more, from its lines alone, and the letter of every last line goes by the bytes of H, W and
+//! D. Of what a store holds that a file with W at least H + D led to, the words of demand 3 and of requests 106 and 107 are asked; with less
+//! a live node may be listed, and all else holds: the store is in range, and the file comes back.
 //!
 //! Usage: platform [SEED [COUNT]]. A difference prints its seed and index, the call and the file, and the program fails.
 //!
@@ -19,7 +20,9 @@ mod mock;
 mod runs;
 mod stores;
 
-use calls::{answer, opening, proved, refused, simulated, Answer, Call};
+use calls::{answer, is_end, last_letter, opening, proved, refused, simulated, Answer, Call};
+#[cfg(mock)]
+use common::found;
 use common::{count, ended, same, seed, shown};
 use lent::Lent;
 use simulator::generator::{self, SMALL, USUAL};
@@ -49,7 +52,7 @@ const LENT_TRIES: u64 = 40;
 /// Generated files in which nodes crash close together, each run in parts to its end.
 const TRIPS: u64 = 60;
 /// The numbers that the four calls answer, 0 where accepted.
-const NUMBERS: [usize; 11] = [0, 1, 2, 3, 4, 5, 6, 7, 8, 9, 13];
+const NUMBERS: [usize; 10] = [0, 1, 2, 3, 5, 6, 7, 8, 9, 13];
 
 // ---- the comparison
 
@@ -61,8 +64,8 @@ struct Seen {
     numbers: [u64; 14],
     spent: u64,
     done: u64,
-    /// Reports that moved a node; and steps by which one did so and left the node alone.
-    reported: u64,
+    /// Reports that moved a node, with W at least H + D and with less; and steps by which one did so and left the node alone.
+    reported: [u64; 2],
     alone: u64,
     /// Moves by steps, whose lines K are counted once more.
     moves: Moves,
@@ -72,7 +75,23 @@ struct Seen {
     /// Steps by which a node lists what a heartbeat names, and by which it relays a report of a node that it lists already.
     learnt: u64,
     named: u64,
+    short: Short,
     met: runs::Met,
+}
+
+/// What came up with W below H + D.
+#[derive(Default)]
+struct Short {
+    /// Stores opened; and accepted calls on such stores, and on lent ones.
+    opened: u64,
+    calls: u64,
+    /// Steps that answer E, and F.
+    ends: [u64; 2],
+    /// Stores that a file led to, and those of them in which a live node is listed.
+    reached: u64,
+    listing: u64,
+    /// Files that came back after the calls on their store.
+    written: u64,
 }
 
 impl Seen {
@@ -83,12 +102,13 @@ impl Seen {
             numbers: [0; 14],
             spent: 0,
             done: 0,
-            reported: 0,
+            reported: [0; 2],
             alone: 0,
             moves: Moves::NONE,
             owed: [0; 3],
             learnt: 0,
             named: 0,
+            short: Short::default(),
             met: runs::Met::default(),
         }
     }
@@ -104,10 +124,15 @@ impl Seen {
         Ok(())
     }
 
-    /// What the bytes of a store hold that a file led to: no live node is listed, and the ring is settled, survivors are joined and their
-    /// lists are full where demand 3, request 106 and request 107 say so.
+    /// What the bytes of a store hold that a file led to, which is in range. With W at least H + D no live node is listed, and the ring is
+    /// settled, survivors are joined and their lists are full where demand 3, request 106 and request 107 say so.
     fn claims(&mut self, store: &Lent) -> Result<Platform, String> {
         let mut platform = store::decode(store.part()).ok_or("the store is out of range")?.platform;
+        if last_letter(store.part()) == b'F' {
+            self.short.reached += 1;
+            self.short.listing += u64::from(!settle::no_live_node_listed(platform.nodes()));
+            return Ok(platform);
+        }
         let settling = settle::crashes_spaced(&platform) && settle::settling_time_passed(&mut platform);
         let owed = [settling, settle::joining_tick_passed(&mut platform), settle::listing_tick_passed(&mut platform)];
         self.owed.iter_mut().zip(owed).for_each(|(count, owed)| *count += u64::from(owed));
@@ -119,6 +144,17 @@ impl Seen {
             () => return Ok(platform),
         };
         Err(format!("{told} at tick {}", platform.last_tick()))
+    }
+
+    /// Counts an accepted call, and a last line, which has to have the letter that the store's P line gives.
+    fn last_line(&mut self, call: Call, letter: u8, answer: &Answer) -> Result<(), String> {
+        let short = letter == b'F';
+        self.short.calls += u64::from(short);
+        if call == Call::Step && is_end(answer[1]) {
+            self.short.ends[usize::from(short)] += 1;
+            same("the letter of the last line", answer[1] as u8 as char, letter as char)?;
+        }
+        Ok(())
     }
 
     /// Counts a step by which a node learns of others, or relays a report of one that it lists; `before` are the nodes before it.
@@ -151,6 +187,7 @@ impl Seen {
         self.opened += u64::from(answer == 0);
         same(&what, answer, wanted)?;
         store.holds("store", &held.as_ref().map_or(before, Held::encode)).map_err(|error| format!("{what}: {error}"))?;
+        self.short.opened += u64::from(answer == 0 && last_letter(store.part()) == b'F');
         Ok(held)
     }
 
@@ -160,9 +197,10 @@ impl Seen {
         let reported = held.as_ref().map_or(0, |held| held.platform.moves_by_report());
         let recount = held.as_ref().filter(|_| call == Call::Step).map(|held| Recount::standing(&held.platform));
         let nodes = held.as_ref().filter(|_| call == Call::Step).map(|held| held.platform.nodes().to_vec());
+        let letter = held.as_ref().map(|_| last_letter(&before));
         let wanted = simulated(call, held.as_mut(), &mut part_left);
         if let Some(platform) = held.as_ref().map(|held| &held.platform).filter(|platform| platform.moves_by_report() > reported) {
-            self.reported += platform.moves_by_report() - reported;
+            self.reported[usize::from(letter == Some(b'F'))] += platform.moves_by_report() - reported;
             self.alone += u64::from(call == Call::Step && platform.nodes()[wanted[3] as usize].emitter == wanted[3] as u8);
         }
         let store_left = held.as_ref().map_or(before, Held::encode);
@@ -176,6 +214,9 @@ impl Seen {
         same("the call", answer, wanted).map_err(told)?;
         store.holds("store", &store_left).map_err(told)?;
         part.holds("part", &part_left).map_err(told)?;
+        if let (Some(letter), 0) = (letter, answer[0]) {
+            self.last_line(call, letter, &answer).map_err(told)?;
+        }
         if let Some(recount) = recount.filter(|_| answer[0] == 0) {
             self.recount(recount, &part.part()[..answer[5] as usize]).map_err(told)?;
         }
@@ -222,9 +263,21 @@ fn sequence(seen: &mut Seen, file: &[u8], random: &mut Random) -> Result<(), Str
         }
         seen.claims(&store).map_err(|error| format!("call {place}: {error}"))?;
     }
+    comes_back(seen, &mut store, &mut held, file)?;
     let mut other = Lent::new(&[store.part(), &[0; 2]].concat()[..some_room(random).min(STORE_BYTES + 1)]);
     let (call, room) = some_call(random);
     seen.call(call, &mut other, &mut Lent::filled(room), &mut None).map(|_| ())
+}
+
+/// The run file of a store is the one that it was opened from, whatever was done since.
+fn comes_back(seen: &mut Seen, store: &mut Lent, held: &mut Option<Held>, file: &[u8]) -> Result<(), String> {
+    let mut part = Lent::filled(FILE_BYTES);
+    let answer = seen.call(Call::Write, store, &mut part, held)?;
+    if answer[0] != 0 || part.part()[..answer[1] as usize] != *file {
+        return Err("the file does not come back".to_string());
+    }
+    seen.short.written += u64::from(last_letter(store.part()) == b'F');
+    Ok(())
 }
 
 // ---- lent stores
@@ -314,7 +367,7 @@ fn generated(seen: &mut Seen, seed: u64, count: u64) -> Result<(), String> {
 // ---- nodes that crash close together
 
 /// Runs of a few events or many, one after another, to the end of files at whose end survivors have to be joined and mostly to list all
-/// crashed nodes.
+/// crashed nodes, where W is at least H + D.
 fn trips(seen: &mut Seen, seed: u64) -> Result<(), String> {
     for index in 0..TRIPS {
         let file = generator::tripped_plan(seed ^ 0x7472_6970, index, SMALL);
@@ -329,6 +382,7 @@ fn trips(seen: &mut Seen, seed: u64) -> Result<(), String> {
             seen.claims(&store).map_err(told)?;
             spent = if answer[0] == 0 { answer[2] } else { 0 };
         }
+        comes_back(seen, &mut store, &mut held, &file).map_err(told)?;
     }
     Ok(())
 }
@@ -505,6 +559,56 @@ fn changed_lists(seen: &mut Seen) -> Result<(), String> {
     Ok(())
 }
 
+// ---- W in a store
+
+/// The store with another W.
+fn with_timeout(bytes: &[u8], timeout: u64) -> Vec<u8> {
+    let mut changed = bytes.to_vec();
+    layout::put(&mut changed, layout::TIMEOUT, 0, timeout);
+    changed
+}
+
+/// W may be any number of its two bytes but 0, whatever H and D: here 1,000 and 255, of a lone node that is done, so that a step answers
+/// the last line.
+fn any_timeout(seen: &mut Seen) -> Result<(), String> {
+    let bytes = reached(b"P,1,1000,1,255,5\n", 0);
+    for timeout in (0..=1_300).chain((1_300..=65_535).step_by(251)).chain([32_767, 32_768, 65_280, 65_534, 65_535]) {
+        let changed = with_timeout(&bytes, timeout);
+        let told = |error| format!("W set to {timeout}: {error}");
+        gets(seen, &changed, if timeout == 0 { REFUSED_STORE } else { 0 }).map_err(told)?;
+        let letter = if timeout < 1_255 { b'F' } else { b'E' };
+        let step = seen.call(Call::Step, &mut Lent::new(&changed), &mut Lent::filled(LOG_BYTES), &mut store::decode(&changed)).map_err(told)?;
+        same("a step", step[1], if timeout == 0 { refused(REFUSED_STORE)[1] } else { u64::from(letter) }).map_err(told)?;
+    }
+    Ok(())
+}
+
+/// Stores whose watches are all due, so that any W is in range: each W about H + D is stepped and run as the simulator does. With H or D
+/// changed instead, W is short too, and that is no damage.
+fn lent_timeouts(seen: &mut Seen, random: &mut Random) -> Result<(), String> {
+    use layout::*;
+    for (file, events) in [("P,5,2,1,3,60\nC,5,3\n", 0), (MIDST, 50), (self::ORDERED, 50), ("P,64,1000,700,255,4000\nC,3,7\n", 90)] {
+        let mut bytes = reached(file.as_bytes(), events);
+        let [nodes, last, period, delay] = [NODES, LAST_TICK, PERIOD, LONGEST_DELAY].map(|field| get(&bytes, field, 0));
+        for node in (0..nodes as usize).filter(|node| get(&bytes, WATCH, *node) > 0).collect::<Vec<usize>>() {
+            put(&mut bytes, WATCH, node, last + 1);
+        }
+        let enough = period + delay;
+        for timeout in [0, 1, 2, 3, period, delay, enough - 1, enough, enough + 1, 2 * enough, 65_535] {
+            let changed = with_timeout(&bytes, timeout);
+            let told = |error| format!("W set to {timeout} after {events} events: {error}\n{}", shown(file.as_bytes()));
+            gets(seen, &changed, if timeout == 0 { REFUSED_STORE } else { 0 }).map_err(told)?;
+            lent_sequence(seen, &changed, random).map_err(told)?;
+        }
+        for (field, number) in [(PERIOD, 1_000), (LONGEST_DELAY, 255), (LONGEST_DELAY, get(&bytes, TIMEOUT, 0).min(255))] {
+            let mut changed = bytes.clone();
+            put(&mut changed, field, 0, number);
+            gets(seen, &changed, 0).map_err(|error| format!("{field:?} set to {number}: {error}\n{}", shown(file.as_bytes())))?;
+        }
+    }
+    Ok(())
+}
+
 // ---- 01's edges, and 02's of a Q line, of reported emitters, of nodes passed and of lists that heartbeats carry
 
 /// A store opened from the file, and what it holds.
@@ -551,13 +655,16 @@ fn refused_files(seen: &mut Seen) -> Result<(), String> {
         (b"P,02,", 2, 1),
         (b"P,02,2,3,1,6\n", 2, 1),
         (b"P,65,2,3,1,6\n", 3, 1),
-        (b"P,2,2,2,1,6\n", 4, 1),
+        (b"P,2,2,0,1,6\n", 3, 1),
+        (b"P,2,2,65536,1,6\n", 3, 1),
+        (b"P,2,2,2,1,6\nC,3,1\nC,3,0\n", 5, 3),
         (b"P,2,2,3,1,6\nC,3,1\nC,3,0\n", 5, 3),
         (&many, 6, MAX_DELAY_ROWS as u64 + 2),
         (b"P,3,2,3,1,6\nQ,0,1\n", 2, 2),
         (b"P,3,2,3,1,6\nC,3,1\nQ,0,1,2\n", 2, 3),
         (b"P,3,2,3,1,6\nQ,0,0,3\n", 3, 2),
         (b"P,3,2,3,1,6\nQ,0,1,0\n", 13, 2),
+        (b"P,3,2,2,1,6\nQ,0,1,0\n", 13, 2),
     ] {
         for room in [STORE_BYTES, 0] {
             let answer = proved::open(file, Lent::filled(room).part_mut());
@@ -593,6 +700,20 @@ fn full_flight(seen: &mut Seen) -> Result<(), String> {
     let fullest = answer(0, &[u64::from(b'S'), 32, 63, 0, "S,32,63,0,0000000000000000\n".len() as u64]);
     let by_step = [(Call::Run { budget: 2_047 }, ran(2_047, 1)), (Call::Step, fullest), (Call::Step, eight)];
     answers(seen, over, &by_step)?;
+    answers(seen, over, &[(all, stopped(2_048)), (Call::Step, eight)]).map(|_| ())
+}
+
+/// With W below H + D likewise: 2,048 in flight pass up to tick 32; the first watch, at tick 33, would bring seven more.
+fn full_flight_short(seen: &mut Seen) -> Result<(), String> {
+    let all = Call::Run { budget: u64::MAX };
+    let (full, over) = ("P,64,1,33,40,32\n", "P,64,1,33,40,33\n");
+    let last = "F,32,64,2048,0000000000000000\n";
+    let done = answer(0, &[u64::from(b'F'), 32, 64, 2_048, last.len() as u64]);
+    let lines = answers(seen, full, &[(all, ran(2_048, 0)), (Call::Step, done), (all, ran(0, 0)), (Call::Step, done)])?;
+    same("the last line of a full flight", lines, last.repeat(2))?;
+    let eight = refused(REFUSED_EVENT);
+    let calls = [(Call::Run { budget: 2_048 }, ran(2_048, 1)), (Call::Step, eight), (all, stopped(0)), (Call::Write, answer(0, &[over.len() as u64]))];
+    answers(seen, over, &calls)?;
     answers(seen, over, &[(all, stopped(2_048)), (Call::Step, eight)]).map(|_| ())
 }
 
@@ -635,11 +756,7 @@ fn orders(seen: &mut Seen) -> Result<(), String> {
     logged(seen, named, include_str!("worked.log"))?;
     for file in [named, include_str!("shuffled.run"), "P,1,1,2,1,5\nQ,0\n"] {
         let (mut store, mut held) = opened(seen, file.as_bytes())?;
-        let mut part = Lent::filled(FILE_BYTES);
-        let answer = seen.call(Call::Write, &mut store, &mut part, &mut held)?;
-        if part.part()[..answer[1] as usize] != *file.as_bytes() {
-            return Err(format!("{file:?} does not come back"));
-        }
+        comes_back(seen, &mut store, &mut held, file.as_bytes()).map_err(|error| format!("{file:?}: {error}"))?;
     }
     Ok(())
 }
@@ -849,7 +966,7 @@ fn holds_from(seen: &mut Seen, claim: Claim, file: &str, by: u64) -> Result<u64,
     let (mut store, mut held) = opened(seen, file.as_bytes())?;
     let crashes = platform_of(file.as_bytes()).plan().crashes.len();
     let (mut since, mut owed) = (None, 0);
-    while seen.call(Call::Step, &mut store, &mut Lent::filled(LOG_BYTES), &mut held)?[1] != u64::from(b'E') {
+    while !is_end(seen.call(Call::Step, &mut store, &mut Lent::filled(LOG_BYTES), &mut held)?[1]) {
         let mut platform = seen.claims(&store)?;
         let holds = platform.crashes_done() == crashes && claim.holds(platform.ring(), platform.nodes());
         since = if holds { since.or(Some(u64::from(platform.last_tick()))) } else { None };
@@ -928,6 +1045,68 @@ fn named_before_reports(seen: &mut Seen) -> Result<(), String> {
     same("eight joined after", holds_from(seen, Claim::Joined, file, 3 + 31)?, 31)
 }
 
+/// 02's runs with W below H + D, worked by hand.
+///
+/// - Two nodes, H 2, D 1, which is 01's edge: with W 2 each watch expires before the first heartbeat comes. Both list the other, are alone and
+///   send nothing.
+/// - Three nodes likewise, in tests/short.run: each lists the one before and sends O and R to the one after. Node 2 crashes, and by the reports 0
+///   and 1 leave the emitters that they had just taken. Both are alone, each listing the other.
+/// - A lone node; no event up to the end tick; all messages quicker by L lines than D, so that no watch expires. F goes by the P line alone.
+fn short_timeouts(seen: &mut Seen) -> Result<(), String> {
+    let two = "W,2,0,1,0000000000000002\nK,2,0,1,0000000000000002\nW,2,1,0,0000000000000001\nK,2,1,1,0000000000000001\n";
+    let quick: String = (0..8).map(|number| format!("L,{number},1\n")).collect();
+    let both = |letter, tick| format!("{letter},{tick},0,1,0000000000000000\n{letter},{tick},1,0,0000000000000000\n");
+    let back = |tick| format!("H,{tick},1,0,0000000000000000\nH,{tick},0,1,0000000000000000\n");
+    let steady: String = (2..5).map(|tick| back(tick) + &both('S', tick)).collect();
+    for (file, log) in [
+        ("P,2,2,2,1,6\n", format!("{two}F,6,2,0,0000000000000000\n")),
+        ("P,2,2,2,1,6\nC,3,1\n", format!("{two}C,3,1,1,0000000000000001\nF,6,1,0,0000000000000002\n")),
+        ("P,1,1,1,1,5\n", "F,5,1,0,0000000000000000\n".to_string()),
+        ("P,1,1,1,1,5\nC,0,0\n", "C,0,0,0,0000000000000000\nF,5,0,0,0000000000000001\n".to_string()),
+        ("P,3,2,2,1,1\n", "F,1,3,0,0000000000000000\n".to_string()),
+        (&format!("P,2,1,2,2,4\n{quick}"), format!("{}{steady}F,4,2,2,0000000000000000\n", both('S', 1))),
+        (&format!("P,2,1,3,2,4\n{quick}"), format!("{}{steady}E,4,2,2,0000000000000000\n", both('S', 1))),
+        (include_str!("short.run"), include_str!("short.log").to_string()),
+    ] {
+        logged(seen, file, &log)?;
+    }
+    full_flight_short(seen)
+}
+
+/// The file by steps to its end, and by runs of some budgets: both leave the same store, and then a step answers the letter.
+fn ends_in(seen: &mut Seen, file: &str, letter: u8) -> Result<(), String> {
+    let told = |error| format!("{error}\n{}", shown(file.as_bytes()));
+    let (mut by_steps, mut held) = opened(seen, file.as_bytes()).map_err(told)?;
+    let mut last = 0;
+    while !is_end(last) {
+        let answer = seen.call(Call::Step, &mut by_steps, &mut Lent::filled(LOG_BYTES), &mut held).map_err(told)?;
+        seen.claims(&by_steps).map_err(told)?;
+        same("a step", answer[0], 0).map_err(told)?;
+        last = answer[1];
+    }
+    same("the last letter", last, u64::from(letter)).map_err(told)?;
+    let (mut by_runs, mut held) = opened(seen, file.as_bytes()).map_err(told)?;
+    for budget in [0, 1, 3, 11, 12, 1, 40, u64::MAX, 0] {
+        let answer = seen.call(Call::Run { budget }, &mut by_runs, &mut Lent::filled(0), &mut held).map_err(told)?;
+        same("a run", answer[0], 0).map_err(told)?;
+    }
+    comes_back(seen, &mut by_runs, &mut held, file.as_bytes()).map_err(told)?;
+    by_runs.holds("store", by_steps.part()).map_err(told)
+}
+
+/// Every W up to two ticks above H + D, with crashes and without, in number order and in another.
+fn every_timeout(seen: &mut Seen) -> Result<(), String> {
+    for (period, delay) in [(1, 1), (3, 2), (2, 5)] {
+        for timeout in 1..=period + delay + 2 {
+            let letter = if timeout < period + delay { b'F' } else { b'E' };
+            for (nodes, lines) in [(1, ""), (2, ""), (5, ""), (5, "C,4,1\nC,4,3\n"), (6, "Q,0,3,1,5,2,4\nC,9,2\nL,1,1\nL,9,1\n")] {
+                ends_in(seen, &format!("P,{nodes},{period},{timeout},{delay},40\n{lines}"), letter)?;
+            }
+        }
+    }
+    Ok(())
+}
+
 /// An event on a lent store may bring the next number above its bound: it is done, and the next call gets 7.
 fn last_number(seen: &mut Seen) -> Result<(), String> {
     let mut bytes = reached(b"P,2,2,3,1,6\nC,3,1\n", 0);
@@ -953,6 +1132,8 @@ fn edges(seen: &mut Seen) -> Result<(), String> {
     full_flight(seen)?;
     named_nodes(seen)?;
     named_before_reports(seen)?;
+    short_timeouts(seen)?;
+    every_timeout(seen)?;
     settling(seen)?;
     joining(seen)?;
     listing(seen)?;
@@ -967,6 +1148,8 @@ fn all(seen: &mut Seen, seed: u64, count: u64) -> Result<(), String> {
     runs::all(seen, seed)?;
     trips(seen, seed)?;
     generated(seen, seed, count)?;
+    any_timeout(seen)?;
+    lent_timeouts(seen, &mut Random::new(seed ^ 0x7761_7463, 0))?;
     changed_orders(seen)?;
     listed_emitters(seen)?;
     changed_marks(seen)?;
@@ -976,10 +1159,10 @@ fn all(seen: &mut Seen, seed: u64, count: u64) -> Result<(), String> {
 
 /// Every kind of answer has to come up.
 fn summary(seen: &Seen, count: u64) -> Result<(), String> {
-    let Seen { opened, calls, numbers, spent, done, reported, alone, moves, owed, learnt, named, met } = seen;
+    let Seen { opened, calls, numbers, spent, done, reported, alone, moves, owed, learnt, named, short, met } = seen;
     let answered = NUMBERS.map(|number| (number, numbers[number]));
     println!("platform: {calls} calls agree, {opened} stores opened; answers by number: {answered:?}; {spent} runs spent, {done} done");
-    println!("platform: {reported} moves by report, {alone} steps of them to be alone");
+    println!("platform: moves by report with W at least H + D and with less {reported:?}, {alone} steps of them to be alone");
     let (lines, more, most) = (moves.all(), moves.passing_more(), moves.greatest());
     println!("platform: {lines} lines K counted once more, {more} with more than one node passed, at most {most}; {} after R", moves.by_report);
     if count > 0 && (lines < count || more < count / 3 || most < 63 || moves.by_report < count / 10) {
@@ -987,14 +1170,23 @@ fn summary(seen: &Seen, count: u64) -> Result<(), String> {
     }
     let [settled, joined, full] = owed;
     println!("platform: owed after calls on stores that a file led to, and so: {settled} settled rings, {joined} joined ones, {full} full lists");
+    let Short { opened: short_opened, calls: short_calls, ends, reached, listing, written } = short;
+    println!("platform: with W below H + D {short_opened} stores opened, {short_calls} calls accepted, {written} files come back; last lines E and F {ends:?}");
+    println!("platform: {reached} times such a store was looked at that a file led to, {listing} times with a live node in a list");
     println!("platform: {learnt} steps by which a node lists what a heartbeat names, {named} by which it relays a report of a listed node");
     if count > 0 && (*settled < count || *joined < 2 * count || *full < count) {
         return Err("too few claims were owed".to_string());
     }
+    if count > 0 && (*short_opened < count / 4 || *written < count / 6 || ends[0] < count || ends[1] < count) {
+        return Err("too few files with W below H + D came up".to_string());
+    }
+    if count > 0 && (*short_calls < 20 * count || *reached < 5 * count || *listing < 2 * count) {
+        return Err("too few stores with W below H + D, or live nodes in their lists, came up".to_string());
+    }
     if count > 0 && (*learnt < count / 2 || *named < count / 3) {
         return Err("too few lists of heartbeats, or reports of what they name, came up".to_string());
     }
-    if count > 0 && (*reported < count || *alone == 0) {
+    if count > 0 && (reported.iter().any(|moves| *moves < count) || *alone == 0) {
         return Err("too few reports moved a node".to_string());
     }
     if count > 0 && (answered.iter().any(|(_, answers)| *answers == 0) || *spent == 0 || *done == 0) {
@@ -1008,17 +1200,13 @@ fn summary(seen: &Seen, count: u64) -> Result<(), String> {
 fn mistakes(seed: u64) -> Result<(), String> {
     for mistake in mock::MISTAKES {
         mock::make(mistake);
-        match all(&mut Seen::new(), seed, 40) {
-            Ok(()) => return Err(format!("not found: {mistake:?}")),
-            Err(error) => println!("platform: {mistake:?} is found: {}", error.lines().next().unwrap_or("")),
-        }
+        let found = found(all(&mut Seen::new(), seed, 40)).ok_or(format!("not found: {mistake:?}"))?;
+        println!("platform: {mistake:?} is found: {found}");
     }
     for &mistake in mock::rules() {
         mock::make_in_runs(mistake);
-        match all(&mut Seen::new(), seed, 40) {
-            Ok(()) => return Err(format!("not found in runs: {mistake:?}")),
-            Err(error) => println!("platform: {mistake:?} in runs is found: {}", error.lines().next().unwrap_or("")),
-        }
+        let found = found(all(&mut Seen::new(), seed, 40)).ok_or(format!("not found in runs: {mistake:?}"))?;
+        println!("platform: {mistake:?} in runs is found: {found}");
     }
     mock::make(mock::Mistake::None);
     Ok(())

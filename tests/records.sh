@@ -2,7 +2,8 @@
 # The nodes beside the rehearsal: tests/records.c drives a record for each node of a run file through the calls of a host in C,
 # and its log has to be the rehearsal program's, byte for byte: what is rehearsed is what the nodes do. The files are those
 # named below, most of 48 nodes, and generated ones; refused ones are left out, and those with a Q line, as records stay in number
-# order. Mistakes planted in tests/records.c have to be found. Stops at the first difference, prints its seed and keeps its file.
+# order. With W below H + D lists hold live nodes, and still every call is accepted; with W at least H + D none does. Mistakes planted in
+# tests/records.c have to be found. Stops at the first difference, prints its seed and keeps its file.
 #
 # Usage: tests/records.sh [SEED [COUNT]]: COUNT small generated files, a fifth as many large ones, about half of them without a Q
 # line; REHEARSE names another program.
@@ -35,15 +36,24 @@ rehearsed() {
 # same NAME FILE: after `rehearsed`, the records' log is the same.
 same() {
     status=0
-    timeout "$seconds" "$out/records" < "$2" > "$work/records" || status=$?
+    timeout "$seconds" "$out/records" < "$2" > "$work/records" 2> "$work/live" || status=$?
     if [ "$status" -ne 0 ] || ! cmp "$work/rehearsed" "$work/records" >&2; then
+        cat "$work/live" >&2
         differ "$1" "$2" "the nodes do otherwise than is rehearsed, status $status"
     fi
     cut -c 1 "$work/records" >> "$work/letters"
     sed -n 's/^K,[0-9]*,[0-9]*,\([0-9]*\),.*/\1/p' "$work/records" >> "$work/passed"
-    IFS=, read -r letter nodes rest < "$2"
+    IFS=, read -r letter nodes period timeout delay rest < "$2"
+    read -r live < "$work/live"
     files=$((files + 1))
     [ "$nodes" -lt 48 ] || wide=$((wide + 1))
+    if [ "$timeout" -lt $((period + delay)) ]; then
+        short=$((short + 1))
+        [ "$live" -eq 0 ] || listing=$((listing + 1))
+        listed=$((listed + live))
+    elif [ "$live" -ne 0 ]; then
+        differ "$1" "$2" "$live calls leave a live node in a list"
+    fi
 }
 
 # generated NAME FILE: the same, unless the file has a Q line or is refused.
@@ -54,7 +64,7 @@ generated() {
     fi
     rehearsed "$1" "$2"
     case $(head -n 1 "$work/rehearsed") in
-        [1-6],*) refused=$((refused + 1)) ;;
+        [1-3],* | [56],*) refused=$((refused + 1)) ;;
         *) same "$1" "$2" ;;
     esac
 }
@@ -105,6 +115,31 @@ small_rings() {
     grep -q '^S,90,0,2,000000000000001a$' "$work/records" || fail 'a report that dies with its relays leaves a list short'
 }
 
+# lists WORDS: with W below H + D a live node got listed, in the file just compared.
+lists() {
+    [ "$live" -gt 0 ] || fail "$1: no live node is listed"
+}
+
+# With W below H + D.
+short_rings() {
+    named "01's edge, W 2" ring P,2,2,2,1,6
+    lists "01's edge, W 2"
+    named 'three nodes alone' cat tests/short.run
+    cmp tests/short.log "$work/records" || fail 'the log of tests/short.run differs'
+    lists 'three nodes alone'
+    named 'one node, a short W' ring P,1,1,1,1,5
+    named 'no event before the end' ring P,5,9,3,2,2
+    named 'a short W up to the greatest tick' ring P,3,1000,1100,255,1000000 1 500000 0 1 0
+    lists 'a short W up to the greatest tick'
+    for w in 1 15 29 30; do
+        named "48 nodes, H 25, W $w, D 6" ring "P,48,25,$w,6,900" 4 57 40 5 17
+        lists "48 nodes, H 25, W $w, D 6"
+    done
+    named '2,048 in flight with a short W' ring P,64,1,33,40,32
+    named 'a watch brings 2,049 into flight' ring P,64,1,33,40,33
+    [ "$(tail -n 1 "$work/records")" = 8,0 ] || fail 'a watch brings 2,049 into flight, and is not refused'
+}
+
 rings_of_48() {
     named 'eight neighbours crash at one tick' ring P,48,100,120,20,4000 8 730 0 20 1
     named 'eight neighbours about node 0' ring P,48,100,120,20,4000 4 730 0 0 1 4 730 0 44 1
@@ -138,11 +173,21 @@ mistakes() {
     done
     mistaken 6 1
     grep -q '^records: kelbraut_node_timers of node 0 at tick 7 answers 9$' "$work/mistaken.err" || fail 'mistake 6: another call'
+    ring P,5,9,3,2,2 > "$work/mistaken.run"
+    rehearsed 'mistakes' "$work/mistaken.run"
+    for mistake in 9 10; do
+        mistaken "$mistake" 0
+    done
+}
+
+# steady FILE..: those of them with W at least H + D.
+steady() {
+    awk -F, 'FNR == 1 && $4 + 0 >= $3 + $5 { print FILENAME }' "$@"
 }
 
 # counted: how many lines there were of each letter, and of 8,0. All of them have to come up.
 counted() {
-    for letter in C H O R X W S K E 8; do
+    for letter in C H O R X W S K E F 8; do
         lines=$(grep -c "^$letter" "$work/letters") || fail "no line of letter $letter came up"
         printf ' %s %d' "$letter" "$lines"
     done
@@ -157,18 +202,21 @@ trap 'rm -rf "$work"' EXIT
 compile 0 "$out/records"
 # A program that writes without end is stopped at 64 megabytes.
 ulimit -f 131072
-files=0 wide=0 ordered=0 refused=0
+files=0 wide=0 ordered=0 refused=0 short=0 listing=0 listed=0
 small_rings
+short_rings
 rings_of_48
 full_rings
 mistakes
 each_generated '' $((count / 5)) "$work" generated
 each_generated small "$count" "$work" generated
-moves=$("$out/simulate" moves tests/reported-*.run $(grep -La '^Q' "$work/$seed"-*.run))
-[ "$moves" -ge $((count / 150)) ] || fail "$moves moves by report in the two files made for it and the small ones without a Q line"
+moves=$("$out/simulate" moves tests/reported-*.run $(steady $(grep -La '^Q' "$work/$seed"-*.run)))
+[ "$moves" -ge $((count / 250)) ] || fail "$moves moves by report in the two files made for it and the small ones with W at least H + D, without a Q line"
 more=$(grep -vcx 1 "$work/passed") || fail 'no node passed more than one'
 [ "$more" -ge $((count / 50)) ] || fail "$more lines K with more than one node passed"
+[ "$short" -ge $((count / 10)) ] && [ "$listing" -ge $((count / 15)) ] || fail "$short files with W below H + D, $listing of them list a live node"
 lines=$(counted)
-echo "records: $files files, $wide of them with 48 nodes or more, agree; $ordered with a Q line, $refused refused; 8 mistakes found"
-echo "records: $moves moves by report in the two files made for it and the small ones; lines:$lines"
+echo "records: $files files, $wide of them with 48 nodes or more, agree; $ordered with a Q line, $refused refused; 10 mistakes found"
+echo "records: $short files with W below H + D, in $listing of them records list a live node, after $listed calls, each accepted"
+echo "records: $moves moves by report in the two files made for it and the small ones with W at least H + D; lines:$lines"
 echo "records: $more lines K with more than one node passed, at most $(sort -n "$work/passed" | tail -n 1)"

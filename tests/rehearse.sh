@@ -1,8 +1,9 @@
 #!/bin/sh
 # The rehearsal program beside the simulator: the same bytes for generated run files, good and damaged, for a few large ones, for rings in
-# another order, for reported emitters, for nodes passed, for nodes that heartbeats name, for files at and beyond the greatest length, and for
-# input that comes in pieces. The lines K of its logs are also counted once more from the logs alone. Then its streams: slow, full, closed or no
-# file. Stops at the first difference, prints its seed and keeps its file.
+# another order, for reported emitters, for nodes passed, for nodes that heartbeats name, for a W below H + D, for files at and beyond the
+# greatest length, and for input that comes in pieces. The lines K of its logs are also counted once more from the logs alone, and the letter
+# of their last lines is that of the P line; none is refused by 4. Then its streams: slow, full, closed or no file. Stops at the first
+# difference, prints its seed and keeps its file.
 #
 # Usage: tests/rehearse.sh [SEED [COUNT]]; REHEARSE names another program to compare.
 
@@ -17,16 +18,37 @@ run() {
     timeout 120 "$rehearse"
 }
 
+# differ NAME FILE WORDS: fails and keeps the file.
+differ() {
+    cp "$2" "$out/rehearse-failed.run"
+    fail "$1: $3; the file is kept as $out/rehearse-failed.run"
+}
+
+# last NAME FILE: the last line of the log just compared is E or F, as W is at least H + D or below; or 8,0, or a refusal, but not by 4.
+last() {
+    last_line=$(tail -n 1 "$work/proved")
+    case $last_line in
+        [EF],*)
+            IFS=, read -r _ _ period timeout delay _ < "$2"
+            if [ "$timeout" -lt $((period + delay)) ]; then letter=F short=$((short + 1)); else letter=E; fi
+            [ "${last_line%%,*}" = "$letter" ] || differ "$1" "$2" "the last line is $last_line, and not $letter"
+            ;;
+        8,0) refused=$((refused + 1)) ;;
+        [1-3],* | [56],* | 13,2) ;;
+        *) differ "$1" "$2" "the last line is $last_line" ;;
+    esac
+}
+
 # same NAME FILE: both programs write the same bytes. Of the status only a crash and the time limit (124) are told.
 same() {
     status=0
     run < "$2" > "$work/proved" || status=$?
     "$out/simulate" < "$2" > "$work/simulated"
     if [ "$status" -ge 124 ] || ! cmp -s "$work/simulated" "$work/proved"; then
-        cp "$2" "$out/rehearse-failed.run"
         cmp "$work/simulated" "$work/proved" >&2 || true
-        fail "$1: the logs differ, status $status; the file is kept as $out/rehearse-failed.run"
+        differ "$1" "$2" "the logs differ, status $status"
     fi
+    last "$@"
     lines=$((lines + $(wc -l < "$work/proved")))
     files=$((files + 1))
 }
@@ -43,14 +65,20 @@ kept() {
     mv "$work/proved" "${2%.run}.log"
 }
 
-# recounted KIND LINES MORE: every line K of the kept logs is right and none is missing. At least so many came up, and so many of them with
-# more than one node passed.
+# steady FILE..: those of them with W at least H + D.
+steady() {
+    awk -F, 'FNR == 1 && $4 + 0 >= $3 + $5 { print FILENAME }' "$@"
+}
+
+# recounted KIND LINES MORE FILE..: every line K of the kept logs of these files is right and none is missing. At least so many came up, and so
+# many of them with more than one node passed.
 recounted() {
-    passed=$("$out/simulate" recount "$work/$seed"-*.run) || fail "the lines K of the $1 files differ from those counted once more"
-    least_lines=$2 least_more=$3
-    set -- "$1" $passed
-    [ "$2" -ge "$least_lines" ] && [ "$3" -ge "$least_more" ] || fail "too few lines K in the $1 files: $passed"
-    echo "rehearse: $2 lines K in the $1 files, $3 with more than one node passed, at most $4"
+    kind=$1 least_lines=$2 least_more=$3
+    shift 3
+    passed=$("$out/simulate" recount "$@") || fail "the lines K of the $kind differ from those counted once more"
+    set -- "$kind" $passed
+    [ "$2" -ge "$least_lines" ] && [ "$3" -ge "$least_more" ] || fail "too few lines K in the $1: $passed"
+    echo "rehearse: $2 lines K in the $1, $3 with more than one node passed, at most $4"
 }
 
 # padded LENGTH: a good file, then line feeds up to this length, so that its first bytes are no other file of good form.
@@ -104,6 +132,28 @@ nodes_named() {
     passes R,40,3,8,0000000000000100
 }
 
+# short NAME LINES LAST: a file with W below H + D, whose log ends in this line.
+short() {
+    named "$1" "$2"
+    [ "$last_line" = "$3" ] || fail "$1: the last line is $last_line, and not $3"
+}
+
+short_timeouts() {
+    short "01's edge, W 2" 'P,2,2,2,1,6\n' F,6,2,0,0000000000000000
+    short 'one node, a short W' 'P,1,1,1,1,5\n' F,5,1,0,0000000000000000
+    short 'no event before the end' 'P,3,2,2,1,1\n' F,1,3,0,0000000000000000
+    short 'a short W, and no watch expires' 'P,2,1,2,2,4\nL,0,1\nL,1,1\nL,2,1\nL,3,1\nL,4,1\nL,5,1\nL,6,1\nL,7,1\n' F,4,2,2,0000000000000000
+    short 'a short W in another order' 'P,3,2,2,1,9\nQ,2,0,1\nC,3,2\n' F,9,2,0,0000000000000004
+    short 'the shortest W' 'P,16,1000,1,255,3000\nC,3,1\n' F,3000,15,0,0000000000000002
+    short '2,048 in flight, a short W' 'P,64,1,33,40,32\n' F,32,64,2048,0000000000000000
+    named '2,049 in flight, a short W' 'P,64,1,33,40,33\n'
+    [ "$last_line" = 8,0 ] || fail '2,049 in flight are not refused'
+    named 'W 0' 'P,2,2,0,1,6\n'
+    [ "$last_line" = 3,1 ] || fail 'W 0 is not refused by 3'
+    named 'a short W, and a node twice in order' 'P,3,2,2,1,6\nQ,0,1,0\n'
+    [ "$last_line" = 13,2 ] || fail 'a node twice in a Q line is not refused by 13'
+}
+
 large() {
     named '2,048 in flight' 'P,64,1,33,32,200\n'
     named '2,049 in flight' 'P,64,1,34,33,200\n'
@@ -119,7 +169,7 @@ large() {
 }
 
 worked_log() {
-    for ring in worked shuffled reported-ten reported-nine learnt; do
+    for ring in worked shuffled reported-ten reported-nine learnt short; do
         run < "tests/$ring.run" > "$work/$ring" || true
         cmp "tests/$ring.log" "$work/$ring" || fail "the log of tests/$ring.run differs"
     done
@@ -138,8 +188,7 @@ rehearsal_program
 echo "rehearse: $rehearse, seed $seed, $count generated files"
 mkdir -p "$work"
 trap 'rm -rf "$work"' EXIT
-files=0
-lines=0
+files=0 lines=0 short=0 refused=0
 worked_log
 named 'no bytes' ''
 named 'one node' 'P,1,1,2,1,5\n'
@@ -149,14 +198,17 @@ pieces
 orders
 nodes_passed
 nodes_named
+short_timeouts
 large
 c "$work/streams.so" -shared -fPIC tests/streams.c -ldl
 python3 tests/streams.py "$rehearse" "$work/large.run" "$work/large.log" "$work/streams.so"
 each_generated '' $((count / 50)) "$work" kept
-recounted usual 0 0
+recounted 'usual files' 0 0 "$work/$seed"-*.run
 rm -f "$work/$seed"-*
 each_generated small "$count" "$work" kept
-recounted small $((count / 2)) $((count / 50))
-moves=$("$out/simulate" moves "$work/$seed"-*.run)
-[ "$moves" -ge $((count / 100)) ] || fail "$moves moves by report in the small files"
-echo "rehearse: $files files, $lines lines agree; $moves moves by report in the small files"
+recounted 'small files' $((5 * count)) "$count" "$work/$seed"-*.run
+recounted 'small files with W at least H + D' $((count / 2)) $((count / 50)) $(steady "$work/$seed"-*.run)
+moves=$("$out/simulate" moves $(steady "$work/$seed"-*.run))
+[ "$moves" -ge $((count / 100)) ] || fail "$moves moves by report in the small files with W at least H + D"
+[ "$short" -ge $((count / 6)) ] || fail "$short logs end in F"
+echo "rehearse: $files files, $lines lines agree, $short of the logs end in F, $refused in 8,0; $moves moves by report in the small files with W at least H + D"

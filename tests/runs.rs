@@ -49,6 +49,8 @@ pub struct Met {
     long: [u64; 2],
     /// Runs of some events that were then refused by 8.
     refused: u64,
+    /// Small files with W below H + D.
+    short: u64,
     /// Generated files in which a report moves a node.
     reported: u64,
     /// Steps at moves of generated files, and those of them that pass more than one node.
@@ -62,8 +64,9 @@ pub struct Met {
 impl Met {
     /// Every cut that a tick allows has to come up, and each kind of run.
     pub fn summary(&self) -> Result<(), String> {
-        let Met { cuts, long, refused, reported, moves, told, carried } = self;
+        let Met { cuts, long, refused, short, reported, moves, told, carried } = self;
         println!("platform: cuts within a tick by class {cuts:?}; {long:?} runs of more than {PLACES} messages; {refused} refused late");
+        println!("platform: {short} of {} small files, cut at every event, have a W below H + D", TINY + SMALL);
         println!("platform: a report moves a node in {reported} of {REPORTED} generated files");
         println!("platform: {} steps at moves of {MOVING} generated files, {} with more than one node passed", moves[0], moves[1]);
         println!("platform: {told:?} steps in {TELLING} generated files by which a heartbeat tells a node, or a report one that knew");
@@ -72,7 +75,7 @@ impl Met {
             return Err("too few moves or lists came up".to_string());
         }
         let missing = (0..4).any(|one| (one.min(2)..4).any(|other| cuts[one][other] == 0));
-        if missing || long.contains(&0) || *refused == 0 || *reported < REPORTED / 8 {
+        if missing || long.contains(&0) || *refused == 0 || *reported < REPORTED / 8 || *short < (TINY + SMALL) / 5 {
             return Err("a kind of run never came up".to_string());
         }
         Ok(())
@@ -167,12 +170,14 @@ fn cut_everywhere(seen: &mut Seen, file: &[u8], all: bool) -> Result<(), String>
 }
 
 /// A few nodes with short times, so that a tick has events of several classes, and crashes at one tick or one tick after another, mostly
-/// one at the end tick, too.
+/// one at the end tick, too. W is below H + D in two of five.
 fn short_draft(random: &mut Random, most_nodes: u64, events: u64) -> Draft {
     let nodes = random.range(2, most_nodes);
     let (period, delay) = (random.range(1, 4), random.range(1, 4));
-    let timeout = period + delay + random.pick(&[0, 0, 1]);
-    let end = (events * period / (2 * nodes)).max(2 * timeout);
+    let enough = period + delay;
+    let any = random.range(1, enough - 1);
+    let timeout = random.pick(&[any, enough - 1, enough, enough, enough + 1]);
+    let end = (events * period / (2 * nodes)).max(2 * enough);
     let delays = (0..random.pick(&[0, events])).map(|number| (number, random.range(1, delay))).collect();
     let order = generator::some_order(random, nodes);
     let mut draft = Draft { nodes, period, timeout, delay, end, order, crashes: Vec::new(), delays };
@@ -189,6 +194,7 @@ fn small_files(seen: &mut Seen, seed: u64) -> Result<(), String> {
         let mut random = Random::new(seed ^ 0x6375_7473, index);
         let tiny = index < TINY;
         let draft = if tiny { short_draft(&mut random, 5, 50) } else { short_draft(&mut random, 12, 300) };
+        seen.met.short += u64::from(draft.timeout < draft.period + draft.delay);
         cut_everywhere(seen, &draft.bytes(), tiny).map_err(|error| format!("seed {seed} small file {index}: {error}"))?;
     }
     Ok(())
@@ -278,11 +284,11 @@ fn places_of_lists(file: &[u8]) -> Vec<(u64, usize)> {
 }
 
 /// Some nodes with quick heartbeats and long delays, of which many messages take one tick alone, and crashes close together: heartbeats often
-/// name a node before the report of it comes.
+/// name a node before the report of it comes. In one of four W is a tick short of H + D.
 fn telling_draft(random: &mut Random) -> Draft {
     let nodes = random.range(4, 12);
     let (period, delay) = (random.range(1, 3), random.range(3, 9));
-    let timeout = period + delay;
+    let timeout = period + delay - u64::from(random.chance(4));
     let order = generator::some_order(random, nodes);
     let delays = (0..random.pick(&[600, 1_500])).map(|number| (number, random.pick(&[1, 1, delay]))).collect();
     let mut draft = Draft { nodes, period, timeout, delay, end: 8 * timeout, order, crashes: Vec::new(), delays };
@@ -366,12 +372,12 @@ fn woken(seen: &mut Seen) -> Result<(), String> {
 // ---- many messages in flight
 
 /// A crowd of 2,048 messages in each order: all nodes crash when all are sent; none does, so that the next is refused by 8; or a few are
-/// left, just before all are sent, and stay below 2,048 or pass it later.
+/// left, just before all are sent, and stay below 2,048 or pass it later. W is H + D, or a tick less.
 fn crowds(seen: &mut Seen) -> Result<(), String> {
     let places = [0, 700, CROWD - 64, CROWD - 17, CROWD - 1, CROWD, CROWD + 1, CROWD + 64, CROWD + 80, 2_600, 4_000];
     for order in ORDERS {
-        for (tick, survivors) in [(33, 0), (33, 64), (32, 2), (32, 12)] {
-            let mut draft = generator::crowd(order);
+        for (tick, survivors, timeout) in [(33, 0, 255), (33, 64, 256), (32, 2, 255), (32, 12, 256)] {
+            let mut draft = Draft { timeout, ..generator::crowd(order) };
             draft.crashes = (survivors..64).map(|node| (tick, node)).collect();
             from_places(seen, &draft.bytes(), places, |_| FEW_BUDGETS.to_vec())
                 .map_err(|error| format!("{order:?} crowd of which {survivors} survive tick {tick}: {error}"))?;

@@ -1,7 +1,7 @@
 #!/bin/sh
 # Builds the simulator and the generator of run files with rustc alone, runs the simulator's own
-# tests, compares the worked logs of document 01, that of a shuffled ring and those of reported emitters byte by
-# byte, runs generated files, good and damaged, and prints the simulator's speed. Stops at the first failure.
+# tests, compares the worked logs of document 01, that of a shuffled ring, those of reported emitters and those of short
+# time-outs byte by byte, runs generated files, good and damaged, and prints the simulator's speed. Stops at the first failure.
 #
 # Usage: tests/simulator.sh [SEED [COUNT]]
 
@@ -26,15 +26,24 @@ worked_logs() {
     done
     answers alone 'P,1,1,2,1,5\n' 'E,5,1,0,0000000000000000\n' ''
     answers empty '' '1,0\n' ''
-    answers short 'P,2,2,2,1,6\n' '4,1\n' ''
+    answers short 'P,2,2,2,1,6\n' 'W,2,0,1,0000000000000002\nK,2,0,1,0000000000000002\nW,2,1,0,0000000000000001\nK,2,1,1,0000000000000001\nF,6,2,0,0000000000000000\n' ''
+    answers short-alone 'P,1,1,1,1,5\n' 'F,5,1,0,0000000000000000\n' ''
     answers twice 'P,2,2,3,1,6\nQ,1,1\n' '13,2\n' ''
 }
 
-# ends NAME FILE: the answer is a refusal, or a log that ends in E or in 8,0. It is kept beside the file.
+# last_letter FILE: the last line of an accepted file's log, if no event is refused. The P line alone decides: F where W is below H + D.
+last_letter() {
+    IFS=, read -r _ _ period timeout delay _ < "$1" || return 1
+    if [ "$timeout" -lt $((period + delay)) ]; then echo F; else echo E; fi
+}
+
+# ends NAME FILE: the answer is a refusal, though never by 4, or a log that ends in E or F, or in 8,0. It is kept beside the file.
 ends() {
     "$out/simulate" < "$2" > "${2%.run}.log" || fail "$1: failed"
     case $(tail -n 1 "${2%.run}.log") in
-        E,* | [1-6],* | 13,2 | 8,0) ;;
+        E,*) [ "$(last_letter "$2")" = E ] || fail "$1: E where W is below H + D" ;;
+        F,*) [ "$(last_letter "$2")" = F ] || fail "$1: F where W is at least H + D" ;;
+        [1-3],* | [56],* | 13,2 | 8,0) ;;
         *) fail "$1: no last line" ;;
     esac
 }
@@ -55,6 +64,11 @@ commands() {
     printf 'P,5,1,3,2,24\nC,2,1\nC,2,2\n' > "$out/joined.run"
     answers joined '' '2 50 11 14 14 11 20\n' "joined tests/worked.run $out/joined.run tests/worked.log"
     answers joined-none '' '0 0 0 0 0 0 0\n' 'joined tests/worked.log'
+    printf 'P,5,1,2,2,24\nC,2,1\nC,2,2\n' > "$out/unclaimed.run"
+    answers joined-short '' '0 0 0 0 0 0 0\n' "joined $out/unclaimed.run"
+    printf 'P,3,2,3,2,16\nL,0,1\nL,1,1\n' > "$out/false.run"
+    answers false '' "tests/worked.run - 0 0\n$out/false.run 3 3 6\ntests/worked.log refused 2,1\n$out/joined.run - 0 0\n" \
+        "false tests/worked.run $out/false.run tests/worked.log $out/joined.run"
 }
 
 # recounted FILE..: every line K of the files' logs is right and none is missing. Enough of them come up, also with more than one node passed.
@@ -62,7 +76,7 @@ recounted() {
     passed=$("$out/simulate" recount "$@") || fail 'the lines K differ from those counted once more'
     set -- $passed
     echo "simulator: $1 lines K in the generated files, $2 with more than one node passed, at most $3"
-    [ "$1" -ge "$count" ] && [ "$2" -ge $((count / 10)) ] || fail 'too few lines K'
+    [ "$1" -ge $((5 * count)) ] && [ "$2" -ge "$count" ] || fail 'too few lines K'
 }
 
 # joined FILE..: survivors are joined wherever request 106 owes it, and their lists full wherever request 107 does; both are owed often enough.
@@ -72,8 +86,26 @@ joined() {
     echo "simulator: $1 generated files with a crash, survivors joined after all $2 events at which they have to be;"
     echo "simulator: nearest to its bound they were not yet joined $3 ticks after a last crash, of $4"
     echo "simulator: lists full after all $5 events at which they have to be; nearest to its bound not yet $6 ticks after a last crash, of $7"
-    [ "$1" -ge $((count / 3)) ] && [ "$2" -ge $((50 * count)) ] && [ "$3" -gt 0 ] || fail 'too few survivors have to be joined'
+    [ "$1" -ge $((count / 4)) ] && [ "$2" -ge $((50 * count)) ] && [ "$3" -gt 0 ] || fail 'too few survivors have to be joined'
     [ "$5" -ge $((50 * count)) ] && [ "$6" -gt 0 ] || fail 'too few lists have to be full'
+}
+
+# falsely FILE..: live nodes are listed only where W is below H + D; in many of these files they are, and in some not.
+falsely() {
+    "$out/simulate" false "$@" > "$out/falsely.out" || fail 'a live node is listed though W is at least H + D'
+    told=0 short=0 listing=0 most=0 events=0
+    while read -r file first in_one in_all; do
+        [ "$first" != refused ] || continue
+        told=$((told + 1))
+        [ "$(last_letter "$file")" = F ] || continue
+        short=$((short + 1))
+        [ "$first" != - ] || continue
+        listing=$((listing + 1)) events=$((events + in_all))
+        [ "$in_one" -le "$most" ] || most=$in_one
+    done < "$out/falsely.out"
+    echo "simulator: $short of $told accepted files have W below H + D; in $listing of these live nodes are listed, at most $most, by $events events"
+    [ "$short" -ge $((told / 4)) ] && [ "$listing" -ge $((short / 2)) ] || fail 'too few short time-outs'
+    [ "$events" -ge $((10 * count)) ] || fail 'too few live nodes are listed'
 }
 
 echo "simulator: seed $seed, $count generated files"
@@ -87,6 +119,7 @@ each_generated '' "$count" "$files" ends
 echo "simulator: $("$out/simulate" moves "$files"/*.run) moves by report in the generated files"
 recounted "$files"/*.run
 joined "$files"/*.run
+falsely "$files"/*.run
 rm -r "$files"
 printf 'P,64,10,265,255,1000000\n' > "$out/speed.run"
 "$out/simulate" time "$out/speed.run"

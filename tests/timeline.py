@@ -1,8 +1,10 @@
 """Holds what tools/timeline.py draws and says against the lines of logs.
 
-Usage: timeline.py SIMULATE DIRECTORY SHOWN FILE..., the simulator's program, a directory for pictures, the run file of the committed
-picture, and more run files, good and damaged. Stops at the first difference.
+Usage: timeline.py SIMULATE DIRECTORY SHOWN SHORT FILE..., the simulator's program, a directory for pictures, the run
+files of the two committed pictures, the second of which has W below H + D, and more run files, good and damaged. Stops
+at the first difference.
 """
+import functools
 import os
 import random
 import re
@@ -14,7 +16,7 @@ from xml.etree import ElementTree
 
 SVG = "{http://www.w3.org/2000/svg}"
 LETTER = 0.55  # width of a letter, as a share of the font's size
-simulate, directory, shown, *files = sys.argv[1:]
+simulate, directory, shown, short, *files = sys.argv[1:]
 place = os.path.join(directory, "picture.svg")
 rehearsed = os.path.join(directory, "rehearsed.run")
 seen = Counter()
@@ -76,7 +78,7 @@ REFUSALS = {
     1: ["no bytes", "65,536"],
     2: ["form", "carriage return", "no line feed after the last line", "blank line", "space", "byte order mark", "P, Q, C, L"],
     3: ["range", "not below N"],
-    4: ["W is below H + D"],
+    4: ["W is below H + D", "Only earlier rehearsal programs refuse that", "rehearse the run file again"],
     5: ["rise", "twice"],
     6: ["2,048 L lines"],
     7: ["store"],
@@ -93,7 +95,6 @@ def refusals(log):
     refused(b"99,2\n", "refused by 99 at line 2", "no words")
     for run_file in [b"P,2,2,3,1,6\r\n", b"P,2,2,3,1,6", b"P,2,2,3,1,6\n\n", b"P,2, 2,3,1,6\n", b"\xef\xbb\xbfP,2,2,3,1,6\n"]:
         refused(log_of(run_file), "refused by 2 at line", "carriage return")
-    refused(log_of(b"P,2,2,2,1,6\n"), "refused by 4 at line 1", "W is below H + D")
     refused(log_of(b"P,3,2,3,1,6\nQ,0,2,0\n"), "refused by 13 at line 2", "each node once")
     with open(place, "wb") as file:
         file.write(b"an older picture")
@@ -125,12 +126,13 @@ def incomplete(log):
 
 def strange(log):
     lines = log.splitlines(keepends=True)
-    refused(lines[0] + b"Z,6,0,1,0000000000000002\n" + b"".join(lines[1:]), "line 2 has the letter Z", "C H O R X W S K E")
+    refused(lines[0] + b"Z,6,0,1,0000000000000002\n" + b"".join(lines[1:]), "line 2 has the letter Z", "C H O R X W S K E F")
     for line in [b"S,2,0,1,7,0000000000000000\n", b"S,2,0,0000000000000000\n", b"S,2,0,1,0000000000000000\r\n", b"S,02,0,1,0000000000000000\n"]:
         refused(line + log, "line 1 is no log line")
     refused(b"S,2,64,1,0000000000000000\n" + log, "line 1 has a number outside its range")
     refused(lines[-2] + log, "line 2 has an earlier tick")
     refused(log + lines[-1], f"line {len(lines)} is the last of a log", f"line {len(lines) + 1} follows it")
+    refused(log + b"F" + lines[-1][1:], f"line {len(lines)} is the last of a log", f"line {len(lines) + 1} follows it")
     refused(log + b"8,0\n", f"line {len(lines)} is the last of a log", f"line {len(lines) + 1} follows it")
     refused(b"4,1\n" + log, "line 1 is no log line")
     refused(log + b"4,1\n", f"line {len(lines) + 1} is no log line")
@@ -213,17 +215,26 @@ def other_run_files():
         (b"P,4,2,9,3,60\nC,20,3\n", "by line 1 of the log node 3 follows node 0", "by the run file node 1"),
     ]:
         refused(log, "the run file is not that of the log", *words, arguments=("-", place, kept(text)))
+    # The last line's letter is by the P line.
+    above, ended = b"P,4,2,5,3,60\nQ,2,0,3,1\nC,20,3\n", [b"P,4,2,4,3,60\n", b"P,4,2,1,3,60\n", b"P,4,255,9,255,60\n"]
+    drawn(log, run_file=above)
+    for start in ended:
+        text = start + b"Q,2,0,3,1\n"
+        refused(log, "W is below H + D, but the log ends in E", arguments=("-", place, kept(text)))
+        drawn(log.replace(b"\nE,", b"\nF,"), run_file=text)
+    words = "W is not below H + D, but the log ends in F"
+    refused(log.replace(b"\nE,", b"\nF,"), words, arguments=("-", place, kept(above)))
     # No heartbeat is sent before the first watch expires: that watch is on the node before.
-    by_hand = b"C,3,2,2,0000000000000000\nW,6,1,2,0000000000000004\nK,6,1,1,0000000000000004\nE,6,2,0,0000000000000004\n"
-    drawn(by_hand, run_file=b"P,3,9,12,3,60\nQ,2,1,0\n")
-    refused(by_hand, "by line 2 of the log node 1 follows node 2", "by the run file node 0", arguments=("-", place, kept(b"P,3,9,12,3,60\n")))
+    log = b"C,3,2,2,0000000000000000\nW,6,1,2,0000000000000004\nK,6,1,1,0000000000000004\nE,6,2,0,0000000000000004\n"
+    drawn(log, run_file=b"P,3,9,12,3,60\nQ,2,1,0\n")
+    refused(log, "by line 2 of the log node 1 follows node 2", "by the run file node 0", arguments=("-", place, kept(b"P,3,9,12,3,60\n")))
     # So are all that expire in that tick.
     crashes, watches = b"C,3,0,0,0000000000000000\nC,3,2,2,0000000000000000\n", [b"W,6,1,0,0000000000000001\n", b"W,6,3,2,0000000000000004\n"]
     numbered = [b"K,6,1,1,0000000000000001\n", b"K,6,3,1,0000000000000004\n"]
-    by_hand = crashes + watches[0] + numbered[0] + watches[1] + numbered[1] + b"E,6,2,0,0000000000000005\n"
-    drawn(by_hand, run_file=b"P,4,9,12,3,60\n")
+    log = crashes + watches[0] + numbered[0] + watches[1] + numbered[1] + b"E,6,2,0,0000000000000005\n"
+    drawn(log, run_file=b"P,4,9,12,3,60\n")
     arguments = "-", place, kept(b"P,4,9,12,3,60\nQ,0,1,3,2\n")
-    refused(by_hand, "by line 5 of the log node 3 follows node 2", "by the run file node 0", arguments=arguments)
+    refused(log, "by line 5 of the log node 3 follows node 2", "by the run file node 0", arguments=arguments)
     os.remove(rehearsed)
 
 
@@ -234,28 +245,55 @@ def members(dead):
     return [node for node in range(64) if dead >> node & 1]
 
 
+@functools.lru_cache(maxsize=1)
 def fields(log):
     """The columns of the events' lines, without the last line."""
-    for line in log.decode().splitlines()[:-1]:
-        letter, tick, node, other, dead = line.split(",")
-        yield letter, int(tick), int(node), int(other), int(dead, 16)
+    rows = [line.split(",") for line in log.decode().splitlines()[:-1]]
+    return [(letter, int(tick), int(node), int(other), int(dead, 16)) for letter, tick, node, other, dead in rows]
+
+
+@functools.lru_cache(maxsize=1)
+def listings(log):
+    """Each event after which a list has more in it: the place of its line, its columns up to the other node, and what
+    is new: the crashed nodes, and the live ones, which have no C line so far."""
+    lists, crashed, found = defaultdict(int), set(), []
+    for place, (letter, tick, node, other, dead) in enumerate(fields(log)):
+        if letter == "C":
+            crashed.add(node)
+        new = members(dead & ~lists[node]) if dead != lists[node] else []
+        lists[node] = dead
+        if new:
+            gone = [one for one in new if one in crashed]
+            found.append((place, (letter, tick, node, other), gone, [one for one in new if one not in crashed]))
+    return found
+
+
+def false_listings(log):
+    """The events by which a live node is listed."""
+    return [event for _, event, _, alive in listings(log) if alive]
 
 
 def knowledge(nodes, log):
-    """By pairs: the last of the first ticks at which a survivor lists a crashed node; and which nodes each survivor never lists."""
-    first, crashed = {}, set()
+    """By pairs: the last of the first ticks at which a survivor lists a node that has crashed by then, unless one lists
+    a live node at the end; which nodes each survivor never lists; which survivors each lists; and the crashed nodes."""
+    first, crashed = {}, {}
     for letter, tick, node, other, dead in fields(log):
         if letter == "C":
-            crashed.add(node)
+            crashed[node] = tick
         for listed in range(nodes):
             if dead >> listed & 1:
                 first.setdefault((node, listed), tick)
-    pairs = [(survivor, dead) for survivor in range(nodes) if survivor not in crashed for dead in crashed]
-    lacking = defaultdict(set)
+    survivors = [node for node in range(nodes) if node not in crashed]
+    pairs = [(survivor, dead) for survivor in survivors for dead in crashed]
+    lacking, wrong = defaultdict(set), defaultdict(set)
     for survivor, dead in pairs:
         if (survivor, dead) not in first:
             lacking[survivor].add(dead)
-    return None if lacking or not pairs else max(first[pair] for pair in pairs), dict(lacking), crashed
+    for survivor, listed in first:
+        if survivor in survivors and listed in survivors:
+            wrong[survivor].add(listed)
+    since = None if lacking or wrong or not pairs else max(max(first[pair], crashed[pair[1]]) for pair in pairs)
+    return since, dict(lacking), dict(wrong), set(crashed)
 
 
 def ring_of(run_file):
@@ -301,6 +339,12 @@ class Seen:
         self.sizes = {}
         for names, size in re.findall(r"(?m)^([^{}]*)\{[^}]*font-size: (\d+)px", style):
             self.sizes.update({name.strip(" ."): float(size) for name in names.split(",")})
+        # The colours of each class: its fill, then its stroke.
+        self.colours = {}
+        for names, rules in re.findall(r"(?m)^([^{}]*)\{([^}]*)\}", style):
+            found = [re.search(rf"(?:^|[ ;]){part}: (#\w+)", rules) for part in ("fill", "stroke")]
+            for name in names.split(","):
+                self.colours[name.strip(" .")] = [colour[1] for colour in found if colour]
         self.texts = list(self.root.iter(SVG + "text"))
         # The linear map from ticks to places, by the labels; and the rows.
         ticks = [(int(text.text), float(text.get("x"))) for text in self.of("tick")]
@@ -343,6 +387,17 @@ class Seen:
                 found.append([tuple(map(float, point.split())) for point in element.get("d")[1:-2].split(" L")])
         return found
 
+    def rects(self, kind):
+        """The rectangles of a class above the legend, each as its row and its place across, its top and its height."""
+        found = []
+        for rect in self.root.iter(SVG + "rect"):
+            if rect.get("class") == kind:
+                x, y, height = (float(rect.get(name)) for name in ("x", "y", "height"))
+                below = min(((y - row, node) for node, row in self.rows.items() if y > row), default=None)
+                if below and y < max(self.rows.values()) + 22:
+                    found.append(((below[1], x), y, height))
+        return found
+
     def marks(self, kind, corners=range(2, 5)):
         """The middles of the marks above the legend that have so many points, each as its row and its place across."""
         middles = [[(min(values) + max(values)) / 2 for values in zip(*points)] for points in self.points(kind) if len(points) in corners]
@@ -355,31 +410,100 @@ def close(ones, others):
     return len(ones) == len(others) and all(a[:-1] == b[:-1] and abs(a[-1] - b[-1]) < 0.3 for a, b in zip(sorted(ones), sorted(others)))
 
 
+MARKS = [("S", "sent"), ("H", "heard"), ("W", "watch"), ("W false", "watch-false"), ("C", "crash"), ("X", "dropped")]
+MARKS += [("R", "report"), ("R false", "report-false"), ("R known", "known")]
+
+
 def every_mark(picture, log, name):
-    at = defaultdict(list)
-    for letter, tick, node, other, dead in fields(log):
-        at[letter].append((node, picture.across(tick)))
-    for letter, kind, times in [("S", "sent", 1), ("H", "heard", 1), ("W", "watch", 1), ("C", "crash", 2), ("X", "dropped", 2)]:
-        check(close(picture.marks(kind), at[letter] * times), f"{name}: the marks of {letter} are not those of the log's lines")
-    check(close(picture.marks("report") + picture.marks("known"), at["R"]), f"{name}: the marks of R are not those of the log's lines")
+    """A false listing by a watch or a report has the mark of its letter in another class, and a report that adds
+    nothing has one of its own."""
+    at, new = defaultdict(list), {place: alive for place, _, _, alive in listings(log)}
+    for place, (letter, tick, node, other, dead) in enumerate(fields(log)):
+        kind = " false" * (letter in "WR" and bool(new.get(place))) + " known" * (letter == "R" and place not in new)
+        at[letter + kind] += [(node, picture.across(tick))] * (2 if letter in "CX" else 1)
+    for kind, mark in MARKS:
+        check(close(picture.marks(mark), at[kind]), f"{name}: the marks of {kind} are not those of the log's lines")
+
+
+def named(nodes):
+    """'node 3' or 'nodes 1, 4-6'."""
+    runs = []
+    for node in nodes:
+        if not runs or node != runs[-1][-1] + 1:
+            runs.append([])
+        runs[-1].append(node)
+    parts = [f"{run[0]}-{run[-1]}" if len(run) > 2 else ", ".join(map(str, run)) for run in runs]
+    return f"node{'s' * (len(nodes) != 1)} " + ", ".join(parts)
+
+
+def every_circle(picture, log, name):
+    """Round the mark of each false listing, with words where it is by a heartbeat."""
+    false = [(event, dead, alive) for _, event, dead, alive in listings(log) if alive]
+    places = [(float(circle.get("cy")), float(circle.get("cx"))) for circle in picture.root.iter(SVG + "circle")]
+    circles = [(picture.row(y), x) for y, x in places if picture.row(y) is not None]
+    wanted, titles = [(node, picture.across(tick)) for (_, tick, node, _), _, _ in false], []
+    check(close(circles, wanted), f"{name}: the circles are not those of the false listings")
+    check(len(places) == len(wanted) + bool(false), f"{name}: the legend is wrong about circles")
+    for (letter, tick, node, other), dead, alive in false:
+        seen[f"false {letter}"] += 1
+        if letter == "H":
+            seen["false H with a crashed node"] += bool(dead)
+            listed = " and ".join([named(dead)] * bool(dead) + [named(alive)])
+            what = f"by its list it lists {listed}, which {'is' if len(alive) == 1 else 'are'} alive"
+            titles.append(f"tick {tick}: node {node} gets the heartbeat of node {other}, and {what}")
+    told = picture.titles("gets the heartbeat")
+    check(sorted(told) == sorted(titles), f"{name}: told {told}, not {titles}")
+    check(len(picture.titles("alive")) == len(false), f"{name}: not each false listing, or another, is told to be one")
+
+
+def legend_of_false(picture, log, name):
+    """The legend has the circle and the share of live nodes where there is a false listing, and !3 where a label has
+    such."""
+    said, false = [text.text for text in picture.of("small")], bool(false_listings(log))
+    signs = any("!" in text.text and not text.text.startswith("round") for text in picture.texts)
+    circle = "round a W, R or H: false listing, of a node that is alive" + "; !3: node 3 is alive" * signs
+    entries = [words for words in said if words.startswith("round")]
+    check(entries == [circle] * false, f"{name}: the legend says {entries} of false listings")
+    check(("share of live nodes listed" in said) == false, f"{name}: the legend is wrong about shares of live nodes")
+    if false:
+        another_colour(picture, name)
+
+
+def another_colour(picture, name):
+    """What belongs to a false listing has its colour, which no other mark has."""
+    own, share = picture.colours["circle"][1], picture.colours["share"][0]
+    kinds = ["watch", "report", "known", "crash", "heard", "sent", "new", "listed", "bad", "good"]
+    others = {colour for kind in kinds for colour in picture.colours[kind]}
+    check(own not in others and share not in others, f"{name}: false listings have another mark's colour")
+    for kind in ["watch-false", "report-false", "alive"]:
+        check(set(picture.colours[kind]) == {own}, f"{name}: the colour of {kind} is not that of the circles")
 
 
 def every_move(picture, moved, log, name):
     """A mark with a title for each move, and a legend where an emitter is left by a report. Whom the node takes is told where the log shows it: that one
     gets the node's O, or is left by it later."""
     shown = {(other, node) for letter, _, node, other, _ in fields(log) if letter == "O"} | {(node, left) for _, _, node, left, _, _ in moved}
-    titles, places = defaultdict(list), defaultdict(list)
+    titles, places, false = defaultdict(list), defaultdict(list), set(false_listings(log))
     for letter, tick, node, left, after, passed in moved:
         why = {"W": f"lists node {left}, whose heartbeat did not come", "R": f"gets the report of node {left}, its emitter"}[letter]
+        if (letter, tick, node, left) in false:
+            late = f"lists node {left}, which is alive but whose heartbeat did not come in time"
+            why = {"W": late, "R": f"{why}, which is alive, and lists it"}[letter]
+            seen[f"left falsely by {letter}"] += 1
         what = "is alone" if after == node else f"moves to node {after}" if (node, after) in shown else "moves on"
         titles[letter].append(f"tick {tick}: node {node} {why}, and {what}, passing {passed} listed node{'' if passed == 1 else 's'}")
         places[letter].append((node, picture.across(tick)))
         seen[what.split(" node")[0]] += 1
         seen["passed 1" if passed == 1 else "passed more"] += 1
     for letter, part, kind in [("W", "whose heartbeat", "watch"), ("R", ", its emitter, ", "report")]:
-        told, marked = picture.titles(part), picture.marks(kind, [3])
+        told, marked = picture.titles(part), picture.marks(kind, [3]) + picture.marks(kind + "-false", [3])
         check(sorted(told) == sorted(titles[letter]), f"{name}: told {told}, not {titles[letter]}")
         check(close(marked, places[letter]), f"{name}: the marks of emitters left by {letter} are not those of the log's lines")
+    left = {(letter, tick, node, emitter) for letter, tick, node, emitter, _, _ in moved}
+    stays, words = [event for event in false - left if event[0] == "R"], "tick {}: node {} gets the report of node {}{}"
+    wanted = [words.format(*event[1:], ", which is alive, and lists it") for event in stays]
+    told = [title for title in picture.titles("gets the report") if title.endswith("alive, and lists it")]
+    check(sorted(told) == sorted(wanted), f"{name}: told {told}, not {wanted}")
     legend = "R of the emitter, which is left at once" in picture.words("small")
     check(legend == bool(places["R"]), f"{name}: the legend is wrong about emitters left by a report")
     seen["left by a report"] += len(places["R"])
@@ -404,20 +528,20 @@ def every_arrow(picture, moved, log, name):
 def every_label(picture, moved, log, name):
     """A label stands where a list grows: what is new, while these are few, and at a move the number passed. A move has none only where the label of another
     move is in its way. The legend has a number where the rows have one."""
-    lists, passed, labels, changes = defaultdict(int), {}, [], []
+    passed, labels, changes = {}, [], []
     for letter, tick, node, left, _, number in moved:
         passed[letter, tick, node, left] = f"K{number}"
-    for letter, tick, node, other, dead in fields(log):
-        if dead != lists[node]:
-            new = "+" + ",".join(map(str, members(dead & ~lists[node])))
-            changes.append((node, picture.across(tick), new, passed.get((letter, tick, node, other), "")))
-        lists[node] = dead
+    for _, event, dead, alive in listings(log):
+        new = " ".join(sign + ",".join(map(str, nodes)) for sign, nodes in [("+", dead), ("!", alive)] if nodes)
+        changes.append((event[2], picture.across(event[1]), new, passed.get(event, "")))
     few = len(changes) <= 160
     wanted = [(node, place, f"{new} {number}".strip() if few else number, number) for node, place, new, number in changes]
     for text in picture.of("new"):
         row, x, room = picture.row(float(text.get("y")) + 7), float(text.get("x")), 8 + 8 * len(text.text)
         if row is not None:
             labels.append((row, x, x + room, text.text))
+            alive = "alive" in text.get("class").split()
+            check(alive == ("!" in text.text), f"{name}: the label {text.text!r} has another's colour")
             near = [place for node, place, words, _ in wanted if (node, words) == (row, text.text) and 7.7 < abs(x - place) <= 8 + room]
             check(near, f"{name}: the label {text.text!r} of node {row} stands where its list does not grow so")
     for node, place, words, number in wanted:
@@ -431,34 +555,66 @@ def every_label(picture, moved, log, name):
     check(legend == ["K2"] * numbered, f"{name}: the legend is wrong about the numbers of moves")
     check(said == [f"K, move: 2 listed nodes passed, the emitter left included{room}"] * numbered, f"{name}: the legend says {said} of moves")
     said = [text.text for text in picture.of("small") if "is new in the list" in text.text]
-    check(said == [f"share of the nodes listed; +3: node 3 is new in the list{room}"] * (few and labels != []), f"{name}: the legend says {said} of lists")
+    signs = any("+" in label for *_, label in labels)
+    wanted = [f"share of the nodes listed; +3: node 3 is new in the list{room}"] * signs
+    check(said == wanted, f"{name}: the legend says {said} of lists")
 
 
 def every_list(picture, log, name):
-    """Bands stand where a list grows, and each row ends in its node's list or crash."""
-    *_, last = log.decode().splitlines()
-    lists, crashes, bands = [0] * len(picture.rows), {}, set()
-    ticks = [int(line.split(",")[1]) for line in log.decode().splitlines()]
-    end = ticks[-1] if last[0] == "E" else ticks[-2]
+    """Bands stand where a list grows or a node in it crashes, and have a part for live nodes. Each row ends in its
+    node's list or crash."""
+    lists, crashes, parts = [0] * len(picture.rows), {}, {}
+    *_, before_last, last = log.decode().splitlines() if log.count(b"\n") > 1 else ["", log.decode().strip()]
+    end = int((last if last[0] in "EF" else before_last).split(",")[1])
     for letter, tick, node, other, dead in fields(log):
+        changed = {node} if dead != lists[node] else set()
+        lists[node] = dead
         if letter == "C":
             crashes[node] = tick
-            bands.discard((node, picture.across(tick)))
-        elif dead != lists[node] and tick < end:
-            bands.add((node, picture.across(tick)))
-        lists[node] = dead
-    rects = [(picture.row(float(rect.get("y"))), float(rect.get("x"))) for rect in picture.root.iter(SVG + "rect") if rect.get("class") == "listed"]
-    check(close([rect for rect in rects if rect[0] is not None], list(bands)), f"{name}: the bands are not those of the lists")
-    words = {picture.row(float(text.get("y")) - 4): text.text for text in picture.texts if float(text.get("x")) > picture.across(end)}
-    for node, held in enumerate(lists):
-        held = members(held)
-        listed = "{" + ", ".join(map(str, held)) + "}" if len(held) <= 6 else f"{len(held)} nodes"
-        wanted = f"crashed at {crashes[node]}" if node in crashes else listed
-        check(words[node] == wanted, f"{name}: the row of node {node} ends in {words[node]!r}, not {wanted!r}")
-    if last[0] == "E":
+            parts.pop((node, picture.across(tick)), None)
+            changed = {holder for holder, held in enumerate(lists) if held >> node & 1}
+        for holder in changed - set(crashes):
+            if tick < end:
+                alive = [listed for listed in members(lists[holder]) if listed not in crashes]
+                parts[holder, picture.across(tick)] = len(alive) / len(members(lists[holder]))
+    every_band(picture, parts, name)
+    every_ending(picture, lists, crashes, picture.across(end), name)
+    if last[0] in "EF":
         _, tick, survivors, flying, _ = last.split(",")
-        wanted = f"end of tick {tick}: {survivors} survivor{'s' * (survivors != '1')}, {flying} in flight"
-        check(wanted in picture.words("small"), f"{name}: not said {wanted!r}")
+        below = "; F: the time-out W is below H + D" * (last[0] == "F")
+        wanted = f"end of tick {tick}: {survivors} survivor{'s' * (survivors != '1')}, {flying} in flight{below}"
+        check(wanted in [text.text for text in picture.of("small")], f"{name}: not said {wanted!r}")
+
+
+def every_band(picture, parts, name):
+    """The parts of live nodes are by row and place across; they stand at the lower end of their bands."""
+    bands, shares = picture.rects("listed"), picture.rects("share")
+    check(close([place for place, *_ in bands], list(parts)), f"{name}: the bands are not those of the lists")
+    wanted, found = [place for place, part in parts.items() if part], [place for place, *_ in shares]
+    check(close(found, wanted), f"{name}: the shares of live nodes are not those of the lists")
+    for place, top, height in shares:
+        above, size = next((above, size) for band, above, size in bands if band == place)
+        part = next(part for other, part in parts.items() if close([place], [other]))
+        right = abs(top + height - above - size) < 0.2 and abs(height - part * size) < 0.2
+        check(right, f"{name}: a share of live nodes is {height} of {size}, not {part}")
+        seen["share of live nodes"] += 1
+
+
+def every_ending(picture, lists, crashes, x, name):
+    """What stands right of the end in each row, and of all circles. Nodes that are alive at the end are told apart."""
+    edges = [float(circle.get("cx")) + float(circle.get("r")) for circle in picture.root.iter(SVG + "circle")]
+    ends = {picture.row(float(text.get("y")) - 4): text for text in picture.texts if float(text.get("x")) > x}
+    for node, held in enumerate(map(members, lists)):
+        alive = [listed for listed in held if listed not in crashes]
+        wanted = "{" + ", ".join(f"!{one}" if one in alive else str(one) for one in held) + "}"
+        if len(held) > 6:
+            wanted = f"{len(held)} nodes" + (f", {len(alive)} alive" if alive else "")
+        if node in crashes:
+            wanted, alive = f"crashed at {crashes[node]}", []
+        check(ends[node].text == wanted, f"{name}: the row of node {node} ends in {ends[node].text!r}, not {wanted!r}")
+        kinds, left = ends[node].get("class").split(), float(ends[node].get("x"))
+        check(all(left > edge + 3 for edge in edges), f"{name}: the list of node {node} stands in a circle")
+        check(("alive" in kinds) == bool(alive), f"{name}: the list of node {node} has another's colour")
 
 
 def apart(picture, name):
@@ -492,9 +648,37 @@ def who_lacks_whom(words):
     return said
 
 
+def after_false(said, survivors, wrong, log, name):
+    """Holds what is said of false listings against the log. Answers the words after it."""
+    false = false_listings(log)
+    if not false:
+        check("false" not in said and "live" not in said, f"{name}: {said!r}, but there is no false listing")
+        return said
+    refused = log.endswith(b"8,0\n")
+    words = f"{len(false)} false listing{'' if len(false) == 1 else 's'}, the first in tick {false[0][1]}"
+    words += ", so the time-out W is below H + D. " if refused else ". "
+    check(said.startswith(words), f"{name}: {said!r} does not begin with {words!r}")
+    ending, _, rest = said[len(words) :].partition(".")
+    groups = {frozenset(alive) for alive in wrong.values()}
+    if not wrong:
+        check(ending == "At the end no survivor lists a live node", f"{name}: {ending!r}, but none lists a live node")
+        seen["no live node listed at the end"] += 1
+    elif len(groups) > 6:
+        words = f"At the end {len(wrong)} of {survivors} survivors list live nodes"
+        check(ending == words, f"{name}: {ending!r}, but by the log {wrong}")
+        seen["many list live nodes"] += 1
+    else:
+        told = {}
+        for part in ending.removeprefix("At the end live nodes are listed: ").split("; "):
+            whom, who = re.fullmatch("(nodes? .*) by (nodes? .*)", part).groups()
+            told.update({node: numbers(whom) for node in numbers(who)})
+        check(told == wrong, f"{name}: {ending!r}, but by the log {wrong}")
+    return rest.strip()
+
+
 def all_know(picture, run_file, log, name):
     nodes = int(run_file.split(b",")[1])
-    since, lacking, crashed = knowledge(nodes, log)
+    since, lacking, wrong, crashed = knowledge(nodes, log)
     check(len(picture.rows) == nodes, f"{name}: {len(picture.rows)} rows for {nodes} nodes")
     lines = [element for element in picture.root.iter(SVG + "line") if element.get("class") == "all" and element.get("x1") == element.get("x2")]
     check(picture.words("good") == ("" if since is None else f"all know from tick {since}"), f"{name}: all know from {since}, not as drawn")
@@ -502,12 +686,21 @@ def all_know(picture, run_file, log, name):
     if lines:
         check(abs(float(lines[0].get("x1")) - picture.across(since)) < 0.3, f"{name}: all know from another tick than drawn")
     said = " ".join(text.text for text in picture.of("bad") if not text.text.startswith("Refused"))
+    all_words = " ".join(text.text for text in picture.texts)
+    for words, holds in [("No node crashes.", not crashed), ("No node survives.", len(crashed) == nodes)]:
+        check((words in all_words) == holds, f"{name}: not said, or wrongly: {words}")
+        said = said.removeprefix(words).strip()
+    said = after_false(said, nodes - len(crashed), wrong, log, name)
     if lacking:
         check(said.startswith("At the end "), f"{name}: not said who lacks whom")
         check(who_lacks_whom(said) == lacking, f"{name}: {said!r}, but by the log {lacking}")
     else:
-        check("At the end" not in said, f"{name}: {said!r}, but none lacks any")
-    seen["mark" if since is not None else "lack" if lacking else "none crashes" if not crashed else "none survives"] += 1
+        check(said == "", f"{name}: {said!r}, but none lacks any")
+    entry = "from here all survivors list all crashed nodes" + " and no live one" * bool(false_listings(log))
+    entries = [text.text for text in picture.of("small") if text.text.startswith("from here")]
+    check(entries == [entry] * len(lines), f"{name}: the legend says {entries} of the line")
+    kind = "lack" if lacking else "none crashes" if not crashed else "none survives"
+    seen["mark" if since is not None else "live nodes listed" if wrong else kind] += 1
     return since
 
 
@@ -532,6 +725,8 @@ def held(picture, run_file, ring, log, name):
         every_arrow(picture, moved, log, name)
         every_label(picture, moved, log, name)
         every_list(picture, log, name)
+        every_circle(picture, log, name)
+    legend_of_false(picture, log, name)
     apart(picture, name)
     return all_know(picture, run_file, log, name)
 
@@ -599,10 +794,9 @@ def left_by_a_report():
             wanted = f"tick {tick}: {why}, and moves to node {order[after]}, passing 1 listed node"
             check(picture.titles(", its emitter, ") == [wanted], f"a move by report in the order {order}: not told {wanted!r}")
     # By hand: a move over a listed node, and one by which the node is alone, as no run is known that has it. A report of the node itself is no move.
-    by_hand = [("C,3,2,2", 0), ("C,3,3,3", 0), ("R,4,0,0", 0), ("R,5,0,2", 4), ("R,6,0,3", 12), ("K,6,0,2", 12), ("O,7,1,0", 0), ("C,8,1,1", 0)]
-    by_hand += [("R,9,0,1", 14), ("K,9,0,1", 14), ("R,10,0,0", 14), ("E,12,1,0", 14)]
-    log = "".join(f"{line},{dead:016x}\n" for line, dead in by_hand).encode()
-    picture, _ = whole(b"P,4,9,12,3,12\n", "alone by a report", log=log)
+    rows = [("C,3,2,2", 0), ("C,3,3,3", 0), ("R,4,0,0", 0), ("R,5,0,2", 4), ("R,6,0,3", 12), ("K,6,0,2", 12), ("O,7,1,0", 0), ("C,8,1,1", 0)]
+    rows += [("R,9,0,1", 14), ("K,9,0,1", 14), ("R,10,0,0", 14), ("E,12,1,0", 14)]
+    picture, _ = whole(b"P,4,9,12,3,12\n", "alone by a report", log=by_hand(*rows))
     wanted = [
         "tick 6: node 0 gets the report of node 3, its emitter, and moves to node 1, passing 2 listed nodes",
         "tick 9: node 0 gets the report of node 1, its emitter, and is alone, passing 1 listed node",
@@ -639,10 +833,112 @@ def known_ticks():
     check("No node survives." in whole(b"P,2,2,3,1,6\nC,3,0\nC,3,1\n", "two crash")[0].words("small"), "two crash: not said")
     whole(b"P,1,1,2,1,0\n", "tick 0 alone")
     check(whole(b"P,4,2,3,1,8\nQ,2,0,3,1\nC,3,0\n", "a shuffled ring")[1] == 7, "a shuffled ring: not tick 7")
-    # By hand: node 0 lists node 1, which lives and gets its O only then.
-    by_hand = [("C,3,2,2", 0), ("W,6,0,2", 4), ("K,6,0,1", 4), ("R,7,1,2", 4), ("W,9,0,1", 6), ("K,9,0,1", 6), ("O,10,1,0", 4), ("E,12,2,0", 4)]
-    log = "".join(f"{line},{dead:016x}\n" for line, dead in by_hand).encode()
-    check(whole(b"P,3,2,3,1,12\n", "a live node listed", log=log)[1] == 7, "a live node listed: not tick 7")
+
+
+def by_hand(*rows):
+    """A log of rows, each as a line without its list, and the list's number."""
+    return "".join(f"{line},{dead:016x}\n" for line, dead in rows).encode()
+
+
+def listed_by_each():
+    """By hand: nodes that are alive listed by each kind of event, with crashed nodes and without; some crash later."""
+    name = "live nodes listed by each kind of event"
+    rows = [("C,1,6,6", 0), ("W,6,1,0", 1), ("K,6,1,1", 1), ("R,7,2,0", 1), ("R,7,2,0", 1), ("R,7,2,1", 3)]
+    rows += [("K,7,2,2", 3), ("W,9,0,6", 64), ("K,9,0,1", 64), ("H,10,3,2", 3), ("H,11,4,3", 67), ("H,11,4,3", 99)]
+    rows += [("R,12,3,6", 67), ("C,13,1,1", 1), ("R,14,5,1", 2), ("R,15,5,0", 3), ("R,15,5,6", 67), ("C,16,2,2", 3)]
+    rows += [("R,17,0,1", 66), ("F,20,4,1", 70)]
+    picture, since = whole(b"P,7,2,2,1,20\n", name, log=by_hand(*rows))
+    check(since is None, f"{name}: all know")
+    late = "which is alive but whose heartbeat did not come in time"
+    for words in [
+        f"tick 6: node 1 lists node 0, {late}, and moves on, passing 1 listed node",
+        "tick 7: node 2 gets the report of node 0, which is alive, and lists it",
+        "tick 7: node 2 gets the report of node 0",
+        "tick 7: node 2 gets the report of node 1, its emitter, which is alive, and lists it, and moves on, passing 2"
+        " listed nodes",
+        "tick 9: node 0 lists node 6, whose heartbeat did not come, and moves on, passing 1 listed node",
+        "tick 10: node 3 gets the heartbeat of node 2, and by its list it lists nodes 0, 1, which are alive",
+        "tick 11: node 4 gets the heartbeat of node 3, and by its list it lists node 6 and nodes 0, 1, which are alive",
+        "tick 11: node 4 gets the heartbeat of node 3, and by its list it lists node 5, which is alive",
+        "tick 12: node 3 gets the report of node 6",
+        "tick 14: node 5 gets the report of node 1",
+        "tick 15: node 5 gets the report of node 0, which is alive, and lists it",
+    ]:
+        check(picture.titles("").count(words) == 1, f"{name}: not told {words!r}")
+    said = picture.words("bad")
+    wanted = "7 false listings, the first in tick 6."
+    wanted += " At the end live nodes are listed: node 0 by nodes 3, 5; nodes 0, 5 by node 4. "
+    wanted += "At the end nodes 0, 3-5 lack node 2."
+    check(said == wanted, f"{name}: {said!r}, not {wanted!r}")
+    labels = [text.text for text in picture.of("new") + picture.of("small")]
+    for words in ["!0,1", "+6 !0,1", "!1 K2", "+1", "{!0, 1, 6}", "{!0, 1, !5, 6}", "{1, 6}"]:
+        check(words in labels, f"{name}: no label {words!r}")
+
+
+def says(run_file, name, words, rows=None):
+    """Draws a run with W below H + D, or the rows of a log by hand, and looks for the words about its lists. Answers
+    the tick of the mark."""
+    picture, since = whole(run_file, name, log=by_hand(*rows) if rows else None)
+    check("F: the time-out W is below H + D" in picture.words("small"), f"{name}: not said that W is short")
+    check(words in picture.words("bad"), f"{name}: {picture.words('bad')!r}, not {words!r}")
+    return since
+
+
+def short_time_outs():
+    """Runs with W below H + D: what they come to, with and without a false listing."""
+    says(b"P,2,2,2,1,6\n", "01's edge", "No node crashes. 2 false listings, the first in tick 2. At the end live")
+    says(b"P,3,2,2,1,30\n", "all are listed", "No node crashes. 6 false listings, the first in tick 2.")
+    says(b"P,1,2,1,1,6\n", "one node, a short time-out", "")
+    check(b"circle" not in drawn(log_of(b"P,1,2,1,1,6\n")), "one node, a short time-out: a style for no false listing")
+    # The first heartbeats are quick.
+    since = says(b"P,3,4,6,3,40\nC,10,2\nL,0,1\nL,1,1\nL,2,1\n", "a short time-out, all well", "")
+    check(since is not None, "a short time-out, all well: no line")
+    # The node listed crashes: from then on the lists are right.
+    rows = [("W,2,2,1", 2), ("K,2,2,1", 2), ("R,3,0,1", 2), ("C,5,1,1", 0), ("F,8,2,0", 2)]
+    words = "2 false listings, the first in tick 2. At the end no survivor lists a live node."
+    check(says(b"P,3,2,2,1,8\n", "listed, then crashed", words, rows) == 5, "listed, then crashed: not tick 5")
+    # The node that lists a live one crashes.
+    rows = [("W,2,2,1", 2), ("K,2,2,1", 2), ("C,5,2,2", 2), ("W,7,0,2", 4), ("K,7,0,1", 4), ("R,8,1,2", 4)]
+    rows.append(("F,9,2,0", 4))
+    words = "1 false listing, the first in tick 2. At the end no survivor lists a live node."
+    check(says(b"P,3,2,2,1,9\n", "its list goes with it", words, rows) == 8, "its list goes with it: not tick 8")
+    rows = [("W,2,0,1", 2), ("K,2,0,1", 2), ("C,5,0,0", 2), ("C,5,1,1", 0), ("F,9,0,0", 3)]
+    says(b"P,2,2,2,1,9\n", "all crash", "No node survives. 1 false listing, the first in tick 2. At the end no", rows)
+
+
+def live_node_listed():
+    """By hand: node 0 lists node 1, which lives and gets its O only then. All that crash are known, without a line."""
+    rows = [("C,3,2,2", 0), ("W,6,0,2", 4), ("K,6,0,1", 4), ("R,7,1,2", 4), ("W,9,0,1", 6), ("K,9,0,1", 6)]
+    rows.append(("O,10,1,0", 4))
+    false, at_end = "1 false listing, the first in tick 9", "At the end live nodes are listed: node 1 by node 0."
+    since = says(b"P,3,2,2,1,12\n", "a live node listed", f"{false}. {at_end}", [*rows, ("F,12,2,0", 4)])
+    check(since is None, "a live node listed: all know")
+    # No such log ends in E.
+    none = "but in a log that ends in E no live node is listed"
+    listed = "by line 5 of the log node 0 lists node 1, which is alive"
+    refused(by_hand(*rows, ("E,12,2,0", 4)), f"{listed}, {none}")
+    words = f"by line 1 of the log node 0 lists nodes 1-3, which are alive, {none}"
+    refused(by_hand(("H,2,0,1", 14), ("E,3,4,0", 0)), words)
+    drawn(by_hand(*rows[:4], ("E,12,2,0", 4)))
+    # One that ends in 8,0 may; it is not that of a run file with W at least H + D.
+    log = by_hand(*rows) + b"8,0\n"
+    said = whole(b"P,3,2,2,1,12\n", "a live node listed, then 8", 2, log)[0].words("bad")
+    check(f"{false}, so the time-out W is below H + D. {at_end}" in said, f"a live node listed, then 8: said {said!r}")
+    other = "the run file is not that of the log", f"W is not below H + D, but {listed}"
+    refused(log, *other, arguments=("-", place, kept(b"P,3,2,3,1,12\n")))
+    os.remove(rehearsed)
+
+
+def many_listed():
+    """Larger rings with W below H + D, some of which end in 8,0, and rings in other orders than that of the numbers."""
+    for nodes, status in [(8, 0), (20, 0), (64, 2)]:
+        whole(b"P,%d,5,9,6,60\nC,20,3\nC,31,4\n" % nodes, f"{nodes} nodes, a short time-out", status)
+        order = ",".join(map(str, random.Random(3).sample(range(nodes), nodes))).encode()
+        run_file = b"P,%d,5,10,6,60\nQ,%s\nC,20,3\n" % (nodes, order)
+        whole(run_file, f"{nodes} nodes in another order, a short time-out", status)
+    quick = b"".join(b"L,%d,1\n" % number for number in range(11))
+    whole(b"P,12,4,6,3,90\nC,20,3\nC,47,9\n" + quick, "12 nodes, one late heartbeat")
+    check(seen["many list live nodes"], "in no ring more than six lists hold live nodes")
 
 
 def many_nodes():
@@ -661,13 +957,27 @@ def many_nodes():
     check(sum(element.get("class") == "refused" for element in picture.root.iter()) == 1, "2,049 in flight: no line at the refusal")
 
 
-def committed(run_file, log):
-    """README's picture is readable at a page's width, and has every letter, two crashes and the mark."""
-    picture, since = whole(run_file, "the committed picture")
-    check(picture.width <= 900, f"the committed picture is {picture.width} wide")
-    check(since is not None and log.count(b"C,") == 2, "the committed picture lacks its crashes or its mark")
-    for letter in "CHORXWSKE":
-        check(any(line.startswith(letter) for line in log.decode().splitlines()), f"the committed picture has no {letter}")
+def committed(path, letters):
+    """README's pictures are readable at a page's width, and have every letter. Answers the number of crashes, the tick
+    of the mark, and the false listings."""
+    with open(path, "rb") as file:
+        run_file = file.read()
+    log = log_of(run_file)
+    picture, since = whole(run_file, f"the picture of {path}")
+    check(picture.width <= 900, f"the picture of {path} is {picture.width} wide")
+    for letter in letters:
+        there = any(line.startswith(letter) for line in log.decode().splitlines())
+        check(there, f"the picture of {path} has no {letter}")
+    return log.count(b"C,"), since, false_listings(log)
+
+
+def committed_pictures():
+    crashes, since, false = committed(shown, "CHORXWSKE")
+    check(crashes == 2 and since is not None and not false, "the committed picture lacks its crashes or its mark")
+    crashes, since, false = committed(short, "CHORXWSKF")
+    check(crashes == 1 and since is None, "the committed picture of a short time-out lacks its crash, or has a mark")
+    kinds = {letter for letter, *_ in false}
+    check(kinds == set("WRH"), "the committed picture of a short time-out lacks a kind of false listing")
 
 
 def main():
@@ -676,18 +986,27 @@ def main():
     log = log_of(run_file)
     refusals(log)
     incomplete(log)
+    with open(short, "rb") as file:
+        incomplete(log_of(file.read()))
     strange(log)
     without_its_line(log)
     forms(log)
     other_run_files()
-    committed(run_file, log)
+    committed_pictures()
     known_ticks()
+    listed_by_each()
+    short_time_outs()
+    live_node_listed()
+    many_listed()
     many_nodes()
     shuffled()
     left_by_a_report()
     early_crashes()
     generated()
     outcomes = ["mark", "lack", "none crashes", "none survives", "refused", "shuffled", "left by a report"]
+    outcomes += ["false W", "false R", "false H", "false H with a crashed node", "left falsely by W"]
+    outcomes += ["left falsely by R", "share of live nodes"]
+    outcomes += ["live nodes listed", "no live node listed at the end", "many list live nodes"]
     for outcome in outcomes + ["moves to", "moves on", "is alone", "passed 1", "passed more", "numbers"]:
         check(seen[outcome], f"no file had the outcome: {outcome}")
     print("timeline: " + ", ".join(f"{outcome} {count}" for outcome, count in sorted(seen.items())))

@@ -4,7 +4,8 @@ Usage: tests/turns.py LENGTH TURNS FILE ..                     writes it
        tests/turns.py --against PROGRAM FOLDER SEED COUNT      compares the program's output for generated run files, put into FOLDER
 REHEARSE names another rehearsal program.
 
-A log says how many events a file has, and whether one is refused after them; the rest is who gets which turn.
+A log says how many events a file has, and whether one is refused after them; the rest is who gets which turn. A third
+of the generated files have a W below H + D.
 """
 import os
 import random
@@ -15,6 +16,7 @@ REHEARSE = os.environ.get("REHEARSE", "target/bin/rehearse")
 WANTED = {
     "one file", "eight files", "no event at all", "one turn a call", "fewer turns than asked", "passed over while others go on",
     "done in a turn", "done at a turn's end", "stopped in a turn", "stopped in a turn without events", "stopped in the last turn of a call",
+    "short W", "short W beside long W",
 }
 
 
@@ -24,9 +26,9 @@ class Rehearsal:
     def __init__(self, place, file):
         with open(file, "rb") as text:
             log = subprocess.run([REHEARSE], stdin=text, capture_output=True, check=True).stdout.decode().splitlines()
-        self.place, self.file, self.events, self.stopped = place, file, 0, False
-        self.left, self.refused = sum(line[0] not in "KE8" for line in log), log[-1] == "8,0"
-        if not self.refused and log[-1][0] != "E":
+        self.place, self.file, self.events, self.stopped, self.short = place, file, 0, False, log[-1][0] == "F"
+        self.left, self.refused = sum(line[0] not in "KEF8" for line in log), log[-1] == "8,0"
+        if not self.refused and log[-1][0] not in "EF":
             sys.exit(f"turns: {file} is refused: {log[-1]}")
 
     def has_event(self):
@@ -64,6 +66,8 @@ def printed(files, length, turns, met):
     """The output, and the exit status."""
     going, text, call, status = [Rehearsal(place, file) for place, file in enumerate(files)], "", 0, 0
     met |= {"no event at all"} if not all(one.has_event() for one in going) else set()
+    met |= {"short W"} if any(one.short for one in going) else set()
+    met |= {"short W beside long W"} if len({one.short for one in going if not one.refused}) == 2 else set()
     while going:
         call += 1
         given = one_call(going, length, turns, met)
@@ -93,6 +97,7 @@ def quiet(numbers):
 
 def generated(numbers):
     nodes, h, w, d, end, crashes = numbers.choice([quiet, quiet, overfull])(numbers)
+    w = numbers.choice([w, w, numbers.randint(1, h + d - 1)])
     return f"P,{nodes},{h},{w},{d},{end}\n" + "".join(f"C,{tick},{node}\n" for tick, node in crashes)
 
 

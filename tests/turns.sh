@@ -27,6 +27,7 @@ prints() {
 }
 
 # Three planners: 178 events, 8 events, and 2,048 before one that is refused. A fourth has nothing to do, since a node alone does nothing.
+# A fifth has a W below H + D, with which three nodes list each other.
 files() {
     rm -rf "$runs"
     mkdir "$runs"
@@ -34,6 +35,7 @@ files() {
     printf 'P,2,2,3,1,6\nC,3,1\n' > "$runs/two.run"
     printf 'P,64,1,34,33,200\n' > "$runs/full.run"
     printf 'P,1,1,2,1,5\n' > "$runs/alone.run"
+    printf 'P,3,2,2,1,8\n' > "$runs/short.run"
 }
 
 outputs() {
@@ -73,6 +75,11 @@ call 3, 3 of 5 turns: 2:178 2:178 2:90
 call 2, 1 of 2 turns: 2:89
   2 six.run: done after 178 events
 ' '' 89 2 two.run alone.run six.run
+    # By the log 15 events: three watches and three heartbeats at tick 2, and at tick 3 three times O, R and H.
+    prints 0 'call 1, 5 of 9 turns: 0:5 1:5 0:3 1:5 1:5
+  0 two.run: done after 8 events
+  1 short.run: done after 15 events
+' '' 5 9 two.run short.run
 }
 
 refusals() {

@@ -2,8 +2,8 @@
 //! the dispatcher with a part of this one store have to answer 7 and to leave the store, their parts and the numbers behind their
 //! pointers as they were. Each store is first seen in range: the calls on it are accepted, and leave what the simulator leaves.
 //!
-//! The stores have one node, 64 and some between; a Q line or none; rows and messages none, some and full. What is unused of a column has
-//! every rest after whole eights, and every length below eight. A lone node sends nothing: its stores have no messages.
+//! The stores have one node, 64 and some between; a Q line or none; rows and messages none, some and full; W at least H + D, and less. What is
+//! unused of a column has every rest after whole eights, and every length below eight. A lone node sends nothing: its stores have no messages.
 //!
 //! Usage: unused. A difference prints the store, the byte and the call, and the program fails.
 //!
@@ -17,7 +17,9 @@ mod stores;
 #[cfg(mock)]
 mod unused_mock;
 
-use calls::{dispatcher, proved, refused, simulated, Call};
+use calls::{dispatcher, last_letter, proved, refused, simulated, Call};
+#[cfg(mock)]
+use common::found;
 use common::{ended, same};
 use lent::Lent;
 use simulator::dispatch::dispatch;
@@ -104,14 +106,15 @@ impl Size {
     }
 
     /// A store of this size. From tick 1 on each node sends a heartbeat a tick; before tick 1 + D none is delivered, so that as many events
-    /// lead there as messages are in flight. They come to N × D, at most 2,048. The crashes are at the end tick; the L rows' delay is D.
+    /// lead there as messages are in flight. They come to N × D, at most 2,048. The crashes are at the end tick; the L rows' delay is D. W is H + D,
+    /// of a lone node without a Q line a tick less.
     fn store(&self) -> Vec<u8> {
         let [nodes, crashes, delays, messages] = [self.nodes, self.crashes, self.delays, self.messages].map(|count| count as u64);
         let (delay, end) = ((MAX_IN_FLIGHT as u64 / nodes).min(MAX_DELAY), 300);
         let draft = Draft {
             nodes,
             period: 1,
-            timeout: 1 + delay,
+            timeout: if nodes == 1 && !self.ordered { delay } else { 1 + delay },
             delay,
             end,
             order: if self.ordered { (0..nodes).rev().collect() } else { Vec::new() },
@@ -129,8 +132,9 @@ const fn size(nodes: usize, ordered: bool, crashes: usize, delays: usize, messag
 /// Sizes of stores beside those of 64 nodes.
 const SIZES: [Size; 4] = [size(1, true, 0, 0, 0), size(1, false, 1, 13, 0), size(1, true, 1, 2_048, 0), size(61, false, 60, 1_998, 2_013)];
 
-/// Five nodes in the midst of a run: one has crashed, another has just listed it, and O and R are in flight beside H.
-const MIDST: (&str, u64, Size) = ("P,5,2,6,3,60\nQ,0,2,4,3,1\nC,5,3\nC,40,1\nL,2,1\nL,7,2\n", 50, size(5, true, 2, 2, 7));
+/// Five nodes in the midst of a run with W below H + D: one has crashed, others are listed though they live, and O and R are in flight
+/// beside H.
+const MIDST: (&str, u64, Size) = ("P,5,2,4,3,60\nQ,0,2,4,3,1\nC,5,3\nC,40,1\nL,2,1\nL,7,2\n", 43, size(5, true, 2, 2, 23));
 
 /// C rows, L rows and messages of the stores of 64 nodes: all pairs of amounts of rows and messages.
 const PAIRS: [(usize, usize, usize); 9] = [
@@ -242,6 +246,8 @@ struct Seen {
     /// How long the unused parts are.
     lengths: Vec<usize>,
     calls: u64,
+    /// Stores with W below H + D.
+    short: u64,
 }
 
 fn all(seen: &mut Seen, stores: &[(Size, Vec<u8>)]) -> Result<(), String> {
@@ -250,6 +256,7 @@ fn all(seen: &mut Seen, stores: &[(Size, Vec<u8>)]) -> Result<(), String> {
         let parts = unused(size, bytes).map_err(told)?;
         seen.lengths.extend(parts.iter().map(Range::len));
         seen.sizes.push(*size);
+        seen.short += u64::from(last_letter(bytes) == b'F');
         accepted(bytes).map_err(told)?;
         let mut trial = Trial::new(bytes);
         for (turn, (place, value)) in parts.into_iter().flatten().flat_map(|place| VALUES.map(|value| (place, value))).enumerate() {
@@ -295,11 +302,14 @@ fn every_kind(Seen { sizes, lengths, .. }: &Seen) -> Result<(), String> {
 
 fn summary(seen: &Seen) -> Result<String, String> {
     every_kind(seen)?;
-    let Seen { sizes, lengths, calls } = seen;
+    let Seen { sizes, lengths, calls, short } = seen;
+    if *short < 2 || *short as usize > sizes.len() / 2 {
+        return Err(format!("{short} stores have a W below H + D"));
+    }
     let count = |is_kind: fn(&Size) -> bool| sizes.iter().filter(|size| is_kind(size)).count();
     let (one, most, ordered) = (count(|size| size.nodes == 1), count(|size| size.nodes == 64), count(|size| size.ordered));
     let (stores, parts, bytes) = (sizes.len(), lengths.len(), lengths.iter().sum::<usize>());
-    println!("unused: {stores} stores, {most} of 64 nodes and {one} of one, which sends nothing; {ordered} have a Q line");
+    println!("unused: {stores} stores, {most} of 64 nodes and {one} of one, which sends nothing; {ordered} have a Q line, {short} a W below H + D");
     println!("unused: {parts} unused parts, of {bytes} bytes, each of them set to {VALUES:?}");
     Ok(format!("{calls} calls of step, run, write and dispatch on {stores} stores with one of {bytes} unused bytes set are refused by 7"))
 }
@@ -309,10 +319,8 @@ fn summary(seen: &Seen) -> Result<String, String> {
 fn mistakes(stores: &[(Size, Vec<u8>)]) -> Result<(), String> {
     for mistake in unused_mock::mistakes() {
         unused_mock::make(mistake);
-        match all(&mut Seen::default(), stores) {
-            Ok(()) => return Err(format!("not found: {mistake:?}")),
-            Err(error) => println!("unused: {mistake:?} is found: {error}"),
-        }
+        let found = found(all(&mut Seen::default(), stores)).ok_or(format!("not found: {mistake:?}"))?;
+        println!("unused: {mistake:?} is found: {found}");
     }
     unused_mock::make(unused_mock::Mistake::Nothing);
     Ok(())

@@ -1,6 +1,6 @@
 //! The calls over the simulator and its store, with one mistake at a time about unused bytes: what tests/unused.rs has to find.
 
-use super::calls::{dispatcher, simulated, Answer, Call};
+use super::calls::{dispatcher, last_letter, simulated, Answer, Call};
 use simulator::dispatch::dispatch;
 use simulator::layout::Counts;
 use simulator::limits::*;
@@ -48,6 +48,10 @@ pub enum Mistake {
     PutToZero(Caller),
     PartWritten(Caller),
     NumberWritten(Caller),
+    // Any byte, in stores whose last line has this letter; one of the calls answers 4 for 7; a store with W below H + D is refused as it is.
+    OfLetter(u8),
+    Four(Caller),
+    ShortRefused,
 }
 
 use Mistake::*;
@@ -60,8 +64,9 @@ static ZEROS: [u8; STORE_BYTES] = [0; STORE_BYTES];
 pub fn mistakes() -> Vec<Mistake> {
     let alone = [FirstRound, LastRound, Rest, FirstByte, LastByte, Byte(29), Byte(STORE_BYTES - 1), Value(1), Value(255), PastTheEnd];
     let by_place = (0..8).map(OfRound).chain((0..7).map(OfRest)).chain(PARTS.map(Part));
-    let by_caller = CALLERS.into_iter().flat_map(|caller| [NotBy(caller), PutToZero(caller), NumberWritten(caller)]);
-    alone.into_iter().chain(by_place).chain(by_caller).chain([Caller::Step, Caller::Write].map(PartWritten)).collect()
+    let by_caller = CALLERS.into_iter().flat_map(|caller| [NotBy(caller), PutToZero(caller), NumberWritten(caller), Four(caller)]);
+    let others = [PartWritten(Caller::Step), PartWritten(Caller::Write), OfLetter(b'E'), OfLetter(b'F'), ShortRefused];
+    alone.into_iter().chain(by_place).chain(by_caller).chain(others).collect()
 }
 
 thread_local!(static MADE: Cell<Mistake> = const { Cell::new(Nothing) });
@@ -71,8 +76,8 @@ pub fn make(mistake: Mistake) {
     MADE.set(mistake);
 }
 
-/// Whether a call passes over a byte: the byte `at` of so many of a part.
-fn is_missed(caller: Caller, part: usize, size: usize, at: usize, place: usize, value: u8) -> bool {
+/// Whether a call passes over a byte of a store with this last letter: the byte `at` of so many of a part.
+fn is_missed(caller: Caller, letter: u8, part: usize, size: usize, at: usize, place: usize, value: u8) -> bool {
     let rounds = size / 8 * 8;
     match MADE.get() {
         OfRound(byte) => at < rounds && at % 8 == byte,
@@ -86,6 +91,7 @@ fn is_missed(caller: Caller, part: usize, size: usize, at: usize, place: usize, 
         Byte(missed) => place == missed,
         Value(missed) => value == missed,
         NotBy(missing) => caller == missing,
+        OfLetter(missed) => letter == missed,
         _ => false,
     }
 }
@@ -93,6 +99,10 @@ fn is_missed(caller: Caller, part: usize, size: usize, at: usize, place: usize, 
 /// The store as a call sees it: what it passes over is zero. Nothing where it looks too far.
 fn seen(caller: Caller, bytes: &[u8]) -> Option<Cow<'_, [u8]>> {
     let mut seen = Cow::Borrowed(bytes);
+    let letter = last_letter(bytes);
+    if MADE.get() == ShortRefused && letter == b'F' {
+        return None;
+    }
     for (part, range) in Counts::read(bytes)?.unused().enumerate() {
         let (start, size) = (range.start, range.len());
         let past = range.end..(start + size.next_multiple_of(8)).min(STORE_BYTES);
@@ -100,7 +110,7 @@ fn seen(caller: Caller, bytes: &[u8]) -> Option<Cow<'_, [u8]>> {
             return None;
         }
         if bytes[range.clone()] != ZEROS[range.clone()] {
-            for place in range.filter(|place| bytes[*place] != 0 && is_missed(caller, part, size, place - start, *place, bytes[*place])) {
+            for place in range.filter(|place| bytes[*place] != 0 && is_missed(caller, letter, part, size, place - start, *place, bytes[*place])) {
                 seen.to_mut()[place] = 0;
             }
         }
@@ -108,15 +118,16 @@ fn seen(caller: Caller, bytes: &[u8]) -> Option<Cow<'_, [u8]>> {
     Some(seen)
 }
 
-/// What a call does wrong beside its refusal by 7.
-fn spoil(caller: Caller, store: &mut [u8], part: &mut [u8], number: &mut u64) {
+/// What a call does wrong beside its refusal by 7: `number` is that of the refusal, `last` what stands behind its last pointer.
+fn spoil(caller: Caller, store: &mut [u8], part: &mut [u8], number: &mut u64, last: &mut u64) {
     match MADE.get() {
+        Four(by) if by == caller => *number = 4,
         PutToZero(by) if by == caller => {
             let places: Vec<usize> = Counts::read(store).into_iter().flat_map(|counts| counts.unused()).flatten().collect();
             places.into_iter().for_each(|place| store[place] = 0);
         }
         PartWritten(by) if by == caller => part[part.len() - 1] = 0,
-        NumberWritten(by) if by == caller => *number = 0,
+        NumberWritten(by) if by == caller => *last = 0,
         _ => {}
     }
 }
@@ -127,7 +138,10 @@ fn call(caller: Caller, call: Call, store: &mut [u8], part: &mut [u8], pointers:
     match held {
         Some(held) if call != Call::Write => store.copy_from_slice(&held.encode()),
         Some(_) => {}
-        None => spoil(caller, store, part, &mut answer[pointers]),
+        None => {
+            let (number, last) = answer.split_at_mut(1);
+            spoil(caller, store, part, &mut number[0], &mut last[pointers - 1]);
+        }
     }
     answer
 }
@@ -140,7 +154,7 @@ fn turns(part: &mut [u8], length: u64, turns: u64) -> dispatcher::Answer {
         return dispatcher::answer_of(&given);
     }
     let mut answer = dispatcher::refused(REFUSED_STORE);
-    spoil(Caller::Dispatch, part, &mut [], &mut answer.stopped);
+    spoil(Caller::Dispatch, part, &mut [], &mut answer.number, &mut answer.stopped);
     answer
 }
 

@@ -11,6 +11,8 @@
 #[allow(dead_code)]
 #[path = "../tests/calls.rs"]
 mod calls;
+#[path = "../tests/common.rs"]
+mod common;
 
 use calls::{proved, Call};
 use simulator::generator::{self, Draft, CROWD, ORDERS};
@@ -167,7 +169,7 @@ fn runs(files: &[Named]) -> Result<(), String> {
 /// Whether the last line is that of a finished run with as many in flight as 02 asks for.
 fn is_crowded(last: &str) -> bool {
     let mut columns = last.split(',');
-    columns.next() == Some("E") && columns.nth(2).is_some_and(|in_flight| in_flight.parse().is_ok_and(|count: u64| count >= FEWEST))
+    matches!(columns.next(), Some("E" | "F")) && columns.nth(2).is_some_and(|in_flight| in_flight.parse().is_ok_and(|count: u64| count >= FEWEST))
 }
 
 /// The time an event as more are in flight, all else alike.

@@ -12,6 +12,13 @@ node listed, on S the observer. The log does not name the sender of a report, so
 A K line is the second line of an event by which a node moves to another emitter: of an expired watch, or of the report of the emitter, which has a mark of
 its own. Its number, that of the listed nodes passed, stands at the mark where there is room, and in the words that a pointer on the mark shows. These name
 the emitter taken where the log shows it: the node leaves that one by its next move, or that one gets its O. An O is drawn from the move that sent it.
+
+A log ends in E, or in F where the time-out W is below H + D. Then a node may list one that is alive, which has no C
+line so far: a false listing. Its mark has a circle round it and a colour of its own, and words say that the node listed
+is alive. At the mark and in the lists at the end a live node has an exclamation mark, as !3; at the end one that has
+crashed since has none. The share of a list that live nodes make up has a colour, too. The picture says how many false
+listings there are, when the first is, and which live nodes are listed at the end. Where any is, no line says that all
+know. A log that ends in E and has a false listing is not drawn, as no rehearsal writes it.
 """
 import contextlib
 import os
@@ -26,18 +33,20 @@ Event = namedtuple("Event", "line letter tick node other list passed", defaults=
 NUMBER = "(0|[1-9][0-9]{0,6})"
 LOG_LINE = re.compile(f"([A-Z]),{NUMBER},{NUMBER},{NUMBER},([0-9a-f]{{16}})")
 REFUSAL = re.compile(f"{NUMBER},{NUMBER}")
-LETTERS = "CHORXWSKE"
-START_LINE = re.compile(f"P,{NUMBER}(?:,{NUMBER}){{4}}")
+LETTERS = "CHORXWSKEF"
+LAST_LETTERS = "EF"
+START_LINE = re.compile("P" + 5 * f",{NUMBER}")
 RING_LINE = re.compile(f"Q(?:,{NUMBER})+")
 
-# The numbers of refusals in words. The rehearsal program answers with any of these but 7.
+# The numbers of refusals in words. The rehearsal program answers with any of these but 4 and 7.
 REFUSALS = {
     1: "the run file has no bytes, or more than 65,536",
     2: "the form of the line: its letter, the number of its fields, a digit, its line feed, or the order of the letters P, Q, C, L. Usual"
     " causes are a carriage return before the line feed, no line feed after the last line, a blank line, a space, a leading zero, and a"
     " byte order mark before the first line",
     3: "a number of the line is outside its range, or a node is not below N",
-    4: "the time-out W is below H + D, the heartbeat period and the longest delay together",
+    4: "the time-out W is below H + D, the heartbeat period and the longest delay together. Only earlier rehearsal"
+    " programs refuse that: rehearse the run file again",
     5: "the C lines do not rise by tick, then node, or the L lines by number; or a node crashes twice",
     6: "there are more than 2,048 L lines",
     7: "the store has another length, a field out of range, or an unused byte that is not zero",
@@ -52,6 +61,7 @@ LETTER_WIDTH = 6.8
 MOST_MARKS = 8000
 MOST_LABELS = 160
 MOST_LISTED = 6
+MOST_GROUPS = 6
 LEGEND_ROW = 24
 LISTS = "list at the end"
 
@@ -81,6 +91,13 @@ text { font-family: Helvetica, Arial, sans-serif; font-size: 13px; fill: #222222
 .bad { font-size: 12px; fill: #b0281a }
 .refused { stroke: #b0281a; stroke-width: 2.4 }
 """
+# Where there is a false listing.
+FALSE_STYLE = """.circle { fill: #ffffff; fill-opacity: 0.55; stroke: #9c1694; stroke-width: 2 }
+.watch-false { fill: #9c1694 }
+.report-false { fill: #9c1694; stroke: #9c1694; stroke-width: 1.2 }
+.share { fill: #c06bba }
+.alive { fill: #9c1694 }
+"""
 
 
 def fail(why):
@@ -103,7 +120,7 @@ def read_event(number, line):
     letter, tick, node, other = fields[1], int(fields[2]), int(fields[3]), int(fields[4])
     if letter not in LETTERS:
         fail(f"line {number} has the letter {letter}, which is not among those that this script knows, {' '.join(LETTERS)}")
-    most_node, most_other = (64, 2048) if letter == "E" else (63, 63)
+    most_node, most_other = (64, 2048) if letter in LAST_LETTERS else (63, 63)
     if tick > 1_000_000 or node > most_node or other > most_other:
         fail(f"line {number} has a number outside its range: {line!r}")
     return Event(number, letter, tick, node, other, int(fields[5], 16))
@@ -132,12 +149,12 @@ def read_lines(text):
 
 
 def read_log(text):
-    """The events, and the last line: E, or nothing where the log ends in a refused event."""
+    """The events, and the last line: E or F, or nothing where the log ends in a refused event."""
     lines, events = read_lines(text), []
     refused = lines[-1] == "8,0"
     for line in [read_event(number, line) for number, line in enumerate(lines[: len(lines) - refused], 1)]:
         before = events[-1] if events else line
-        if line.letter == "E" and line.line < len(lines):
+        if line.letter in LAST_LETTERS and line.line < len(lines):
             fail(f"line {line.line} is the last of a log, but line {line.line + 1} follows it")
         if line.tick < before.tick:
             fail(f"line {line.line} has an earlier tick than the line before it")
@@ -145,8 +162,8 @@ def read_log(text):
             events[-1:] = [moved(before, line)]
         else:
             events.append(line)
-    if not refused and events[-1].letter != "E":
-        fail(f"the log ends before its last line: after line {len(lines)} there is neither E nor 8,0")
+    if not refused and events[-1].letter not in LAST_LETTERS:
+        fail(f"the log ends before its last line: after line {len(lines)} there is neither E, F nor 8,0")
     for event in events:
         if event.letter == "W" and not event.passed:
             fail(f"line {event.line}, a W line, has no K line after it: the log is from before K lines, or one is missing")
@@ -154,14 +171,39 @@ def read_log(text):
         return events, None
     if members(events[-1].list) != sorted(event.node for event in events if event.letter == "C"):
         fail("the last line's crashed nodes are not those of the C lines: the log's beginning may be missing")
+    listing = events[-1].letter == "E" and first_false(events[:-1])
+    if listing:
+        fail(f"{listing}, but in a log that ends in E no live node is listed")
     return events[:-1], events[-1]
+
+
+def first_false(events):
+    """In words, the first event by which a live node is listed, or nothing."""
+    for event, _, alive in grown(events):
+        if alive:
+            return f"by line {event.line} of the log node {event.node} lists {alive_in_words(alive)}"
+    return None
 
 
 def not_its_run_file(why):
     fail(f"nothing is drawn, as the run file is not that of the log: {why}")
 
 
-def read_ring(text, nodes):
+def check_time_out(start, events, last):
+    """A log with a false listing or an F is that of a file with W below H + D, one with an E is that of another."""
+    _, period, time_out, delay, _ = map(int, start.groups())
+    if time_out < period + delay:
+        if last and last.letter == "E":
+            not_its_run_file("by its P line W is below H + D, but the log ends in E")
+        return
+    if last and last.letter == "F":
+        not_its_run_file("by its P line W is not below H + D, but the log ends in F")
+    listing = first_false(events)
+    if listing:
+        not_its_run_file(f"by its P line W is not below H + D, but {listing}")
+
+
+def read_ring(text, nodes, events, last):
     """The nodes in the ring's order, by the first two lines of a run file."""
     first, second, *_ = [*text.split("\n"), ""]
     start = START_LINE.fullmatch(first)
@@ -169,6 +211,7 @@ def read_ring(text, nodes):
         not_its_run_file(f"it has no P line, but begins with {first[:40]!r}")
     if int(start[1]) != nodes:
         not_its_run_file(f"it has N = {start[1]}, but the nodes of the log are {nodes}")
+    check_time_out(start, events, last)
     in_number_order = list(range(nodes))
     if second[:1] != "Q":
         return in_number_order
@@ -217,14 +260,36 @@ def spelled(nodes):
     return ("node " if len(nodes) == 1 else "nodes ") + ", ".join(parts)
 
 
+def alive_in_words(nodes):
+    return f"{spelled(nodes)}, which {'is' if len(nodes) == 1 else 'are'} alive"
+
+
 def grown(events):
-    """The events after which the node's list is longer, with what is new in it."""
-    lists = {}
+    """The events after which a node's list has more in it, with what is new: nodes crashed by then, and live ones."""
+    lists, crashed = {}, 0
     for event in events:
+        crashed |= (event.letter == "C") << event.node
         new = event.list & ~lists.get(event.node, 0)
         lists[event.node] = event.list
         if new:
-            yield event, members(new)
+            yield event, members(new & crashed), members(new & ~crashed)
+
+
+def shares(events):
+    """For each node, while it lives, when its list changes or a node in it crashes: the tick, and how many crashed
+    nodes and how many live ones the list holds."""
+    lists, crashed, steps = {}, 0, {}
+    for event in events:
+        if event.letter != "C" and event.list == lists.get(event.node, 0):
+            continue
+        crashed |= (event.letter == "C") << event.node
+        lists[event.node] = event.list
+        for node in lists if event.letter == "C" else [event.node]:
+            counts = len(members(lists[node] & crashed)), len(members(lists[node] & ~crashed))
+            before = steps.get(node, [(0, 0, 0)])[-1][1:]
+            if counts != before and not crashed >> node & 1:
+                steps.setdefault(node, []).append((event.tick, *counts))
+    return steps
 
 
 def last_lists(nodes, events):
@@ -234,19 +299,22 @@ def last_lists(nodes, events):
 
 
 def knowledge(nodes, events):
-    """The tick from which, until the end, all survivors list all crashed nodes, or nothing; and what each survivor lacks at the end."""
-    lists, crashed, since, lacking = [0] * nodes, 0, 0, {}
+    """The tick from which, until the end, all survivors list all crashed nodes and no live one, or nothing; and for
+    each survivor what it lacks at the end, and which live nodes it lists then."""
+    lists, crashed, since, lacking, wrong = [0] * nodes, 0, 0, {}, {}
     for event in events:
         if event.letter != "C" and event.list == lists[event.node]:
             continue
         lists[event.node] = event.list
         crashed |= (event.letter == "C") << event.node
-        lacking = {node: crashed & ~lists[node] for node in range(nodes) if not crashed >> node & 1 and crashed & ~lists[node]}
-        if lacking:
+        survivors = [node for node in range(nodes) if not crashed >> node & 1]
+        lacking = {node: crashed & ~lists[node] for node in survivors if crashed & ~lists[node]}
+        wrong = {node: lists[node] & ~crashed for node in survivors if lists[node] & ~crashed}
+        if lacking or wrong:
             since = None
         elif since is None:
             since = event.tick
-    return since, lacking
+    return since, lacking, wrong
 
 
 # ---- moves
@@ -276,7 +344,7 @@ class Picture:
             fail(f"the log names node {named - 1}, but its last line counts {self.nodes} nodes")
         self.ring = list(range(self.nodes))
         if run_file is not None:
-            self.ring = read_ring(run_file, self.nodes)
+            self.ring = read_ring(run_file, self.nodes, events, last)
             check_ring(self.ring, events)
         self.rows = {node: row for row, node in enumerate(self.ring)}
         self.end = last.tick if last else events[-1].tick
@@ -285,15 +353,23 @@ class Picture:
         self.row = 44 if self.nodes <= 12 else 28 if self.nodes <= 32 else 22
         self.crashes = {event.node: event.tick for event in events if event.letter == "C"}
         self.moves = moves(events)
+        self.news = {event: (dead, alive) for event, dead, alive in grown(events)}
+        self.false = {event: alive for event, (_, alive) in self.news.items() if alive}
         self.last_words = [self.at_end(node, members(dead)) for node, dead in enumerate(last_lists(self.nodes, events))]
-        longest = max(len(words) for words in [LISTS, *self.last_words])
-        self.right = round(max(self.x(self.end) + 10 + LETTER_WIDTH * longest, LEFT + NARROWEST))
+        longest = max(len(words) for words in [LISTS, *(words for words, _ in self.last_words)])
+        self.after_end = self.x(self.end) + (16 if self.false else 10)
+        self.right = round(max(self.after_end + LETTER_WIDTH * longest, LEFT + NARROWEST))
         self.elements = []
 
     def at_end(self, node, held):
+        """What a row comes to, in words, and the class of these."""
         if node in self.crashes:
-            return f"crashed at {self.crashes[node]}"
-        return "{" + ", ".join(map(str, held)) + "}" if len(held) <= MOST_LISTED else f"{len(held)} nodes"
+            return f"crashed at {self.crashes[node]}", "small faint"
+        alive = [other for other in held if other not in self.crashes]
+        kind = "small alive" if alive else "small"
+        if len(held) > MOST_LISTED:
+            return f"{len(held)} nodes" + f", {len(alive)} alive" * bool(alive), kind
+        return "{" + ", ".join("!" * (other in alive) + str(other) for other in held) + "}", kind
 
     def x(self, tick):
         return round(LEFT + tick * self.scale, 1)
@@ -315,6 +391,10 @@ class Picture:
         title = f"<title>{told}</title>" if told else ""
         self.elements.append(f'<path class="{kind}" d="{path}">{title}</path>')
 
+    def circle(self, x, y, told=None):
+        title = f"<title>{told}</title>" if told else ""
+        self.elements.append(f'<circle class="circle" cx="{x:g}" cy="{y:g}" r="9">{title}</circle>')
+
     def text(self, x, y, words, kind, anchor="start"):
         self.elements.append(f'<text class="{kind}" x="{x:g}" y="{y:g}" text-anchor="{anchor}">{words}</text>')
 
@@ -334,11 +414,11 @@ class Picture:
     def diamond(self, kind, x, y, told=None):
         self.shape(kind, [(x, y - 4.5), (x + 4.5, y), (x, y + 4.5), (x - 4.5, y)], told)
 
-    def expired(self, x, y, told=None):
-        self.shape("watch", [(x - 6, y - 7), (x + 6, y - 7), (x, y + 4)], told)
+    def expired(self, x, y, told=None, kind="watch"):
+        self.shape(kind, [(x - 6, y - 7), (x + 6, y - 7), (x, y + 4)], told)
 
-    def reported(self, x, y, told=None):
-        self.shape("report", [(x - 6, y + 4), (x + 6, y + 4), (x, y - 7)], told)
+    def reported(self, x, y, told=None, kind="report"):
+        self.shape(kind, [(x - 6, y + 4), (x + 6, y + 4), (x, y - 7)], told)
 
     def arrow(self, x1, y1, x2, y2):
         length = max(((x2 - x1) ** 2 + (y2 - y1) ** 2) ** 0.5, 1)
@@ -383,18 +463,19 @@ def draw_rows(picture):
 
 
 def draw_lists(picture):
-    """A step under the row for each list, as high as the share of the nodes that it holds."""
-    steps = {}
-    for event, _ in grown(picture.events):
-        steps.setdefault(event.node, []).append((event.tick, bin(event.list).count("1")))
-    for node, changes in steps.items():
+    """A step under the row for each list, as high as the share of the nodes that it holds. The lower part of it is that
+    of live nodes."""
+    for node, changes in shares(picture.events).items():
         until = picture.crashes.get(node, picture.end)
-        ends = [tick for tick, _ in changes[1:]] + [until]
-        for (tick, count), end in zip(changes, ends):
-            height = round(max(2, (picture.row / 2 - 2) * count / picture.nodes), 1)
-            if end > tick:
-                width = picture.x(end) - picture.x(tick)
-                picture.rect("listed", picture.x(tick), picture.y(node) + 1, round(width, 1), height)
+        ends = [tick for tick, *_ in changes[1:]] + [until]
+        for (tick, dead, alive), end in zip(changes, ends):
+            height = round(max(2, (picture.row / 2 - 2) * (dead + alive) / picture.nodes), 1)
+            if end > tick and dead + alive:
+                x, y, width = picture.x(tick), picture.y(node) + 1, round(picture.x(end) - picture.x(tick), 1)
+                picture.rect("listed", x, y, width, height)
+                if alive:
+                    part = round(height * alive / (dead + alive), 1)
+                    picture.rect("share", x, round(y + height - part, 1), width, part)
 
 
 def thinned(picture, events):
@@ -430,18 +511,38 @@ def draw_observers(picture):
             picture.arrow(picture.x(sent.tick), picture.y(event.other), picture.x(event.tick), picture.y(event.node))
 
 
-def report_in_words(event):
-    return f"tick {event.tick}: node {event.node} gets the report of node {event.other}"
+def draw_circles(picture):
+    """A circle for each false listing, round the mark of its event. That of a heartbeat has words of its own."""
+    for event in picture.false:
+        told = None if event.letter in "WR" else heartbeat_in_words(event, *picture.news[event])
+        picture.circle(picture.x(event.tick), picture.y(event.node) - 1.5 * bool(event.passed), told)
+
+
+def heartbeat_in_words(event, dead, alive):
+    listed = " and ".join([spelled(dead)] * bool(dead) + [alive_in_words(alive)])
+    gets = f"node {event.node} gets the heartbeat of node {event.other}"
+    return f"tick {event.tick}: {gets}, and by its list it lists {listed}"
+
+
+def report_in_words(picture, event):
+    its_emitter = ", its emitter" * bool(event.passed)
+    lists_it = ", which is alive, and lists it" * (event in picture.false)
+    return f"tick {event.tick}: node {event.node} gets the report of node {event.other}{its_emitter}{lists_it}"
 
 
 def draw_reports(picture):
     """Those by which no emitter is left."""
-    news = {event for event, _ in grown(picture.events)}
     reports = [event for event in picture.events if event.letter == "R" and not event.passed]
-    kept, thin = thinned(picture, [event for event in reports if event not in news])
-    for event in kept + [event for event in reports if event in news]:
-        picture.diamond("report" if event in news else "known", picture.x(event.tick), picture.y(event.node), report_in_words(event))
+    kept, thin = thinned(picture, [event for event in reports if event not in picture.news])
+    for event in kept + [event for event in reports if event in picture.news]:
+        kind = "report-false" if event in picture.false else "report" if event in picture.news else "known"
+        picture.diamond(kind, picture.x(event.tick), picture.y(event.node), report_in_words(picture, event))
     return thin
+
+
+def watch_in_words(event, false):
+    late = "which is alive but whose heartbeat did not come in time" if false else "whose heartbeat did not come"
+    return f"tick {event.tick}: node {event.node} lists node {event.other}, {late}"
 
 
 def draw_moves_and_crashes(picture):
@@ -455,70 +556,112 @@ def draw_moves_and_crashes(picture):
             alone = len(members(event.list)) == picture.nodes - 1
             where = "is alone" if alone else taken.get(event, "moves on")
             told = f"{where}, passing {event.passed} listed node{'s' * (event.passed > 1)}"
+            false = "-false" * (event in picture.false)
             if event.letter == "W":
-                picture.expired(x, y, f"tick {event.tick}: node {event.node} lists node {event.other}, whose heartbeat did not come, and {told}")
+                picture.expired(x, y, f"{watch_in_words(event, false)}, and {told}", "watch" + false)
             else:
                 by_report = True
-                picture.reported(x, y, f"{report_in_words(event)}, its emitter, and {told}")
+                picture.reported(x, y, f"{report_in_words(picture, event)}, and {told}", "report" + false)
     return by_report
+
+
+def label(event, dead, alive, few):
+    """The words of a label: crashed nodes and live ones that are new, where changes are few, and a move's number."""
+    names = [(sign, ",".join(map(str, nodes))) for sign, nodes in [("+", dead), ("!", alive)] if few and nodes]
+    return [sign + nodes for sign, nodes in names] + [f"K{event.passed}"] * bool(event.passed)
 
 
 def draw_labels(picture):
     """Right of a mark, at the end left of it: what is new in a list, and at a move the number of its K line. Moves come first where there is not room for
-    all. Answers the legend's words about lists and numbers."""
-    changes, held, drawn = list(grown(picture.events)), {}, []
-    few = len(changes) <= MOST_LABELS
-    labels = [(event, few * ["+" + ",".join(map(str, new))] + [f"K{event.passed}"] * bool(event.passed)) for event, new in changes if few or event.passed]
-    for event, words in sorted(labels, key=lambda label: not label[0].passed):
+    all. Answers the legend's words about the labels, by their first letters, and whether a live node is in one."""
+    held, drawn, few = {}, [], len(picture.news) <= MOST_LABELS
+    labels = [(event, label(event, *new, few)) for event, new in picture.news.items() if few or event.passed]
+    for event, words in sorted(labels, key=lambda one: not one[0].passed):
         x, room = picture.x(event.tick), 8 + 8 * len(" ".join(words))
         left = x + 8 if x + room <= picture.x(picture.end) else x - room
         beside = held.setdefault(event.node, [])
         if left >= LEFT and all(left >= until or left + room <= since for since, until in beside):
-            picture.text(left, picture.y(event.node) - 7, " ".join(words), "new")
+            kind = "new alive" if few and event in picture.false else "new"
+            picture.text(left, picture.y(event.node) - 7, " ".join(words), kind)
             beside.append((left, left + room))
-            drawn.append(event)
-    room = ", where there is room" * (len(drawn) < len(labels))
-    numbered = "K, move: 2 listed nodes passed, the emitter left included" + room
-    return f"; +3: node 3 is new in the list{room}" if few and drawn else "", numbered if any(event.passed for event in drawn) else ""
+            drawn.append(words)
+    signs, room = {word[0] for words in drawn for word in words}, ", where there is room" * (len(drawn) < len(labels))
+    told = {"+": "; +3: node 3 is new in the list", "K": "K, move: 2 listed nodes passed, the emitter left included"}
+    return {sign: (words + room) * (sign in signs) for sign, words in told.items()}, "!" in signs
 
 
 def draw_end(picture):
-    """What each row comes to, and the last line's words under the rows."""
+    """What each row comes to, and the last line's words under the rows. Answers whether a live node is named."""
     x, last, y = picture.x(picture.end), picture.last, picture.bottom() + 22
-    picture.text(x + 10, TOP - 38, LISTS, "small faint")
-    for node, words in enumerate(picture.last_words):
-        picture.text(x + 10, picture.y(node) + 4, words, "small faint" if node in picture.crashes else "small")
+    picture.text(picture.after_end, TOP - 38, LISTS, "small faint")
+    for node, (words, kind) in enumerate(picture.last_words):
+        picture.text(picture.after_end, picture.y(node) + 4, words, kind)
     if last:
         picture.line("end", x, TOP - 6, x, picture.bottom() + 6)
         words = f"end of tick {last.tick}: {last.node} survivor{'' if last.node == 1 else 's'}, {last.other} in flight"
+        words += "; F: the time-out W is below H + D" * (last.letter == "F")
         picture.text(LEFT, y, words, "small")
     else:
         picture.line("refused", x, TOP - 6, x, picture.bottom() + 6)
         picture.paragraph(y, f"Refused by 8 in tick {picture.end} or later: {REFUSALS[8]}.", "bad")
+    return any("!" in words for words, _ in picture.last_words)
 
 
-def draw_knowledge(picture, since, lacking):
-    """The tick from which all survivors list all crashed nodes, as a line with a label. Else words for the legend: who lacks whom."""
-    if not picture.crashes:
-        return "No node crashes."
-    if len(picture.crashes) == picture.nodes:
-        return "No node survives."
-    if lacking:
-        who = {}
-        for node, lacks in lacking.items():
-            who.setdefault(lacks, []).append(node)
-        said = [f"{spelled(nodes)} {'lacks' if len(nodes) == 1 else 'lack'} {spelled(members(lacks))}" for lacks, nodes in who.items()]
-        return "At the end " + "; ".join(said) + "."
+def draw_knowledge(picture, since):
+    """The tick from which all survivors list all crashed nodes and no live one, as a line with a label. Answers whether
+    there is one."""
+    if since is None or not 0 < len(picture.crashes) < picture.nodes:
+        return False
     words, x = f"all know from tick {since}", picture.x(since)
     half = LETTER_WIDTH * len(words) / 2 + 8
     picture.line("all", x, TOP - 32, x, picture.bottom() + 6)
     picture.text(max(LEFT + half, min(x, picture.x(picture.end) - half)), TOP - 38, words, "good", "middle")
-    return ""
+    return True
 
 
-def draw_legend(picture, lacks, by_report, labelled, numbered, thin):
-    """Who lacks whom, the marks with their meaning, and a note. Answers where the picture ends."""
-    y = picture.paragraph(picture.bottom() + 46, lacks, "bad" if lacks.startswith("At") else "small") + (4 if lacks else 0)
+def grouped(lists):
+    """The lists of nodes, each as its members and the nodes that have it."""
+    who = {}
+    for node, held in lists.items():
+        who.setdefault(held, []).append(node)
+    return [(members(held), nodes) for held, nodes in who.items()]
+
+
+def lacks_in_words(lacking):
+    groups = grouped(lacking)
+    said = [f"{spelled(who)} {'lacks' if len(who) == 1 else 'lack'} {spelled(lacks)}" for lacks, who in groups]
+    return "At the end " + "; ".join(said) + "."
+
+
+def false_in_words(picture, wrong):
+    """How many false listings there are, when the first is, and which live nodes are listed at the end, by whom."""
+    count, first = len(picture.false), next(iter(picture.false)).tick
+    words = f"{count} false listing{'s' * (count > 1)}, the first in tick {first}"
+    words += "." if picture.last else ", so the time-out W is below H + D."
+    if not wrong:
+        return words + " At the end no survivor lists a live node."
+    groups = grouped(wrong)
+    if len(groups) > MOST_GROUPS:
+        return f"{words} At the end {len(wrong)} of {picture.nodes - len(picture.crashes)} survivors list live nodes."
+    said = [f"{spelled(alive)} by {spelled(nodes)}" for alive, nodes in groups]
+    return f"{words} At the end live nodes are listed: {'; '.join(said)}."
+
+
+def ending_in_words(picture, lacking, wrong):
+    """What the lists come to, and the class of these words."""
+    words = []
+    if len(picture.crashes) in (0, picture.nodes):
+        words.append("No node survives." if picture.crashes else "No node crashes.")
+    if picture.false:
+        words.append(false_in_words(picture, wrong))
+    if lacking:
+        words.append(lacks_in_words(lacking))
+    return " ".join(words), "bad" if picture.false or lacking else "small"
+
+
+def draw_legend(picture, ending, known, by_report, labels, named, thin):
+    """What the lists come to, the marks with their meaning, and a note. Answers where the picture ends."""
+    y = picture.paragraph(picture.bottom() + 46, *ending) + (4 if ending[0] else 0)
     entries = [
         (lambda x, y: picture.cross("crash", x, y, 6), "C, crash"),
         (lambda x, y: picture.line("sent", x, y - 6, x, y + 4), "S, heartbeat sent"),
@@ -528,14 +671,19 @@ def draw_legend(picture, lacks, by_report, labelled, numbered, thin):
         (lambda x, y: picture.arrow(x - 10, y, x + 8, y), "O, from the new observer to its emitter"),
         (lambda x, y: picture.diamond("report", x, y), "R, report that adds its subject"),
         (lambda x, y: picture.diamond("known", x, y), "R of a node listed before"),
-        (lambda x, y: picture.rect("listed", x - 8, y - 4, 16, 8), "share of the nodes listed" + labelled),
+        (lambda x, y: picture.rect("listed", x - 8, y - 4, 16, 8), "share of the nodes listed" + labels["+"]),
     ]
     if by_report:
         entries.insert(-1, (lambda x, y: picture.reported(x, y + 1), "R of the emitter, which is left at once"))
-    if numbered:
-        entries.insert(-1, (lambda x, y: picture.text(x, y + 4, "K2", "new", "middle"), numbered))
-    if picture.crashes and not lacks:
-        entries.append((lambda x, y: picture.line("all", x - 9, y, x + 9, y), "from here all survivors list all crashed nodes"))
+    if labels["K"]:
+        entries.insert(-1, (lambda x, y: picture.text(x, y + 4, "K2", "new", "middle"), labels["K"]))
+    if picture.false:
+        words = "round a W, R or H: false listing, of a node that is alive" + "; !3: node 3 is alive" * named
+        entries.append((lambda x, y: picture.rect("share", x - 8, y - 4, 16, 8), "share of live nodes listed"))
+        entries.append((lambda x, y: picture.circle(x, y), words))
+    if known:
+        words = "from here all survivors list all crashed nodes" + " and no live one" * bool(picture.false)
+        entries.append((lambda x, y: picture.line("all", x - 9, y, x + 9, y), words))
     x = LEFT
     for mark, words in entries:
         width = 38 + LETTER_WIDTH * len(words)
@@ -557,18 +705,22 @@ def draw(events, last, run_file):
     draw_grid(picture)
     draw_rows(picture)
     draw_lists(picture)
+    draw_circles(picture)
     thin = draw_heartbeats(picture)
-    lacks = draw_knowledge(picture, *knowledge(picture.nodes, events))
+    since, lacking, wrong = knowledge(picture.nodes, events)
+    known = draw_knowledge(picture, since)
     draw_ticks(picture)
     draw_observers(picture)
     thin = draw_reports(picture) or thin
     by_report = draw_moves_and_crashes(picture)
-    labelled, numbered = draw_labels(picture)
-    draw_end(picture)
-    width, height = picture.right + 8, draw_legend(picture, lacks, by_report, labelled, numbered, thin)
+    labels, named = draw_labels(picture)
+    named = draw_end(picture) or named
+    ending = ending_in_words(picture, lacking, wrong)
+    width, height = picture.right + 8, draw_legend(picture, ending, known, by_report, labels, named, thin)
     head = f'<svg xmlns="http://www.w3.org/2000/svg" width="{width:g}" height="{height:g}" viewBox="0 0 {width:g} {height:g}">'
     ground = f'<rect fill="#ffffff" x="0" y="0" width="{width:g}" height="{height:g}"/>'
-    return "\n".join([head, f"<style>{STYLE}</style>", ground, *picture.elements, "</svg>"]) + "\n"
+    style = STYLE + FALSE_STYLE * bool(picture.false)
+    return "\n".join([head, f"<style>{style}</style>", ground, *picture.elements, "</svg>"]) + "\n"
 
 
 # ---- files

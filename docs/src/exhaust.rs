@@ -820,7 +820,10 @@ impl Search {
 
 #[cfg(test)]
 mod tests {
-    use super::super::platform::{Platform, Step};
+    use super::super::falsely::{self, Falsely};
+    use super::super::log::Line;
+    use super::super::plan;
+    use super::super::platform::{self, Platform, Step};
     use super::super::queue::Message;
     use super::*;
 
@@ -957,17 +960,45 @@ mod tests {
         assert!(outcome.closed.is_some() && outcome.states > 300);
     }
 
-    /// The run that is found lists a live node at that tick by the platform's events too.
+    /// The run that is found, written as a run file whose L lines give its delays, is accepted. By the platform's events it lists a live node
+    /// at that tick and not before, its log has that line and ends in F.
     #[test]
     fn a_time_out_one_tick_short_lists_a_live_node() {
+        for search in [SMALL, shuffled(), Search { period: 3, timeout: 5, delay: 3, ..SMALL }] {
+            let timeout = search.period + search.delay - 1;
+            let found = Search { timeout, ..search }.explore().found.expect("a live node is listed");
+            assert_eq!((found.finding, found.tick), (Finding::LiveNodeListed, timeout));
+            let file = found.plan.bytes();
+            assert!(file.windows(3).any(|part| part == b"\nL,"), "{}", String::from_utf8_lossy(&file));
+            let (plan, mut log) = (plan::read(&file).expect("the file is accepted"), Vec::new());
+            assert_eq!(plan, found.plan);
+            platform::rehearse(plan.clone(), &mut log).expect("a vector takes every byte");
+            let mut platform = Platform::open(plan);
+            let line = loop {
+                let Step::Event(event) = platform.step() else { panic!("no live node is listed") };
+                if !settle::no_live_node_listed(platform.nodes()) {
+                    break event.line;
+                }
+            };
+            assert_eq!((line.letter, line.tick), (b'W', u64::from(found.tick)));
+            assert!(line.list & !platform.crashed() != 0);
+            let lines: Vec<Line> = log.split_inclusive(|byte| *byte == b'\n').map(|line| Line::read(line).expect("it is a line")).collect();
+            assert_eq!(lines.iter().filter(|other| **other == line).count(), 1);
+            assert_eq!(lines.last().map(|line| (line.letter, line.tick)), Some((b'F', u64::from(search.end))));
+            assert_eq!(falsely::of_lines(lines).first, Some(u64::from(found.tick)));
+        }
+    }
+
+    /// With W = H + D the same delays list nobody, and the run ends in E.
+    #[test]
+    fn a_time_out_of_h_and_d_lists_no_live_node() {
         for search in [SMALL, shuffled()] {
-            let found = Search { timeout: 2, ..search }.explore().found.expect("a live node is listed");
-            assert_eq!((found.finding, found.tick), (Finding::LiveNodeListed, 2));
-            let mut platform = Platform::open(found.plan);
-            while settle::no_live_node_listed(platform.nodes()) {
-                assert!(matches!(platform.step(), Step::Event(_)));
-            }
-            assert_eq!(platform.last_tick(), found.tick);
+            let enough = search.period + search.delay;
+            let found = Search { timeout: enough - 1, ..search }.explore().found.expect("a live node is listed");
+            let (plan, mut log) = (Plan { timeout: enough, ..found.plan }, Vec::new());
+            platform::rehearse(plan.clone(), &mut log).expect("a vector takes every byte");
+            assert_eq!(falsely::of_log(&log), Ok(Falsely::NONE));
+            assert!(log.windows(3).any(|part| part == b"\nE,") && !log.windows(3).any(|part| part == b"\nF,"));
         }
     }
 

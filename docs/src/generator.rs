@@ -1,4 +1,5 @@
-//! A seeded generator of run files, good and damaged. A file depends on its seed and index alone.
+//! A seeded generator of run files, good and damaged. A file depends on its seed and index alone. Of the good files of every kind about a
+//! third has W below H + D.
 //!
 //! `file(seed, index, size)` gives the bytes of one file, `plan(seed, index)` an undamaged one, `spaced_plan(seed, index)` one whose
 //! crashes are all spaced by S, `reported_plan(seed, index, size)` one in which a report of the emitter may well move a node,
@@ -184,9 +185,19 @@ fn open_draft(random: &mut Random, size: Size) -> Draft {
         1 => random.range(0, most_end),
         _ => most_end,
     };
-    let timeout = period + delay + above;
+    let timeout = some_timeout(random, period, delay, above);
     let order = some_order(random, nodes);
     Draft { nodes, period, timeout, delay, end, order, crashes: Vec::new(), delays: Vec::new() }
+}
+
+/// A third of the time W is below H + D: by one tick or two, of any length, H, or as short as can be. Else it is so many ticks above.
+fn some_timeout(random: &mut Random, period: u64, delay: u64, above: u64) -> u64 {
+    let enough = period + delay;
+    if !random.chance(3) {
+        return enough + above;
+    }
+    let any = random.range(1, enough - 1);
+    random.pick(&[enough - 1, enough - 1, enough - 1, (enough - 2).max(1), any, any, period, 1])
 }
 
 /// Half of the time none. Else mostly any order, or one that a planner would write: that of the numbers, rotated or
@@ -212,14 +223,15 @@ pub fn some_order(random: &mut Random, nodes: u64) -> Vec<u64> {
     order
 }
 
-/// A plan whose heartbeats alone bring about 2,048 messages into flight.
+/// A plan whose heartbeats alone bring about 2,048 messages into flight, where a short W does not before.
 fn crowded_draft(random: &mut Random) -> Draft {
     let uneven = random.range(32, 64);
     let nodes = random.pick(&[32, 64, 64, uneven]);
     let period = random.range(1, 3);
     let delay = 2_048 * period / nodes + random.pick(&[0, 0, 1]);
-    let timeout = period + delay + random.pick(&[0, 0, 1, 20]);
-    let end = 2 * timeout + random.range(0, 60);
+    let above = random.pick(&[0, 0, 1, 20]);
+    let timeout = some_timeout(random, period, delay, above);
+    let end = 2 * timeout.max(period + delay) + random.range(0, 60);
     let order = some_order(random, nodes);
     let mut draft = Draft { nodes, period, timeout, delay, end, order, crashes: Vec::new(), delays: Vec::new() };
     if random.chance(2) {
@@ -242,7 +254,7 @@ fn crowded_draft(random: &mut Random) -> Draft {
 ///   it there.
 ///
 /// How long the report takes goes by D and by the number of relays, which N decides; how long the watches take goes by W. So D is
-/// large against H, W hardly above H + D, and N mostly one that takes many relays.
+/// large against H, W hardly above H + D, unless it is short, and N mostly one that takes many relays.
 fn reported_draft(random: &mut Random, size: Size) -> Draft {
     let usual_nodes = [10, 14, 16, 17, 28, 29, 33];
     let (usual_nodes, most_nodes, most_periods) = if size.crowded { (&usual_nodes[..], 34, 10) } else { (&usual_nodes[..4], 18, 5) };
@@ -250,14 +262,15 @@ fn reported_draft(random: &mut Random, size: Size) -> Draft {
     let nodes = if random.chance(4) { random.range(10, most_nodes) } else { random.pick(usual_nodes) };
     let period = random.range(1, 3);
     let delay = period * random.range(4, most_periods);
-    let timeout = period + delay + random.pick(&[0, 0, 0, 1]);
+    let above = random.pick(&[0, 0, 0, 1]);
+    let timeout = some_timeout(random, period, delay, above);
     let at_second = (2 * gap as u64 - 1) * timeout;
     let end = at_second + random.range(3, 5) * timeout;
     let order = some_order(random, nodes);
     let mut draft = Draft { nodes, period, timeout, delay, end, order, crashes: Vec::new(), delays: Vec::new() };
     let mut row = draft.ring();
     row.rotate_left(random.below(nodes) as usize);
-    let reported = at_second + delay - random.range(delay / 4, 3 * delay / 2);
+    let reported = (at_second + delay).saturating_sub(random.range(delay / 4, 3 * delay / 2));
     let first_dies = reported.saturating_sub(timeout + delay);
     let mut rows = vec![(first_dies, row[0]), (reported + random.range(1, delay / 2), row[1])];
     rows.extend(row[2..].iter().take(gap).map(|node| (random.range(0, period), *node)));
@@ -278,7 +291,8 @@ fn tripped_draft(random: &mut Random, size: Size) -> Draft {
     let period = random.range(1, most_period);
     let most_delay = if nodes > 18 { period.div_ceil(2) } else { 2 * period };
     let delay = random.range(1, most_delay);
-    let timeout = period + delay + random.pick(&[0, 0, 0, 1, period / 2]);
+    let above = random.pick(&[0, 0, 0, 1, period / 2]);
+    let timeout = some_timeout(random, period, delay, above);
     let order = some_order(random, nodes);
     let mut draft = Draft { nodes, period, timeout, delay, end: u64::MAX, order, crashes: Vec::new(), delays: Vec::new() };
     crash_groups(random, &mut draft);
@@ -418,7 +432,7 @@ fn runs_long(bytes: &[u8], most_events: u64) -> bool {
 }
 
 fn damage_once(random: &mut Random, bytes: &mut Vec<u8>) {
-    match random.range(0, 15) {
+    match random.range(0, 16) {
         0 => change_byte(random, bytes),
         1 => drop_byte(random, bytes),
         2 => add_byte(random, bytes),
@@ -431,6 +445,7 @@ fn damage_once(random: &mut Random, bytes: &mut Vec<u8>) {
         9 | 11 => add_rows(random, bytes),
         10 => bytes.truncate(random.range(0, bytes.len() as u64) as usize),
         12 => drop_line(random, bytes),
+        13 => change_timeout(random, bytes),
         _ => damage_order(random, bytes),
     }
 }
@@ -506,6 +521,21 @@ fn drop_line(random: &mut Random, bytes: &mut Vec<u8>) {
     with_lines(bytes, |lines| {
         let place = some_line(random, lines);
         lines.remove(place);
+    });
+}
+
+/// Puts another W into the first line: one that is out of range, the least or the greatest, or one tick shorter than H + D, or H + D.
+fn change_timeout(random: &mut Random, bytes: &mut Vec<u8>) {
+    with_lines(bytes, |lines| {
+        let line = String::from_utf8_lossy(&lines[0]).into_owned();
+        let mut fields: Vec<String> = line.trim_end().split(',').map(str::to_string).collect();
+        let number = |place: usize| fields.get(place).and_then(|field| field.parse::<u16>().ok()).map_or(1, u64::from);
+        let enough = number(2) + number(4);
+        let timeout = random.pick(&[0, 0, 65_536, 65_536, 65_535, 1, enough.max(1) - 1, enough]);
+        if let Some(field) = fields.get_mut(3) {
+            *field = timeout.to_string();
+            lines[0] = (fields.join(",") + "\n").into_bytes();
+        }
     });
 }
 
@@ -646,20 +676,29 @@ mod tests {
         files.filter(|file| moves(file.clone())).count()
     }
 
-    /// Of the files that are made for it about a third moves a node by a report, with a Q line and without one, and of all
-    /// good files one in twenty.
+    fn is_short(file: &[u8]) -> bool {
+        plan::read(file).expect("the file is accepted").short_timeout()
+    }
+
+    /// Of the files that are made for it and have W at least H + D about a third moves a node by a report, with a Q line and without one, and
+    /// of all such good files one in twenty. Where W is shorter, live nodes are reported, and most files move one.
     #[test]
     fn reports_of_the_emitter_move_nodes() {
         for size in [USUAL, SMALL] {
-            let (ordered, plain): (Vec<_>, Vec<_>) =
-                (0..300).map(|index| reported_plan(102, index, size)).partition(|file| file.windows(3).any(|part| part == b"\nQ,"));
+            let (ordered, plain): (Vec<_>, Vec<_>) = (0..450)
+                .map(|index| reported_plan(102, index, size))
+                .filter(|file| !is_short(file))
+                .partition(|file| file.windows(3).any(|part| part == b"\nQ,"));
             for files in [ordered, plain] {
                 let (all, moving) = (files.len(), moving(files.into_iter()));
                 assert!(all > 100 && moving * 6 > all, "{moving} of {all} files made for it");
             }
         }
-        let moving = moving((0..600).map(|index| plan(102, index)));
-        assert!(moving > 15, "{moving} of 600 files");
+        let (short, enough): (Vec<_>, Vec<_>) = (0..900).map(|index| plan(102, index)).partition(|file| is_short(file));
+        let (all, all_short) = (enough.len(), short.len());
+        let [moving, moving_short] = [enough, short].map(|files| moving(files.into_iter()));
+        assert!(moving > 15, "{moving} of {all} files");
+        assert!(moving_short * 2 > all_short, "{moving_short} of {all_short} files with a short W");
     }
 
     /// Several crashes, and an end tick soon after the one from whose end on survivors are joined.
@@ -670,15 +709,18 @@ mod tests {
         plan.crashes.len() > 1 && (joined..=joined + 3 * u64::from(plan.timeout)).contains(&u64::from(plan.end))
     }
 
-    /// Every power trip has an end tick by which survivors have to be joined, many one by which their lists have to be full. In many of them
+    /// Every power trip with W at least H + D has an end tick by which survivors have to be joined, many one by which their lists have to be full. In many of them
     /// neighbours in the ring crash at one tick, in some all nodes crash or all but one, in rings with a Q line and without; and of all good
     /// files one in ten is such.
     #[test]
     fn power_trips_come_up_in_every_way() {
         for size in [USUAL, SMALL] {
             let (mut together, mut apart, mut all, mut but_one, mut ordered, mut listed) = (0, 0, 0, 0, 0, 0);
-            for index in 0..400 {
+            for index in 0..600 {
                 let plan = plan::read(&tripped_plan(103, index, size)).expect("the file is accepted");
+                if plan.short_timeout() {
+                    continue;
+                }
                 let (ring, crashes, survivors) = (plan.ring(), &plan.crashes, usize::from(plan.nodes) - plan.crashes.len());
                 let row = |crash: &&plan::Crash| crashes.contains(&plan::Crash { node: ring.after(crash.node), ..**crash });
                 together += usize::from(crashes.iter().filter(row).count() > 0);
@@ -696,6 +738,78 @@ mod tests {
         }
         let trips = (0..400).filter(|index| ends_soon_after_joining(&plan(103, *index))).count();
         assert!(trips > 20, "{trips} of 400 files");
+    }
+
+    /// What kinds of W the good files have: one tick short of H + D, shorter, as short as can be, and H + D or more.
+    #[derive(Default, Debug)]
+    struct Timeouts {
+        one_short: u64,
+        shorter: u64,
+        least: u64,
+        enough: u64,
+    }
+
+    impl Timeouts {
+        fn of(files: impl Iterator<Item = Vec<u8>>) -> Timeouts {
+            let mut timeouts = Timeouts::default();
+            for file in files {
+                let plan = plan::read(&file).expect("the file is accepted");
+                let count = match plan.period + plan.delay {
+                    enough if plan.timeout >= enough => &mut timeouts.enough,
+                    _ if plan.timeout == 1 => &mut timeouts.least,
+                    enough if plan.timeout == enough - 1 => &mut timeouts.one_short,
+                    _ => &mut timeouts.shorter,
+                };
+                *count += 1;
+            }
+            timeouts
+        }
+    }
+
+    /// Of good files of every kind, with a Q line and without one, about a third has W below H + D: some by one tick, some with W 1, some
+    /// in between.
+    #[test]
+    fn a_third_of_the_good_files_have_a_short_timeout() {
+        let kinds: [fn(u64) -> Vec<u8>; 6] = [
+            |index| plan(109, index),
+            |index| spaced_plan(109, index),
+            |index| reported_plan(109, index, USUAL),
+            |index| reported_plan(109, index, SMALL),
+            |index| tripped_plan(109, index, USUAL),
+            |index| tripped_plan(109, index, SMALL),
+        ];
+        for (kind, file) in kinds.into_iter().enumerate() {
+            let (ordered, plain): (Vec<_>, Vec<_>) = (0..900).map(file).partition(|file| file.windows(3).any(|part| part == b"\nQ,"));
+            for files in [ordered, plain] {
+                let timeouts = Timeouts::of(files.into_iter());
+                let Timeouts { one_short, shorter, least, enough } = timeouts;
+                let short = one_short + shorter + least;
+                assert!(short * 3 > enough && short * 5 < enough * 4, "kind {kind}: {timeouts:?}");
+                assert!(one_short > 20 && shorter > 20 && least > 10, "kind {kind}: {timeouts:?}");
+            }
+        }
+    }
+
+    /// Damaged files have a P line whose W alone is out of range, below it and above; and no file is refused by 4.
+    #[test]
+    fn damaged_timeouts_are_refused_by_3() {
+        let (mut none, mut beyond) = (0, 0);
+        for index in 0..4_000 {
+            for size in [USUAL, SMALL] {
+                let file = file(109, index, size);
+                let Err(refusal) = plan::read(&file) else { continue };
+                assert_ne!(refusal.number, 4, "index {index}");
+                let line = String::from_utf8_lossy(file.split(|byte| *byte == b'\n').next().unwrap_or(&[])).into_owned();
+                let fields: Vec<&str> = line.split(',').collect();
+                let &["P", nodes, period, timeout, delay, end] = &fields[..] else { continue };
+                let repaired = format!("P,{nodes},{period},1,{delay},{end}\n");
+                if (refusal.number, refusal.line) == (3, 1) && plan::read(repaired.as_bytes()).is_ok() {
+                    none += u64::from(timeout == "0");
+                    beyond += u64::from(timeout == "65536");
+                }
+            }
+        }
+        assert!(none > 20 && beyond > 20, "{none} with W 0, {beyond} with W 65,536");
     }
 
     /// Damaged files have bad Q lines in the second place, refused by each number that there is, and Q lines in others.

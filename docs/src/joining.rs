@@ -1,4 +1,5 @@
-//! Requests 106 and 107 over whole runs: how often each is owed, and how late survivors are not joined yet, or their lists not full.
+//! Requests 106 and 107 over whole runs: how often each is owed, and how late survivors are not joined yet, or their lists not full. With W
+//! below H + D neither claims anything, and such a run counts for nothing.
 
 use super::platform::{Platform, Step};
 use super::settle::{self, Claim};
@@ -20,7 +21,7 @@ impl Late {
 /// What one run or several come to, of one of the two claims.
 #[derive(Clone, Copy, PartialEq, Eq, Debug)]
 pub struct Joining {
-    /// Runs in which a node crashes.
+    /// Runs in which a node crashes, W being at least H + D.
     pub crashed: u64,
     /// Events after which the claim is owed.
     pub owed: u64,
@@ -63,7 +64,7 @@ pub fn of_run(platform: &mut Platform, claim: Claim) -> Result<Joining, String> 
             joining.keep_nearer(late);
         }
     }
-    joining.crashed = u64::from(platform.crashes_done() > 0);
+    joining.crashed = u64::from(platform.crashes_done() > 0 && !platform.plan().short_timeout());
     Ok(joining)
 }
 
@@ -169,6 +170,14 @@ mod tests {
         let mut wrong = Platform::resume(stands.plan().clone(), nodes, stands.messages(), next, 2, tick);
         assert_eq!(listed(&mut wrong), Err(format!("a survivor's list is not full at tick {}, after 1 events", wrong.last_tick())));
         assert!(joined(&mut stands.clone()).is_ok() && listed(&mut stands).is_ok());
+    }
+
+    /// With W below H + D neither claim is asked: nothing is owed, nobody is late, and no crash is counted.
+    #[test]
+    fn a_short_timeout_counts_for_nothing() {
+        let mut platform = open("P,5,1,2,2,60\nC,2,1\nC,2,2\n");
+        assert_eq!((joined(&mut platform.clone()), listed(&mut platform)), (Ok(Joining::NONE), Ok(Joining::NONE)));
+        assert_eq!(platform.crashes_done(), 2);
     }
 
     /// Half of a bound is nearer than a third of another, however many ticks these are.

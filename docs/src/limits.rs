@@ -47,7 +47,7 @@ pub const REFUSED_LENGTH: u8 = 1;
 pub const REFUSED_FORM: u8 = 2;
 /// A number outside its range, or a node not below N.
 pub const REFUSED_RANGE: u8 = 3;
-/// W below H + D.
+/// W below H + D. It is given no longer, for no file.
 pub const REFUSED_TIMEOUT: u8 = 4;
 /// C or L lines that do not rise, or a node twice.
 pub const REFUSED_ORDER: u8 = 5;

@@ -63,7 +63,7 @@ pub fn read(file: &[u8]) -> Result<Plan, Refusal> {
     plan.ok_or(length)
 }
 
-/// The first line, which has to be P: form, ranges, then "W below H + D".
+/// The first line, which has to be P: form, then ranges. W may be below H + D.
 fn read_first(line: &[u8]) -> Result<Plan, u8> {
     let (letter, numbers) = form(line)?;
     let (b'P', &[nodes, period, timeout, delay, end]) = (letter, &numbers[..]) else { return Err(REFUSED_FORM) };
@@ -74,9 +74,6 @@ fn read_first(line: &[u8]) -> Result<Plan, u8> {
         && end <= MAX_TICK;
     if !in_range {
         return Err(REFUSED_RANGE);
-    }
-    if timeout < period + delay {
-        return Err(REFUSED_TIMEOUT);
     }
     Ok(Plan {
         nodes: nodes as u8,
@@ -155,6 +152,11 @@ fn form(line: &[u8]) -> Result<(u8, Vec<u64>), u8> {
 }
 
 impl Plan {
+    /// Whether W is below H + D. A live node may get listed then, and its run ends in F instead of E. The P line alone decides.
+    pub fn short_timeout(&self) -> bool {
+        self.timeout < self.period + self.delay
+    }
+
     /// The ring: in the Q line's order, or in number order where there is none.
     pub fn ring(&self) -> Ring {
         if self.order.is_empty() {
@@ -315,11 +317,29 @@ mod tests {
         assert_eq!(answer(format!("P,2,2,3,1,{}\n", "7".repeat(FILE_BYTES - 11)).as_bytes()), (3, 1));
     }
 
+    /// Number 4 is given no longer: W may be any from 1 to 65,535, whatever H and D are, and the next place or line decides.
     #[test]
-    fn the_timeout_is_at_least_period_plus_delay() {
-        answers(&[("P,2,2,3,1,6\n", (0, 0)), ("P,2,2,2,1,6\n", (4, 1)), ("P,2,2,2,1,1000001\n", (3, 1))]);
-        answers(&[("P,2,1000,1254,255,6\n", (4, 1)), ("P,2,1000,1255,255,6\n", (0, 0))]);
-        answers(&[("P,2,2,2,1,6\nZ\n", (4, 1))]);
+    fn the_timeout_may_be_below_period_plus_delay() {
+        answers(&[("P,2,2,3,1,6\n", (0, 0)), ("P,2,2,2,1,6\n", (0, 0)), ("P,2,2,2,1,1000001\n", (3, 1))]);
+        answers(&[("P,2,1000,1254,255,6\n", (0, 0)), ("P,2,1000,1255,255,6\n", (0, 0)), ("P,64,1000,1,255,1000000\n", (0, 0))]);
+        answers(&[("P,2,2,0,1,6\n", (3, 1)), ("P,2,2,1,1,6\n", (0, 0)), ("P,2,1000,65536,255,6\n", (3, 1))]);
+        answers(&[("P,2,2,2,1,6\nZ\n", (2, 2)), ("P,2,2,2,1,6\nC,7,1\n", (3, 2)), ("P,2,2,2,1,6\nL,0,2\n", (3, 2))]);
+        answers(&[("P,2,2,2,1,6\nC,3,1\nC,3,0\n", (5, 3)), ("P,2,2,2,1,6", (2, 1)), ("P,2,2,02,1,6\n", (2, 1))]);
+    }
+
+    /// W is short up to H + D − 1, and H + D is long enough.
+    #[test]
+    fn a_short_timeout_goes_by_the_p_line_alone() {
+        let short = |file: &str| read(file.as_bytes()).unwrap().short_timeout();
+        for (period, delay) in [(1, 1), (2, 1), (1, 2), (3, 5), (1_000, 1), (1, 255), (1_000, 255)] {
+            for (timeout, expected) in [(1, true), (period + delay - 1, true), (period + delay, false), (65_535, false)] {
+                for nodes in [1, 2, 64] {
+                    let file = format!("P,{nodes},{period},{timeout},{delay},9\n");
+                    assert_eq!(short(&file), expected, "{file}");
+                    assert_eq!(short(&format!("{file}C,0,0\nL,0,1\n")), expected, "{file}");
+                }
+            }
+        }
     }
 
     #[test]
@@ -385,7 +405,7 @@ mod tests {
             ("P,3,2,3,1,6\nQ,2,1,2\n", (13, 2)),
             ("P,3,2,3,1,6\nQ,1,1,1\n", (13, 2)),
             ("P,3,2,3,1,6\nQ,1,1,1\nZ\n", (13, 2)),
-            ("P,3,2,2,1,6\nQ,1,1,1\n", (4, 1)),
+            ("P,3,2,2,1,6\nQ,1,1,1\n", (13, 2)),
             ("P,1,1,2,1,5\nQ,1\n", (3, 2)),
         ]);
     }
@@ -489,6 +509,8 @@ mod tests {
             WORKED.as_bytes(),
             b"P,64,1000,65535,255,1000000\nC,0,63\nC,1000000,0\nL,0,1\nL,999999,255\n",
             b"P,1,1,2,1,5\nQ,0\n",
+            b"P,1,1,1,1,5\n",
+            b"P,64,1000,1,255,1000000\nC,0,63\nL,0,255\n",
             b"P,5,2,6,3,60\nQ,0,1,2,3,4\n",
             b"P,12,2,6,3,60\nQ,11,0,10,1,9,2,8,3,7,4,6,5\nC,5,3\nL,7,2\n",
         ] {

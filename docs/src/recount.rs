@@ -11,18 +11,20 @@ use super::ring::listed;
 pub struct Moves {
     /// For each number how many moves passed so many nodes.
     pub passed: [u64; 64],
-    /// Of the moves, those by report, and those that left the node alone.
+    /// Of the moves, those by report, those that left the node alone, and those that are both.
     pub by_report: u64,
     pub alone: u64,
+    pub alone_by_report: u64,
 }
 
 impl Moves {
-    pub const NONE: Moves = Moves { passed: [0; 64], by_report: 0, alone: 0 };
+    pub const NONE: Moves = Moves { passed: [0; 64], by_report: 0, alone: 0, alone_by_report: 0 };
 
     pub fn add(&mut self, other: &Moves) {
         self.passed.iter_mut().zip(other.passed).for_each(|(sum, count)| *sum += count);
         self.by_report += other.by_report;
         self.alone += other.alone;
+        self.alone_by_report += other.alone_by_report;
     }
 
     pub fn all(&self) -> u64 {
@@ -103,8 +105,10 @@ impl Recount {
         self.due = Some(Line { letter: b'K', other: passed as u64, ..line });
         self.emitters[line.node as usize] = emitter as u64;
         self.moves.passed[passed] += 1;
-        self.moves.by_report += u64::from(line.letter == b'R');
-        self.moves.alone += u64::from(emitter as u64 == line.node);
+        let (by_report, alone) = (line.letter == b'R', emitter as u64 == line.node);
+        self.moves.by_report += u64::from(by_report);
+        self.moves.alone += u64::from(alone);
+        self.moves.alone_by_report += u64::from(by_report && alone);
         Ok(())
     }
 }
@@ -146,7 +150,7 @@ mod tests {
     fn lines_are_counted() {
         let moves = moves_of("P,4,2,3,1,12\n", LOG).unwrap();
         assert_eq!((moves.all(), moves.passing_more(), moves.greatest()), (3, 1, 2));
-        assert_eq!((moves.by_report, moves.alone), (1, 1));
+        assert_eq!((moves.by_report, moves.alone, moves.alone_by_report), (1, 1, 1));
         assert_eq!(moves_of("P,4,2,3,1,12\nQ,1,2,3,0\n", LOG), Ok(moves));
         assert!(moves_of("P,4,2,3,1,12\nQ,2,1,3,0\n", LOG).is_err());
         assert_eq!(moves_of("P,4,2,3,1,12\n", "8,0\n"), Ok(Moves::NONE));
@@ -172,7 +176,7 @@ mod tests {
             ("W,9,0,3,000000000000000c", "W,9,0,3,0000000000000004"),
             ("E,12,2,0,000000000000000c\n", "K,12,2,0,000000000000000c\n"),
             ("K,10,0,1,000000000000000e\nE,12,2,0,000000000000000c\n", ""),
-            ("E,12,", "F,12,"),
+            ("E,12,", "G,12,"),
         ] {
             assert!(LOG.contains(old));
             assert!(moves_of("P,4,2,3,1,12\n", &LOG.replacen(old, new, 1)).is_err(), "{old:?} for {new:?}");

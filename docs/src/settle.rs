@@ -1,6 +1,6 @@
 //! Demand 3's words: no live node is listed; S; crashes that are spaced; the settled ring. And for crashes however close request 106's:
 //! the tick from whose end on the survivors are joined; the joined ring, of whose lists nothing is said. And request 107's: the
-//! tick from whose end on the survivors' lists are full.
+//! tick from whose end on the survivors' lists are full. All of this is claimed of runs with W at least H + D, whose last line is E.
 
 use super::node::{crashed, Node};
 use super::plan::Plan;
@@ -68,10 +68,11 @@ pub fn settled(ring: &Ring, nodes: &[Node]) -> bool {
     lists_full(nodes) && joined(ring, nodes)
 }
 
-/// What demand 3 claims of the platform as it stands.
+/// What demand 3 claims of the platform as it stands. It is "claimed for E runs only": where W is below H + D nothing is.
 pub fn demand_3(platform: &mut Platform) -> bool {
     let owed = crashes_spaced(platform) && settling_time_passed(platform);
-    no_live_node_listed(platform.nodes()) && (!owed || settled(platform.ring(), platform.nodes()))
+    let holds = no_live_node_listed(platform.nodes()) && (!owed || settled(platform.ring(), platform.nodes()));
+    holds || platform.plan().short_timeout()
 }
 
 /// 2 × W × f + D, in ticks, after the last of f crashes.
@@ -141,9 +142,10 @@ impl Claim {
         }
     }
 
-    /// The tick from whose end on it is claimed; nothing where nothing is.
+    /// The tick from whose end on it is claimed; nothing where nothing is, as with W below H + D.
     pub fn tick(self, platform: &Platform) -> Option<u64> {
         match self {
+            _ if platform.plan().short_timeout() => None,
             Claim::Joined => joining_tick(platform),
             Claim::Listed => listing_tick(platform),
         }
@@ -273,6 +275,22 @@ mod tests {
         let refused = platform.earliest_due().expect("it stopped before an event");
         assert!(platform.last_tick() <= refused && u64::from(refused) < joining_tick(&platform).expect("a crash is done"));
         assert_eq!(told(platform), (false, false, true));
+    }
+
+    /// Two nodes that live and list each other, and five of which two crash; H 1, W 2, D 2 there. W is below H + D: nothing is claimed of them,
+    /// whatever they have come to. With W = H + D the same nodes would break each claim.
+    #[test]
+    fn nothing_is_claimed_with_a_short_timeout() {
+        for file in ["P,2,2,2,1,6\n", "P,5,1,2,2,60\nC,2,1\nC,2,2\n"] {
+            let mut platform = after(u64::MAX, file);
+            assert!(!no_live_node_listed(platform.nodes()) && demand_3(&mut platform), "{file}");
+            let claims = [Claim::Joined, Claim::Listed];
+            assert!(claims.iter().all(|claim| claim.tick(&platform).is_none() && !claim.owed(&mut platform) && claim.kept(&mut platform)), "{file}");
+        }
+        let short = after(u64::MAX, "P,5,1,2,2,60\nC,2,1\nC,2,2\n");
+        let plan = Plan { timeout: 3, ..short.plan().clone() };
+        let mut enough = Platform::resume(plan, short.nodes().to_vec(), short.messages(), short.next_number(), 2, 60);
+        assert!(!demand_3(&mut enough) && !request_106(&mut enough) && !request_107(&mut enough));
     }
 
     /// The platform with other lists of some nodes.

@@ -8,13 +8,15 @@
 //! - `simulate recount FILE..`: counts the lines K of the log that stands beside each file once more.
 //! - `simulate joined FILE..`: asks requests 106 and 107 after each event of the files and prints how late survivors were not joined, and
 //!   their lists not full.
+//! - `simulate false FILE..`: prints of each file how many live nodes get listed, and since when.
 
+use simulator::falsely::{self, Falsely};
 use simulator::fields;
 use simulator::joining::{self, Joining};
 use simulator::limits::*;
-use simulator::log::{self, Line};
+use simulator::log::Line;
 use simulator::plan::{self, Refusal};
-use simulator::platform::{Platform, Step};
+use simulator::platform::{self, Platform};
 use simulator::recount::{self, Moves};
 use simulator::ring;
 use simulator::settle::Claim;
@@ -34,7 +36,10 @@ fn main() -> ExitCode {
         (Some("moves"), _) => moves(&mut out, &arguments[1..]),
         (Some("recount"), _) => recount(&mut out, &arguments[1..]),
         (Some("joined"), _) => joined(&mut out, &arguments[1..]),
-        _ => Err(io::Error::other("usage: simulate [table | lines | time FILE.. | moves FILE.. | recount FILE.. | joined FILE..]")),
+        (Some("false"), _) => arguments[1..].iter().try_for_each(|path| falsely(&mut out, path)),
+        _ => Err(io::Error::other(
+            "usage: simulate [table | lines | time FILE.. | moves FILE.. | recount FILE.. | joined FILE.. | false FILE..]",
+        )),
     };
     match answer.and_then(|()| out.flush()) {
         Ok(()) => ExitCode::SUCCESS,
@@ -55,19 +60,9 @@ fn read_run_file(from: impl Read) -> io::Result<Vec<u8>> {
 /// "For a refused file the rehearsal program writes only the number and the line, parted by a comma;
 /// a refused event ends its log with the line `8,0`."
 fn rehearse(out: &mut impl Write) -> io::Result<()> {
-    let plan = match plan::read(&read_run_file(io::stdin().lock())?) {
-        Ok(plan) => plan,
-        Err(Refusal { number, line }) => return writeln!(out, "{number},{line}"),
-    };
-    let mut platform = Platform::open(plan);
-    loop {
-        let step = platform.step();
-        log::put(step.lines(), out)?;
-        match step {
-            Step::Event(_) => {}
-            Step::Done(_) => return Ok(()),
-            Step::Refused => return writeln!(out, "{REFUSED_EVENT},0"),
-        }
+    match plan::read(&read_run_file(io::stdin().lock())?) {
+        Ok(plan) => platform::rehearse(plan, out),
+        Err(Refusal { number, line }) => writeln!(out, "{number},{line}"),
     }
 }
 
@@ -172,4 +167,23 @@ fn joined(out: &mut impl Write, paths: &[std::ffi::OsString]) -> io::Result<()> 
         write!(out, " {owed} {ticks} {bound}")?;
     }
     writeln!(out)
+}
+
+/// Prints the file's name, the tick at which a live node is first listed or `-`, the most live nodes that are listed at one moment, and the
+/// events by which a node comes to list one. Fails where one is listed though W is at least H + D.
+fn falsely(out: &mut impl Write, path: &std::ffi::OsString) -> io::Result<()> {
+    let name = path.to_string_lossy();
+    let plan = match plan::read(&read_run_file(std::fs::File::open(path)?)?) {
+        Ok(plan) => plan,
+        Err(Refusal { number, line }) => return writeln!(out, "{name} refused {number},{line}"),
+    };
+    let long_enough = !plan.short_timeout();
+    let told = falsely::of_run(&mut Platform::open(plan));
+    let Falsely { first, most, events } = told;
+    let first = first.map_or("-".to_string(), |tick| tick.to_string());
+    writeln!(out, "{name} {first} {most} {events}")?;
+    if long_enough && told != Falsely::NONE {
+        return Err(io::Error::other(format!("{name}: a live node is listed though W is at least H + D")));
+    }
+    Ok(())
 }

@@ -1,5 +1,5 @@
 //! The store: "65,536 lent bytes, opened from an accepted run file, its unused part zero". Its fields
-//! and their ranges are those of docs/LAYOUTS.md, of document 01 and of requests 102 and 107.
+//! and their ranges are those of docs/LAYOUTS.md, of document 01 and of requests 102, 107 and 109: W is 1 to 65,535, whatever H and D.
 //!
 //! `check` is number 7: "other length, a field out of range, or an unused byte not zero".
 
@@ -476,6 +476,23 @@ mod tests {
         assert!(!check(&changed_in(&in_order(), NODES, 0, 4)) && !check(&changed_in(&in_order(), NODES, 0, 6)));
     }
 
+    /// W is 1 to 65,535, whatever H and D, and its two bytes hold nothing above. It is 1 here, so that every watch is due by 2 × W.
+    #[test]
+    fn the_timeout_of_a_store_may_be_short() {
+        for file in ["P,5,2,1,3,60\n", "P,1,2,1,3,60\n", "P,64,1000,1,255,60\n"] {
+            let opened = open(file);
+            for timeout in [1, 2, 4, 5, 6, 256, 1_254, 1_255, 65_535] {
+                let bytes = changed_in(&opened, TIMEOUT, 0, timeout);
+                let held = decode(&bytes).expect("the store is in range");
+                assert!(check(&bytes) && held.encode() == bytes, "{file}W {timeout}");
+                let plan = held.platform.plan();
+                assert_eq!((u64::from(plan.timeout), plan.short_timeout()), (timeout, timeout < u64::from(plan.period + plan.delay)), "{file}");
+            }
+            assert!(!check(&changed_in(&opened, TIMEOUT, 0, 0)), "{file}");
+        }
+    }
+
+    /// Node 4 has just moved, so that its watch is due 2 × W after the last tick: with a shorter W, 5 here, it is out of range.
     #[test]
     fn numbers_at_their_bounds() {
         let (last, period, timeout, delay) = (13, 2, 6, 3);
@@ -486,11 +503,14 @@ mod tests {
             (NODES, 0, 0, false),
             (NODES, 0, 65, false),
             (LONGEST_DELAY, 0, 0, false),
-            (LONGEST_DELAY, 0, 5, false),
+            (LONGEST_DELAY, 0, 5, true),
+            (LONGEST_DELAY, 0, 255, true),
             (PERIOD, 0, 0, false),
-            (PERIOD, 0, 4, false),
+            (PERIOD, 0, 4, true),
+            (PERIOD, 0, 1_000, true),
+            (PERIOD, 0, 1_001, false),
             (TIMEOUT, 0, 65_535, true),
-            (TIMEOUT, 0, 4, false),
+            (TIMEOUT, 0, timeout - 1, false),
             (CRASHES, 0, 6, false),
             (CRASHES_DONE, 0, 2, true),
             (CRASHES_DONE, 0, 3, false),

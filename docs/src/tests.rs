@@ -1,7 +1,8 @@
-//! Whole runs: the worked logs, the edges of 01 that concern the platform, rings in another order, the words of demand 3 and of requests
-//! 106 and 107 on generated plans, lists that heartbeats carry; and the turns of the dispatcher.
+//! Whole runs: the worked logs, the edges of 01 that concern the platform, short time-outs, rings in another order, the words of demand 3
+//! and of requests 106 and 107 on generated plans, lists that heartbeats carry; and the turns of the dispatcher.
 
 use super::dispatch::{self, Given};
+use super::falsely::{self, Falsely};
 use super::generator;
 use super::joining::{self, Joining, Late};
 use super::layout;
@@ -9,7 +10,7 @@ use super::limits::*;
 use super::log::{self, Line};
 use super::node::{Content, Node, Timer};
 use super::plan::{self, Crash, Plan};
-use super::platform::{Ending, Event, Platform, Run, Step};
+use super::platform::{self, Ending, Event, Platform, Run, Step};
 use super::queue::{Cause, Message, Pending};
 use super::random::Random;
 use super::recount::{self, Moves};
@@ -24,19 +25,11 @@ fn open(file: &str) -> Platform {
     Platform::open(plan::read(file.as_bytes()).expect("the file is accepted"))
 }
 
-/// The whole log by steps, as the rehearsal program writes it.
+/// The whole log, as the rehearsal program writes it.
 fn log_of(file: &str) -> String {
-    let mut platform = open(file);
     let mut text = Vec::new();
-    loop {
-        let step = platform.step();
-        log::put(step.lines(), &mut text).unwrap();
-        match step {
-            Step::Event(_) => {}
-            Step::Done(_) => return String::from_utf8(text).unwrap(),
-            Step::Refused => return String::from_utf8(text).unwrap() + "8,0\n",
-        }
-    }
+    platform::rehearse(plan::read(file.as_bytes()).expect("the file is accepted"), &mut text).unwrap();
+    String::from_utf8(text).unwrap()
 }
 
 fn last_line(file: &str) -> String {
@@ -73,6 +66,140 @@ fn the_worked_log() {
 fn a_node_alone_from_the_start() {
     assert_eq!(log_of("P,1,1,2,1,5\n"), "E,5,1,0,0000000000000000\n");
     assert_eq!(log_of("P,1,1,2,1,5\nC,0,0\n"), "C,0,0,0,0000000000000000\nE,5,0,0,0000000000000001\n");
+}
+
+/// Two nodes, H 2, W 2, D 1, where W 3 would be enough. At tick 2 nothing has been sent yet, and the timers go by node:
+///
+/// - The watch of 0 is due, on 1. It lists 1, goes back from 1 to itself, having passed 1, and is alone: both timers off. So it sends no
+///   heartbeat at tick 2 and nothing at all.
+/// - The watch of 1 is due, on 0, and the same happens there.
+///
+/// Both live on and list each other. Nothing is in flight or due any more, and no node has crashed.
+#[test]
+fn two_nodes_with_a_short_timeout() {
+    let expected = "W,2,0,1,0000000000000002\nK,2,0,1,0000000000000002\nW,2,1,0,0000000000000001\nK,2,1,1,0000000000000001\n\
+        F,6,2,0,0000000000000000\n";
+    assert_eq!(log_of("P,2,2,2,1,6\n"), expected);
+}
+
+/// Three nodes, H 2, W 3, D 2: one tick less than H + D. Each delay is 2, but the first heartbeats of 0 and 1 take one tick. So that of 2
+/// comes to 0 one tick too late, and in the end each of the three live nodes lists both others:
+///
+/// - Tick 2: the heartbeats 0 → 1, 1 → 2 and 2 → 0, numbers 0, 1 and 2.
+/// - Tick 3: the first two arrive, watches due at 6. The watch of 0 expires: it lists 2, which lives, goes back to 1, watch due at 9, and
+///   sends O and R of 2 to 1, numbers 3 and 4.
+/// - Tick 4: the late heartbeat comes to 0, which observes 1 now: nothing. All send, 5 to 7.
+/// - Tick 5: the O makes 1 send to 0, at once. By the report 1 lists 2 and passes it on to 0, number 8; its heartbeat is 9. It sends to 2 no
+///   more.
+/// - Tick 6: the heartbeats of tick 4. Those of 0 and 1 renew the watches of 1 and 2 to 9; that of 2 does nothing. 0 and 2 send, 10 and 11.
+/// - Tick 7: the report comes back to 0, which has marked 2: nothing. The heartbeat of 1 renews the watch of 0 to 10. 1 sends, 12.
+/// - Tick 8: the heartbeats 10 and 11, the watch of 1 to 11. 0 and 2 send, 13 and 14.
+/// - Tick 9: heartbeat 12, the watch of 0 to 12. 1 sends, 15. The watch of 2 expires, as 1 sends to 0 now: it lists 1, goes back to 0, watch
+///   due at 15, and sends O and R of 1 to 0, numbers 16 and 17.
+/// - Tick 10: the heartbeats 13 and 14, the watch of 1 to 13. 0 and 2 send, 18 and 19, that of 2 with its list.
+/// - Tick 11: heartbeat 15. The O makes 2 the observer of 0. The report of 1, the emitter of 0, leaves 0 alone, as it lists 2 already: it
+///   passed one node, and the heartbeat that was due at this tick is off. 1 sends, 20.
+/// - Tick 12: heartbeat 18, sent before that, the watch of 1 to 15. Heartbeat 19 comes to 0, which is its own emitter: nothing. 2 sends, 21.
+/// - Ticks 13 and 14: 20 and 21 do nothing at 0. 1 and 2 send, 22 and 23.
+/// - Tick 15: heartbeat 22. 1 lists 0, goes back over 2 to itself, having passed two, and is alone; so is 2, which lists 0 and passes it.
+/// - Tick 16: heartbeat 23. Nothing is left.
+const ONE_TICK_SHORT: (&str, &str) = (
+    "P,3,2,3,2,16\nL,0,1\nL,1,1\n",
+    "S,2,0,1,0000000000000000\nS,2,1,2,0000000000000000\nS,2,2,0,0000000000000000\n\
+    H,3,1,0,0000000000000000\nH,3,2,1,0000000000000000\nW,3,0,2,0000000000000004\nK,3,0,1,0000000000000004\n\
+    H,4,0,2,0000000000000004\nS,4,0,1,0000000000000004\nS,4,1,2,0000000000000000\nS,4,2,0,0000000000000000\n\
+    O,5,1,0,0000000000000000\nR,5,1,2,0000000000000004\nS,5,1,0,0000000000000004\n\
+    H,6,1,0,0000000000000004\nH,6,2,1,0000000000000000\nH,6,0,2,0000000000000004\nS,6,0,1,0000000000000004\nS,6,2,0,0000000000000000\n\
+    R,7,0,2,0000000000000004\nH,7,0,1,0000000000000004\nS,7,1,0,0000000000000004\n\
+    H,8,1,0,0000000000000004\nH,8,0,2,0000000000000004\nS,8,0,1,0000000000000004\nS,8,2,0,0000000000000000\n\
+    H,9,0,1,0000000000000004\nS,9,1,0,0000000000000004\nW,9,2,1,0000000000000002\nK,9,2,1,0000000000000002\n\
+    H,10,1,0,0000000000000004\nH,10,0,2,0000000000000004\nS,10,0,1,0000000000000004\nS,10,2,0,0000000000000002\n\
+    H,11,0,1,0000000000000004\nO,11,0,2,0000000000000004\nR,11,0,1,0000000000000006\nK,11,0,1,0000000000000006\nS,11,1,0,0000000000000004\n\
+    H,12,1,0,0000000000000004\nH,12,0,2,0000000000000006\nS,12,2,0,0000000000000002\n\
+    H,13,0,1,0000000000000006\nS,13,1,0,0000000000000004\n\
+    H,14,0,2,0000000000000006\nS,14,2,0,0000000000000002\n\
+    H,15,0,1,0000000000000006\nW,15,1,0,0000000000000005\nK,15,1,2,0000000000000005\nW,15,2,0,0000000000000003\nK,15,2,1,0000000000000003\n\
+    H,16,0,2,0000000000000006\nF,16,3,0,0000000000000000\n",
+);
+
+#[test]
+fn one_tick_less_lists_every_live_node() {
+    let (file, log) = ONE_TICK_SHORT;
+    assert_eq!(log_of(file), log);
+    let moves = recount::of_log(open(file).plan(), log.as_bytes()).expect("the lines K are right");
+    assert_eq!((moves.all(), moves.by_report, moves.alone, moves.alone_by_report, moves.passing_more()), (5, 1, 3, 1, 1));
+    let told = Falsely { first: Some(3), most: 3, events: 6 };
+    assert_eq!((falsely::of_run(&mut open(file)), falsely::of_log(log.as_bytes())), (told, Ok(told)));
+    let long_enough = file.replacen("P,3,2,3,2,", "P,3,2,4,2,", 1);
+    assert_eq!(falsely::of_run(&mut open(&long_enough)), Falsely::NONE);
+    assert!(last_line(&long_enough).starts_with("E,16,3,"));
+}
+
+/// The same where the report of 1, number 17, takes one tick: it leaves 0 alone at tick 10, before the O of 2 arrives at tick 11. "An O that
+/// reaches a node that is alone" makes it send to 2, at once and from then on, while it stays its own emitter with the watch off. So 2 keeps
+/// observing it: its heartbeats renew the watch of 2, at tick 13 first.
+#[test]
+fn a_node_that_is_alone_takes_a_new_observer() {
+    let file = &(ONE_TICK_SHORT.0.to_string() + "L,17,1\n");
+    let log = log_of(file);
+    for part in [
+        "R,10,0,1,0000000000000006\nK,10,0,1,0000000000000006\nS,10,2,0,0000000000000002\n",
+        "O,11,0,2,0000000000000006\nS,11,0,2,0000000000000006\n",
+        "W,13,1,0,0000000000000005\nK,13,1,2,0000000000000005\n",
+        "H,13,2,0,0000000000000002\n",
+        "F,16,3,2,0000000000000000\n",
+    ] {
+        assert!(log.contains(part), "{part}");
+    }
+    assert!(!log.contains("W,15,2,"));
+    let mut platform = open(file);
+    platform.run(u64::MAX);
+    let node = platform.nodes()[0];
+    assert_eq!((node.emitter, node.observer, node.watch, node.heartbeat), (0, 2, None, Some(17)));
+    assert!(store::check(&store::encode(&platform)));
+    stores_agree(open(file), 100, 0, 0);
+}
+
+/// With N = 1 nothing happens, and the last line is F all the same: W 1 is below H + D = 2.
+#[test]
+fn a_node_alone_with_a_short_timeout() {
+    assert_eq!(log_of("P,1,1,1,1,5\n"), "F,5,1,0,0000000000000000\n");
+    assert_eq!(log_of("P,1,1,1,1,5\nC,0,0\n"), "C,0,0,0,0000000000000000\nF,5,0,0,0000000000000001\n");
+    assert_eq!(log_of("P,1,1,1,1,5\nQ,0\n"), "F,5,1,0,0000000000000000\n");
+}
+
+/// Where every delay is D and no node crashes, the first heartbeats arrive at tick H + D, so that with any shorter W all watches expire at
+/// tick W. In the end each node lists all others, which live.
+#[test]
+fn with_every_delay_d_a_short_timeout_lists_all() {
+    let told = |nodes, timeout, end| falsely::of_run(&mut open(&format!("P,{nodes},5,{timeout},3,{end}\n")));
+    for timeout in 1..8 {
+        assert_eq!(told(8, timeout, 100), Falsely { first: Some(timeout), most: 8, events: 8 * 7 }, "W {timeout}");
+        assert_eq!(told(8, timeout, timeout), Falsely { first: Some(timeout), most: 8, events: 8 }, "W {timeout}");
+        assert_eq!(told(8, timeout, timeout - 1), Falsely::NONE, "W {timeout}");
+        assert_eq!(told(1, timeout, 100), Falsely::NONE, "W {timeout}");
+    }
+    assert_eq!([8, 9, 100].map(|timeout| told(8, timeout, 100)), [Falsely::NONE; 3]);
+    let mut platform = open("P,48,100,119,20,2000\n");
+    assert_eq!(falsely::of_run(&mut platform), Falsely { first: Some(119), most: 48, events: 398 });
+    assert_eq!(platform.step(), Step::Refused);
+    assert_eq!(falsely::of_run(&mut open("P,48,100,120,20,2000\n")), Falsely::NONE);
+}
+
+/// "Such a run's last line has the letter F instead of E", decided by the P line alone: with W = H + D it is E and with one tick less F, also
+/// where no live node is listed, as N is 1, nothing happens up to the end tick, or all have crashed.
+#[test]
+fn the_p_line_decides_the_last_letter() {
+    for (period, delay) in [(1, 1), (2, 1), (1, 2), (5, 3), (1_000, 255), (1_000, 1), (1, 255)] {
+        for (timeout, letter) in [(1, 'F'), (period + delay - 1, 'F'), (period + delay, 'E'), (period + delay + 1, 'E'), (65_535, 'E')] {
+            let p_line = |nodes, end| format!("P,{nodes},{period},{timeout},{delay},{end}\n");
+            let last = |survivors, crashed| format!("{letter},0,{survivors},0,{crashed:016x}");
+            assert_eq!(last_line(&p_line(1, 0)), last(1, 0), "H {period}, D {delay}, W {timeout}");
+            assert_eq!(last_line(&p_line(3, 0)), last(3, 0), "H {period}, D {delay}, W {timeout}");
+            assert_eq!(last_line(&(p_line(2, 0) + "C,0,0\nC,0,1\n")), last(0, 3), "H {period}, D {delay}, W {timeout}");
+            assert!(last_line(&p_line(2, 70)).starts_with(letter), "H {period}, D {delay}, W {timeout}");
+        }
+    }
 }
 
 #[test]
@@ -333,21 +460,24 @@ fn a_refused_move_writes_neither_line() {
 }
 
 /// Each line K of generated plans' logs, recounted from the log alone, and nowhere another. Lines come up with one node passed, with more
-/// and with many; by report and alone.
+/// and with many; by report and alone. With W at least H + D no report leaves a node alone; with a shorter one some do.
 #[test]
 fn lines_k_of_generated_plans() {
-    let mut moves = Moves::NONE;
-    for index in 0..400 {
+    let (mut moves, mut moves_of_short) = (Moves::NONE, Moves::NONE);
+    for index in 0..600 {
         let file = match index % 3 {
             0 => generator::reported_plan(SEED + 8, index, generator::SMALL),
             _ => generator::plan(SEED + 8, index),
         };
         let (plan, file) = (plan::read(&file).unwrap(), String::from_utf8(file).unwrap());
         let found = recount::of_log(&plan, log_of(&file).as_bytes()).unwrap_or_else(|error| panic!("index {index}: {error}"));
-        moves.add(&found);
+        if plan.short_timeout() { moves_of_short.add(&found) } else { moves.add(&found) }
     }
     assert!(moves.all() > 1_500 && moves.passing_more() > 200 && moves.greatest() > 9, "{moves:?}");
-    assert!(moves.by_report > 20 && moves.alone > 20 && moves.passed[0] == 0, "{moves:?}");
+    assert!(moves.by_report > 20 && moves.alone > 20 && moves.alone_by_report == 0 && moves.passed[0] == 0, "{moves:?}");
+    let short = moves_of_short;
+    assert!(short.all() > 5_000 && short.passing_more() > 1_500 && short.greatest() > 20, "{short:?}");
+    assert!(short.by_report > 2_000 && short.alone > 200 && short.alone_by_report > 50 && short.passed[0] == 0, "{short:?}");
 }
 
 /// A Q line in number order, or a rotation of it, is the ring without one; so it is with one node.
@@ -402,8 +532,8 @@ fn renamed(platform: &Platform, names: &[u8]) -> impl PartialEq + std::fmt::Debu
 }
 
 /// A ring in any order does what the ring in number order does in which each node has its place for a number, but for
-/// what goes by number within a tick. Where one node crashes and every delay is D, that plays no part: the messages that
-/// come to a node at one tick change different fields of it, or one in the same way. So after each tick all is the same.
+/// what goes by number within a tick. Where one node crashes, every delay is D and W is at least H + D, that plays no part: the messages
+/// that come to a node at one tick change different fields of it, or one in the same way. So after each tick all is the same.
 #[test]
 fn an_order_renames_the_nodes_of_a_run() {
     let mut random = Random::seeded(SEED);
@@ -550,11 +680,12 @@ fn no_claim_of_settling_before_a_crash() {
     assert!(!settle::settling_time_passed(&mut open("P,3,3,4,1,8\n")));
 }
 
-/// Every generated plan is accepted, comes back from the writer, and keeps demand 3 after each event. In some a report moves a node.
+/// Every generated plan is accepted and comes back from the writer. Where W is at least H + D, it keeps demand 3 after each event. In some of
+/// these a report moves a node.
 #[test]
 fn demand_3_on_generated_plans() {
     let (mut owed, mut moves) = (0u64, 0);
-    for index in 0..400 {
+    for index in 0..600 {
         let file = match index % 4 {
             0 | 2 => generator::plan(SEED, index),
             1 => generator::spaced_plan(SEED, index),
@@ -562,6 +693,9 @@ fn demand_3_on_generated_plans() {
         };
         let plan = plan::read(&file).unwrap_or_else(|refusal| panic!("index {index}: {refusal:?}"));
         assert_eq!(plan.bytes(), file, "index {index}");
+        if plan.short_timeout() {
+            continue;
+        }
         let mut platform = Platform::open(plan);
         for_each_event(&mut platform, |platform| {
             assert!(settle::demand_3(platform), "index {index}, after {} events", platform.events_done());
@@ -572,6 +706,52 @@ fn demand_3_on_generated_plans() {
     }
     assert!(owed > 10_000, "settling was owed after {owed} events only");
     assert!(moves > 20, "{moves} moves by report only");
+}
+
+/// The letter of a log's last line, 8 where an event is refused.
+fn last_letter(log: &[u8]) -> u8 {
+    let last = log.split_inclusive(|byte| *byte == b'\n').next_back().expect("a log has a last line");
+    last[0]
+}
+
+/// What goes by W being short, over generated plans of every kind: the last letter is F with W below H + D and E else, unless an event is
+/// refused. What the platform's nodes tell of listed live nodes, the log alone tells too: nothing with W at least H + D, and in many of the
+/// others much: in some plans all nodes live and are listed, in some none is.
+#[test]
+fn live_nodes_listed_in_generated_plans() {
+    let (mut enough, mut short, mut refused, mut harmless, mut all) = (0, 0, 0, 0, 0);
+    let (mut events, mut most) = (0, 0);
+    for index in 0..400 {
+        let file = match index % 5 {
+            0 => generator::plan(SEED + 11, index),
+            1 => generator::reported_plan(SEED + 11, index, generator::SMALL),
+            2 => generator::tripped_plan(SEED + 11, index, generator::USUAL),
+            3 => generator::tripped_plan(SEED + 11, index, generator::SMALL),
+            _ => generator::spaced_plan(SEED + 11, index),
+        };
+        let plan = plan::read(&file).unwrap();
+        let mut log = Vec::new();
+        platform::rehearse(plan.clone(), &mut log).unwrap();
+        let letter = last_letter(&log);
+        assert!(letter == b'8' || letter == if plan.short_timeout() { b'F' } else { b'E' }, "index {index}");
+        let mut platform = Platform::open(plan.clone());
+        let told = falsely::of_run(&mut platform);
+        assert_eq!(falsely::of_log(&log), Ok(told), "index {index}");
+        if !plan.short_timeout() {
+            assert_eq!(told, Falsely::NONE, "index {index}");
+            enough += 1;
+            continue;
+        }
+        short += 1;
+        refused += u64::from(letter == b'8');
+        harmless += u64::from(told == Falsely::NONE);
+        all += u64::from(told.most == u32::from(plan.nodes));
+        events += told.events;
+        most = most.max(told.most);
+    }
+    assert!(enough > 200 && short > 100, "{enough} plans with W at least H + D, {short} others");
+    assert!(refused > 10 && harmless > 10 && all > 20, "of {short} plans {refused} are refused, {harmless} list no live node, {all} list all");
+    assert!(events > 8_000 && most == 64, "{events} events by which live nodes are listed, at most {most} nodes");
 }
 
 /// The settled test does not hold of every state: after a crash it fails until the reports are through.
@@ -586,12 +766,12 @@ fn unsettled_rings_are_told_from_settled_ones() {
     assert!(settle::settled(platform.ring(), platform.nodes()) && settle::no_live_node_listed(platform.nodes()));
 }
 
-/// Requests 106 and 107 after each event of generated plans, half of them power trips, at whose end request 106 is owed. How often each is
-/// owed, and how late survivors were not joined or their lists not full, is what `joining` tells.
+/// Requests 106 and 107 after each event of generated plans with W at least H + D, half of them power trips, at whose end request 106 is
+/// owed. How often each is owed, and how late survivors were not joined or their lists not full, is what `joining` tells.
 #[test]
 fn requests_106_and_107_on_generated_plans() {
     let mut all = [Claim::Joined, Claim::Listed].map(|claim| (claim, Joining::NONE, 0));
-    for index in 0..400 {
+    for index in 0..600 {
         let file = match index % 6 {
             0 => generator::plan(SEED + 9, index),
             1 => generator::spaced_plan(SEED + 9, index),
@@ -600,6 +780,9 @@ fn requests_106_and_107_on_generated_plans() {
             _ => generator::tripped_plan(SEED + 9, index, generator::USUAL),
         };
         let plan = plan::read(&file).unwrap_or_else(|refusal| panic!("index {index}: {refusal:?}"));
+        if plan.short_timeout() {
+            continue;
+        }
         let mut platform = Platform::open(plan.clone());
         for_each_event(&mut platform, |platform| {
             for (claim, _, owed) in &mut all {
@@ -755,16 +938,18 @@ fn sent_by(platform: &Platform, first: u64) -> impl Iterator<Item = Message> {
 }
 
 /// In generated plans each heartbeat carries its sender's list as it is when sent, a node reports each subject in one event alone, and marks it
-/// in that event. Nodes come up that a heartbeat named before the report that they then relay, and such as no report ever tells.
+/// in that event. Nodes come up that a heartbeat named before the report that they then relay, and such as no report ever tells: with W at
+/// least H + D, and with a shorter one.
 #[test]
 fn lists_and_marks_on_generated_plans() {
-    let (mut named_first, mut named_only) = (0, 0);
-    for index in 0..150 {
+    let (mut named_first, mut named_only) = ([0; 2], [0; 2]);
+    for index in 0..300 {
         let file = match index % 2 {
             0 => generator::reported_plan(SEED + 10, index, generator::SMALL),
             _ => generator::tripped_plan(SEED + 10, index, generator::SMALL),
         };
         let mut platform = Platform::open(plan::read(&file).unwrap());
+        let short = usize::from(platform.plan().short_timeout());
         loop {
             let (before, first) = (platform.nodes().to_vec(), platform.next_number());
             let Step::Event(_) = platform.step() else { break };
@@ -775,15 +960,18 @@ fn lists_and_marks_on_generated_plans() {
                     Content::NewObserver => {}
                     Content::Report { subject } => {
                         assert!(!ring::listed(old.mark, subject) && ring::listed(new.mark, subject), "index {index}");
-                        named_first += u64::from(ring::listed(old.dead_list, subject));
+                        named_first[short] += u64::from(ring::listed(old.dead_list, subject));
                     }
                 }
             }
         }
         let only = |node: &&Node| node.alive && node.mark != node.dead_list;
-        named_only += platform.nodes().iter().filter(only).count();
+        named_only[short] += platform.nodes().iter().filter(only).count();
     }
-    assert!(named_first > 50 && named_only > 3, "{named_first} relayed after a heartbeat, {named_only} nodes with one that no report told");
+    for (short, (first, only)) in [(50, 3), (20, 5)].into_iter().enumerate() {
+        let (first_found, only_found) = (named_first[short], named_only[short]);
+        assert!(first_found > first && only_found > only, "{first_found} relayed after a heartbeat, {only_found} nodes with one that no report told");
+    }
 }
 
 /// A lent store whose messages name their receiver, their sender and others: node 1 of three observes 0 and gets H of 0 with all bits.
@@ -901,26 +1089,50 @@ fn messages_in_flight_are_in_range() {
 /// range"; and the platform read from it is the same and goes on in the same way.
 #[test]
 fn every_store_that_events_lead_to() {
-    for index in 0..40 {
+    let mut short = 0;
+    for index in 0..50 {
         let platform = Platform::open(plan::read(&generator::plan(SEED + 5, index)).unwrap());
+        short += u64::from(platform.plan().short_timeout());
         stores_agree(platform, 100, 3, index);
     }
+    assert!(short > 10, "{short} plans with W below H + D only");
 }
 
-/// The same about the event at which a report moves a node.
+/// A store of a plan with W below H + D, resumed after each event, goes on to the same lines and the same last line, which is F.
+#[test]
+fn a_short_run_goes_on_from_its_store() {
+    let (file, log) = ONE_TICK_SHORT;
+    let mut platform = open(file);
+    let mut text = String::new();
+    loop {
+        let held = store::decode(&store::encode(&platform)).expect("the store is in range");
+        assert_eq!(held.platform.plan().bytes(), file.as_bytes());
+        platform = held.platform;
+        let step = platform.step();
+        let mut lines = Vec::new();
+        log::put(step.lines(), &mut lines).unwrap();
+        text += &String::from_utf8(lines).unwrap();
+        if !matches!(step, Step::Event(_)) {
+            break;
+        }
+    }
+    assert_eq!(text, log);
+}
+
+/// The same about the event at which a report moves a node: with W at least H + D, and with a shorter one.
 #[test]
 fn the_stores_about_a_move_by_report() {
-    let mut moved = 0;
-    for index in 0..60 {
+    let mut moved = [0; 2];
+    for index in 0..90 {
         let file = generator::reported_plan(SEED + 7, index, generator::SMALL);
         let mut ahead = Platform::open(plan::read(&file).unwrap());
         let mut platform = ahead.clone();
         while ahead.moves_by_report() == 0 && matches!(ahead.step(), Step::Event(_)) {}
-        platform.run(ahead.events_done() - 2);
+        platform.run(ahead.events_done().saturating_sub(2));
         stores_agree(platform, 6, 0, index);
-        moved += ahead.moves_by_report();
+        moved[usize::from(ahead.plan().short_timeout())] += ahead.moves_by_report();
     }
-    assert!(moved > 10, "{moved} moves by report only");
+    assert!(moved.iter().all(|moved| *moved > 10), "{moved:?} moves by report only");
 }
 
 /// Does a step and a run of some events, so many times, from the platform and from its store.
@@ -951,7 +1163,7 @@ fn held_state(platform: &Platform) -> impl PartialEq + std::fmt::Debug {
     )
 }
 
-/// Any bytes get a refusal or a run, and an accepted file comes back from the writer.
+/// Any bytes get a refusal or a run, and an accepted file comes back from the writer. No file gets 4.
 #[test]
 fn damaged_files_are_answered() {
     let mut refused = [0; 14];
@@ -962,9 +1174,10 @@ fn damaged_files_are_answered() {
             Err(refusal) => refused[usize::from(refusal.number)] += 1,
         }
     }
-    for number in [1, 2, 3, 4, 5, 6, 13] {
+    for number in [1, 2, 3, 5, 6, 13] {
         assert!(refused[number] > 0, "refusals by number: {refused:?}");
     }
+    assert_eq!(refused[usize::from(REFUSED_TIMEOUT)], 0, "number 4 is given no longer");
 }
 
 // ---- the dispatcher

@@ -18,7 +18,7 @@ use Rattle.store.specs.declared.Flight.{Flight}
 use Rattle.store.proofs.Store.{plan-encode, state-encode, held-encode}
 use Rattle.event.specs.Ready.{Ready}
 use Rattle.plans.proofs.Tests.{ranges}
-use Rattle.event.proofs.Readiness.{ready-accepted, ready-sound}
+use Rattle.event.proofs.Readiness.{ready-plain, ready-sound}
 use Rattle.queue.specs.declared.Row.{Row}
 use Rattle.queue.specs.Order.{Every, From, Climbing}
 use Rattle.queue.specs.Rows.{places, size, rowAt, rowPut, rows, Sorted, Moved}
@@ -221,12 +221,12 @@ module _ (b q : List ℕ) (n : ℕ) (whole : List ℕ) (g : Emptied b q n whole)
 
   pub append-due : row .due < 256 ^ 4
   append-due =
-      let p = ready-accepted whole (g .ready) .plain in
+      let p = ready-plain whole (g .ready) in
       omega (arith, due-is, range .due, ready-sound whole (g .ready) .last, p .end≤, ranges (planIn whole) (g .ready .plan) .d-high)
 
   flight-is : (m : Flight) → m ≡ unpacked row (row .due) → m ≡ flying inWhole
   flight-is m e =
-      e ∙ unpacked-row inWhole (planIn whole) (stateIn whole .last) (ready-accepted whole (g .ready) .plain .n≤) range row row-is (row .due) (sym due-is)
+      e ∙ unpacked-row inWhole (planIn whole) (stateIn whole .last) (ready-plain whole (g .ready) .n≤) range row row-is (row .due) (sym due-is)
 
   module _ (b₁ : List ℕ) (h : Prefix whole i b₁) where
     pub append-room : Held b₁ × (length (stateIn b₁ .flight) < mostInFlight)

@@ -15,7 +15,7 @@ use Rattle.model.proofs.Search.{found-crash, found-message, found-none, found-w
 use Rattle.store.specs.Store.{planIn, stateIn}
 use Rattle.event.specs.Event.{NextIs}
 use Rattle.event.specs.Search.{crashTick}
-use Rattle.event.proofs.Readiness.{ready-accepted, ready-sound}
+use Rattle.event.proofs.Readiness.{ready-plain, ready-sound}
 use Rattle.queue.specs.declared.Row.{Row}
 use Rattle.queue.specs.Rows.{places, rowAt as queueRow}
 use Rattle.queue.specs.Holds.{Holds, Head, packed}
@@ -59,7 +59,7 @@ module _ {b q : List ℕ} {c : Progress} {whole : List ℕ} (k : Underway b q c 
   s = stateIn whole
 
   pl : Plain p
-  pl = ready-accepted whole (k .ready) .plain
+  pl = ready-plain whole (k .ready)
 
   module _ {en cr du : ℕ} (l : Looked b q c en cr du) where
     ee : en ≡ p .end

@@ -20,7 +20,7 @@ use Rattle.store.specs.Store.{encode, planIn, stateIn}
 use Rattle.store.specs.Inside.{Fits, Sized, withFlight, withTick, crashed, crashRow}
 use Rattle.store.proofs.States.{tick-fits, crash-fits}
 use Rattle.event.specs.Event.{NextIs, nextOutcome, storeLeft, entry}
-use Rattle.event.proofs.Readiness.{left-ready, left-holds, ready-accepted, ready-sound, held-sized}
+use Rattle.event.proofs.Readiness.{left-ready, left-holds, ready-plain, ready-sound, held-sized}
 use Rattle.event.proofs.Turning.{chosen-of, try-did}
 use Rattle.event.proofs.Doing.{event-tick, crash-place, crash-done}
 use Rattle.course.specs.declared.Progress.{Progress}
@@ -54,7 +54,7 @@ module _ (b q : List ℕ) (c : Progress) (whole : List ℕ) (k : Underway b q c 
   chosen : (stateIn whole .done < length (planIn whole .crashes)) × ((first .tick ≡ t) × (first .node ≡ n))
   unfolding Chosen
   chosen =
-      let ch = chosen-of (planIn whole) (stateIn whole) t (crash n) next (ready-accepted whole (k .ready) .plain) .1 in
+      let ch = chosen-of (planIn whole) (stateIn whole) t (crash n) next (ready-plain whole (k .ready)) .1 in
       (ch .0, (ch .1, ch .2))
 
   more : stateIn whole .done < length (planIn whole .crashes)
@@ -106,7 +106,7 @@ module _ (b q : List ℕ) (c : Progress) (whole : List ℕ) (k : Underway b q c 
 
   live : (j : ℕ) → alive (planIn (storeLeft whole)) (stateIn (storeLeft whole) .done) j ≡ true → alive (planIn whole) (stateIn whole .done) j ≡ true
   live j v =
-      still-live (planIn whole) (ready-accepted whole (k .ready) .plain) (stateIn whole .done) more j
+      still-live (planIn whole) (ready-plain whole (k .ready)) (stateIn whole .done) more j
       (ap₂ (λ (p : Plan) (d : ℕ). alive p d j) (sym (held .0)) (sym done) ∙ v)
 
   module _ (b' : List ℕ) (e : b' ≡ encode (planIn b) (crashed (withTick (stateIn b) t))) where

@@ -22,7 +22,7 @@ use Rattle.store.specs.declared.Flight.{Flight}
 use Rattle.store.proofs.Store.{plan-encode, state-encode, held-encode}
 use Rattle.store.proofs.States.{take-fits}
 use Rattle.event.specs.Event.{NextIs, Turns, entry}
-use Rattle.event.proofs.Readiness.{ready-accepted, ready-sound}
+use Rattle.event.proofs.Readiness.{ready-plain, ready-sound}
 use Rattle.event.proofs.Turning.{turn-did}
 use Rattle.event.proofs.Doing.{event-tick, length-less, message-here, message-place, message-sender, message-subject, message-count, message-turns}
 use Rattle.event.proofs.Doing.{message-refused, message-done, turn-of}
@@ -61,7 +61,7 @@ module _ (b q : List ℕ) (c : Progress) (t : ℕ) (whole : List ℕ) (k : Under
     is-flight : f ≡ flying (messageAt (stateIn whole) i)
     is-flight =
         fe
-        ∙ unpacked-row (messageAt (stateIn whole) i) (planIn whole) (stateIn whole .last) (ready-accepted whole (k .ready) .plain .n≤) range row
+        ∙ unpacked-row (messageAt (stateIn whole) i) (planIn whole) (stateIn whole .last) (ready-plain whole (k .ready) .n≤) range row
         (re ∙ (head .row ∙ ap packed (sym here))) t (ap (λ (m : InFlight). m .due) here ∙ dv .next head .0)
 
     pub delivery-place : f .to < planIn b .n

@@ -14,7 +14,6 @@ use Rattle.ring.specs.Ring.{listed}
 use Rattle.plans.specs.Plan.{Plan}
 use Rattle.model.specs.Platform.{InFlight, State, alive, nodeOf, crashedList}
 use Rattle.plans.specs.Plain.{rowAt, Plain}
-use Rattle.model.specs.Range.{Accepted}
 use Rattle.store.specs.Store.{planIn, stateIn}
 use Rattle.store.specs.Inside.{withFlight}
 use Rattle.event.specs.Search.{crashTick, timerTick}
@@ -165,12 +164,12 @@ module _ (p : Plan) (s : State) (t : ℕ) where
   timer-nowhere i n h e l = record { timers = passed-less i n h l; within = omega arith; here = λ k. absurd (omega arith) }
 
 -- node i as the code looks at it: l is whether it is listed among the dead
-module _ (p : Plan) (ac : Accepted p) (s : State) (dead : ℕ) (de : dead ≡ crashedList p (s .done)) (i : ℕ) (l : Bool) (le : l ≡ listed dead i) where
+module _ (p : Plan) (pl : Plain p) (s : State) (dead : ℕ) (de : dead ≡ crashedList p (s .done)) (i : ℕ) (l : Bool) (le : l ≡ listed dead i) where
   is-dead : l ≡ true → alive p (s .done) i ≡ false
-  is-dead h = dead-of p ac (s .done) i (ap (λ (d : ℕ). listed d i) (sym de) ∙ (sym le ∙ h))
+  is-dead h = dead-of p pl (s .done) i (ap (λ (d : ℕ). listed d i) (sym de) ∙ (sym le ∙ h))
 
   is-live : l ≡ false → alive p (s .done) i ≡ true
-  is-live h = live-of p ac (s .done) i (ap (λ (d : ℕ). listed d i) (sym de) ∙ (sym le ∙ h))
+  is-live h = live-of p pl (s .done) i (ap (λ (d : ℕ). listed d i) (sym de) ∙ (sym le ∙ h))
 
   never-both : {A : Type 0} → l ≡ true → alive p (s .done) i ≡ true → A
   never-both h v = absurd (let f : alive p (s .done) i ≡ false = is-dead h in let z : _≡_ {A = ℕ} 0 1 = cc in omega arith)
@@ -233,7 +232,7 @@ timer-above t l v h f = go (ℕ-discrete v 0) (decLt (v - 1) l)
 
 module _
     (p : Plan)
-    (ac : Accepted p)
+    (pl : Plain p)
     (s : State)
     (dead : ℕ)
     (de : dead ≡ crashedList p (s .done))
@@ -244,8 +243,8 @@ module _
   pub sooner-dead : l ≡ true → SoonerOf p s i least least
   sooner-dead h = record {
     low = omega arith;
-    watch = λ v n. never-both p ac s dead de i l le h v;
-    heartbeat = λ v n. never-both p ac s dead de i l le h v;
+    watch = λ v n. never-both p pl s dead de i l le h v;
+    heartbeat = λ v n. never-both p pl s dead de i l le h v;
     above = λ t k f. k;
   }
 
@@ -258,7 +257,7 @@ module _
     y = nodeOf s i .heartbeat
 
     live : alive p (s .done) i ≡ true
-    live = is-live p ac s dead de i l le h
+    live = is-live p pl s dead de i l le h
 
     xe : w ≡ timerTick least x
     xe = we ∙ ap (λ (m : Node). timerTick least (m .watch)) ae

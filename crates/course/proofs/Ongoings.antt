@@ -12,10 +12,9 @@ use Rattle.event.proofs.Doing.{ended-answer}
 use Rattle.event.proofs.LineRoom.{last-of}
 use Rattle.logline.specs.declared.Line.{Line}
 use Rattle.model.specs.declared.Deed.{Deed}
-use Rattle.logline.specs.Line.{letterE}
 use Rattle.plans.specs.Plan.{Plan}
 use Rattle.model.specs.Platform.{survivors, crashedList, nextEvent}
-use Rattle.model.specs.Lines.{line, lastLine}
+use Rattle.model.specs.Lines.{line, lastLetter, lastLine}
 use Rattle.queue.specs.Rows.{places, Moved}
 use Rattle.queue.proofs.Queues.{holds-moved, holds-count}
 use Rattle.course.specs.declared.Progress.{Progress}
@@ -69,11 +68,12 @@ module _ (whole : List ℕ) (d : Progress) (r : Step) (b' q' : List ℕ) (s : St
 -- ---- the last line, as of the whole store
 
 pub last-whole : {b q : List ℕ} {c : Progress} {whole : List ℕ} → Underway b q c whole → (l : Line)
-    → l ≡ line letterE (planIn b .end) (survivors (planIn b) (stateIn b .done)) (c .end - c .start) (crashedList (planIn b) (stateIn b .done))
+    → l ≡ line (lastLetter (planIn b)) (planIn b .end) (survivors (planIn b) (stateIn b .done)) (c .end - c .start)
+    (crashedList (planIn b) (stateIn b .done))
     → l ≡ lastLine (planIn whole) (stateIn whole)
 last-whole {b} {q} {c} {whole} k l e =
     last-of whole (c .end - c .start) (sym (holds-count q (c .start) (c .end) (stateIn whole .flight) (k .apart .holds))) l
-    (e ∙ ap₂ (λ (p : Plan) (n : ℕ). line letterE (p .end) (survivors p n) (c .end - c .start) (crashedList p n)) (apart-plan (k .apart))
+    (e ∙ ap₂ (λ (p : Plan) (n : ℕ). line (lastLetter p) (p .end) (survivors p n) (c .end - c .start) (crashedList p n)) (apart-plan (k .apart))
     (apart-done (k .apart)))
 
 -- ---- a run begins, and ends

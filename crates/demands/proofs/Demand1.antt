@@ -1,26 +1,29 @@
 -- Demand 1: what is refused, by which number, and that a refused call leaves what it was lent. Assumes nothing.
 use mathlib.Core.Path.{_≡_, refl, sym, ap, _∙_}
-use mathlib.Core.Logic.{_≢_}
-use mathlib.Core.Bool.{Bool, true, false, true≢false, cond, not, _&&_}
+use mathlib.Core.Logic.{_≢_, _⊎_, inl, inr}
+use mathlib.Core.Bool.{Bool, true, false, true≢false, cond, not, _&&_, _||_}
+use mathlib.Mathlib.Data.Bool.Basic.{or-eq-false-eq-eq-false-and-eq-false}
 use mathlib.Core.List.{List, [], _∷_}
 use mathlib.Core.Option.{Option, none, some}
-use Prim.Native.Nat.{ℕ, zero, suc, _^_, _≤_, _<_}
+use Prim.Native.Nat.{ℕ, zero, suc, _%_, _^_, _≤_, _<_}
 use native.Mathlib.Omega.{arith}
-use borrow.Author.Tests.{ltb-true, ltb-false, lt-ltb, le-ltb, le-leb, lt-leb, ne-eqb, not-false}
+use borrow.Author.Tests.{ltb-true, ltb-false, lt-ltb, le-ltb, le-leb, lt-leb, eqb-false, ne-eqb, not-false}
 use lib.Dec.{eqb, leb, ltb}
 use lib.ListN.{length}
 use Rattle.limits.specs.Limits.{mostNodes, mostInFlight, recordSize, storeSize}
-use Rattle.ring.specs.Ring.{tableAnswer}
+use Rattle.ring.specs.Ring.{eachOnce, tableAnswer}
 use Rattle.text.specs.Put.{put}
-use Rattle.plans.specs.Plan.{Plan, within as between}
+use Rattle.plans.specs.Plan.{Plan, startPlan, within as between, startRanges, ringTest, crashTest, every, crashOrder, rising, noneTwice, delayTest}
+use Rattle.plans.specs.Plan.{delayOrder, fewDelays, planTest}
 use Rattle.runfile.specs.Text.{planText}
 use Rattle.runfile.specs.File.{FileAnswer, accepted as acceptedFile, turnedDown, fileOf}
+use Rattle.runfile.proofs.RoundTrip.{read-back}
 use Rattle.runfile.proofs.Refusals.{refusal-small}
 use Rattle.logline.specs.declared.Line.{Line}
-use Rattle.logline.specs.declared.Read.the-variants.{Accepted as Read}
+use Rattle.logline.specs.declared.Read.the-variants.{Accepted as Read, Refused as Unread}
 use Rattle.logline.specs.declared.Written.the-variants.{Bytes as Put, Refused as Unput}
 use Rattle.logline.specs.Line.{Ranges, upTo, unknown, ranges, within, readOf, lineText, writtenIn, writtenOf, holds, outOf}
-use Rattle.logline.proofs.LineTrip.{read-trip, text-accepted}
+use Rattle.logline.proofs.LineTrip.{read-trip, text-accepted, refused-number}
 use Rattle.model.specs.Platform.{State, start, Entry, Outcome, did, ended, refused, Ending, spent, finished, overfull as overfullRun}
 use Rattle.model.specs.Platform.{nextEvent, apply, fits, tried, try, left, steps, eventCount, runAnswer}
 use Rattle.model.proofs.Calls.{stuck, counted}
@@ -31,6 +34,7 @@ use Rattle.host.specs.Record.{openable, sound}
 use Rattle.host.proofs.Range.{opened-in-range, deliver-stays, timers-stay}
 use Rattle.node.specs.Node.{Turn}
 use Rattle.store.specs.Store.{encode, planIn, stateIn, storeInRange}
+use Rattle.platform.specs.declared.Opened.{Opened}
 use Rattle.platform.specs.declared.Opened.the-variants.{Ready, Refused as Unopened}
 use Rattle.platform.specs.declared.Stepped.{Stepped}
 use Rattle.platform.specs.declared.Stepped.the-variants.{Did, Done, Refused as Unstepped}
@@ -41,15 +45,16 @@ use Rattle.platform.specs.declared.Wrote.the-variants.{Bytes, Refused as Unwrit
 use Rattle.platform.specs.Calls.{AfterOpen, AfterStep, AfterRun, AfterWrite, openPlan, openAnswer as fileAnswer, openFile, stepOutcome}
 use Rattle.platform.specs.Calls.{step, ran, runState, run, writeFile, openRefusal, stepRefusal, runRefusal, eventsDone, writeRefusal}
 use Rattle.platform.proofs.Stores.{ran-done}
+use Rattle.platform.proofs.Opening.{opening-small}
 use Rattle.dispatcher.specs.declared.Dispatched.{Dispatched}
 use Rattle.dispatcher.specs.Dispatch.{AfterDispatch, given, gave, refused as refusedPart, turnedDown as turnedDownPart, partInRange, dispatch}
-use Rattle.planner.specs.Answers.{stepLetter, stepTick, stepNode, stepOther, stepSize, runEvents, runSpent, writeSize}
+use Rattle.planner.specs.Answers.{numberAndLine, stepLetter, stepTick, stepNode, stepOther, stepSize, runEvents, runSpent, writeSize}
 use Rattle.planner.specs.Answers.{dispatchTurns, dispatchEvents, dispatchStopped}
-use Rattle.demands.specs.Demands.{place, firstBroken, TurnsDown, fileNumber, openPlaces, overfullBy, overfull, stepPlaces, stopped}
+use Rattle.demands.specs.Demands.{Place, place, firstBroken, TurnsDown, fileNumber, openPlaces, overfullBy, overfull, stepPlaces, stopped}
 use Rattle.demands.specs.Demands.{runPlaces, KeepsEarlier, writePlaces, dispatchPlaces}
 use Rattle.demands.specs.Nodes.{NodeCall, deliver, timers, leaves}
 use Rattle.demands.specs.Demands.{RecordCall, recordAfterAll, recordPlaces, deliverPlaces, timersPlaces}
-use Rattle.demands.specs.Demands.{letterUnknown, outside, linePlaces, lineRefusal, tablePlaces}
+use Rattle.demands.specs.Demands.{letterUnknown, outside, linePlaces, lineRefusal, tablePlaces, NeverFour}
 
 -- ---- tests
 
@@ -139,6 +144,25 @@ ran-down finished n = refl
 ran-down overfullRun n = refl
 
 -- ---- the platform's calls
+
+-- a P line by itself
+pub start-taken : (n h w d end : ℕ) → (1 ≤ n) × (n ≤ 64) → (1 ≤ h) × (h ≤ 1000) → (1 ≤ w) × (w ≤ 65535) → (1 ≤ d) × (d ≤ 255) → end ≤ 1000000
+    → fileOf (planText (startPlan n h w d end)) ≡ acceptedFile (startPlan n h w d end)
+unfolding startPlan planTest startRanges between ringTest crashTest every crashOrder rising noneTwice eachOnce delayTest delayOrder fewDelays
+start-taken n h w d end hn hh hw hd he =
+    read-back (startPlan n h w d end)
+    (rw (
+      le-leb 1 n (hn .0),
+      le-leb n 64 (hn .1),
+      le-leb 1 h (hh .0),
+      le-leb h 1000 (hh .1),
+      le-leb 1 w (hw .0),
+      le-leb w 65535 (hw .1),
+      le-leb 1 d (hd .0),
+      le-leb d 255 (hd .1),
+      le-leb 0 end (omega arith),
+      le-leb end 1000000 he,
+    ) refl)
 
 pub file-length : (file : List ℕ) → (leb 1 (length file) && leb (length file) 65536) ≡ false → fileOf file ≡ turnedDown 1 0
 unfolding fileOf between
@@ -394,3 +418,75 @@ table-down n d = by (leb 1 n) (leb n mostNodes) (ltb d (2 ^ n))
     by true false c = refl
     by true true false = refl
     by true true true = refl
+
+-- ---- number 4
+
+-- whether a place has the number
+unfoldable numbered : ℕ → List Place → Bool
+numbered n [] = false
+numbered n (x ∷ xs) = eqb (x .number) n || numbered n xs
+
+-- a number that no place has is not that of the first whose rule is broken
+first-other : (n : ℕ) (xs : List Place) → n ≢ 0 → numbered n xs ≡ false → firstBroken xs ≢ n
+unfolding firstBroken numbered
+first-other n [] z h = λ e. z (sym e)
+first-other n (x ∷ xs) z h = by (x .broken) (first-other n xs z (none .1))
+  where
+    none : (eqb (x .number) n ≡ false) × (numbered n xs ≡ false)
+    none = or-eq-false-eq-eq-false-and-eq-false (eqb (x .number) n) (numbered n xs) .0 h
+
+    by : (b : Bool) → firstBroken xs ≢ n → cond b (x .number) (firstBroken xs) ≢ n
+    by true later = eqb-false (x .number) n (none .0)
+    by false later = later
+
+-- a call whose places do not have 4 does not give it
+not-four : {number : ℕ} {places : List Place} {Untouched : Type 0} → TurnsDown number places Untouched → numbered 4 places ≡ false → number ≢ 4
+not-four {number} {places} d h e = first-other 4 places (λ z. omega arith) h (sym (d .first) ∙ e)
+
+file-not-four : (file : List ℕ) → fileNumber (fileOf file) ≢ 4
+unfolding fileNumber
+file-not-four file = go (fileOf file) refl
+  where
+    go : (a : FileAnswer) → fileOf file ≡ a → fileNumber a ≢ 4
+    go (acceptedFile p) e = λ z. omega arith
+    go (turnedDown number line) e = refusal-small file number line e .3
+
+open-not-four : (file store : List ℕ) → openRefusal (openFile file store .answer) ≢ 4
+unfolding numbered openPlaces
+open-not-four file store = not-four (open-down file store) (rw (ne-eqb (fileNumber (fileOf file)) 4 (file-not-four file)) refl)
+
+-- the number taken out of the answer in C
+open-c-not-four : (file store : List ℕ) → numberAndLine (openFile file store .answer) % 256 ≢ 4
+unfolding numberAndLine openRefusal
+open-c-not-four file store = go (openFile file store .answer) refl
+  where
+    go : (a : Opened) → openFile file store .answer ≡ a → numberAndLine a % 256 ≢ 4
+    go Ready e z = omega arith
+    go (Unopened number line) e z =
+        let four : number ≡ 4 = omega (arith, opening-small file store number line e .1) in
+        open-not-four file store (ap openRefusal e ∙ four)
+
+read-not-four : (text : List ℕ) → readOf text ≢ Unread 4
+read-not-four text e = by (refused-number text 4 e)
+  where
+    by : (_≡_ {A = ℕ} 4 2) ⊎ (_≡_ {A = ℕ} 4 3) → ⊥
+    by (inl h) = omega arith
+    by (inr h) = omega arith
+
+pub never-four : NeverFour
+unfolding numbered stepPlaces runPlaces writePlaces dispatchPlaces recordPlaces deliverPlaces timersPlaces linePlaces tablePlaces
+never-four = record {
+  reading = file-not-four;
+  opening = open-not-four;
+  openingC = open-c-not-four;
+  stepping = λ store log. not-four (step-down store log) refl;
+  running = λ store budget. not-four (run-down store budget) refl;
+  writing = λ store out. not-four (write-down store out) refl;
+  dispatching = λ part turnLength turns. not-four (dispatch-down part turnLength turns) refl;
+  nodeOpen = λ s number nodes h w. not-four (open-record-down s number nodes h w) refl;
+  nodeDeliver = λ s tick kind sender subject list part. not-four (deliver-down s tick kind sender subject list part) refl;
+  nodeTimers = λ s tick part. not-four (fire-down s tick part) refl;
+  lineReading = read-not-four;
+  lineWriting = λ l out. not-four (line-down l out) refl;
+  table = λ n d e. first-other 4 (tablePlaces n d) (λ z. omega arith) refl (sym (table-down n d) ∙ e);
+}

@@ -3,7 +3,7 @@
 use mathlib.Core.Path.{_≡_, refl, sym, ap, _∙_, subst}
 use mathlib.Core.Bool.{Bool, true, false}
 use mathlib.Core.List.{List, [], _∷_, _++_, append-nil, List·Memᴰ}
-use Prim.Native.Nat.{ℕ, _^_, _≤_, _<_}
+use Prim.Native.Nat.{ℕ, _+_, _^_, _≤_, _<_}
 use native.Mathlib.Nat.{pow-le-pow-right}
 use native.Mathlib.Omega.{arith}
 use native.Mathlib.Decide.{decLt}
@@ -14,7 +14,7 @@ use Rattle.limits.specs.Limits.{logRoom, storeSize, fileRoom}
 use Rattle.text.specs.Put.{put}
 use Rattle.logline.specs.declared.Line.{Line}
 use Rattle.logline.specs.declared.Read.the-variants.{Accepted as Read}
-use Rattle.logline.specs.Line.{lineText, readOf}
+use Rattle.logline.specs.Line.{letterE, letterF, lineText, readOf}
 use Rattle.logline.proofs.LineTrip.{text-accepted}
 use Rattle.plans.specs.Plan.{Plan}
 use Rattle.runfile.specs.File.{accepted, fileOf}
@@ -24,13 +24,12 @@ use Rattle.model.specs.Platform.{State, Event, Entry, crash, message, watch, he
 use Rattle.model.specs.Platform.{try, left, steps, after}
 use Rattle.model.specs.Lines.{eventLines, lastLine, linesFrom, crashDeed, messageDeed, watchDeed, heartbeatDeed, deedOf, linesText}
 use Rattle.plans.proofs.Facts.{plan-plain}
-use Rattle.model.proofs.Plans.{plan-accepted}
 use Rattle.plans.specs.Plain.{Plain}
 use Rattle.model.specs.Range.{Sound}
 use Rattle.model.proofs.RangesKept.{try-ok, left-range, after-range}
 use Rattle.store.specs.Store.{encode, planIn, stateIn, storeInRange}
 use Rattle.model.proofs.SettledNode.{crashed-lt}
-use Rattle.model.proofs.Lines.{lines-list, did-in-ranges, last-in-ranges}
+use Rattle.model.proofs.Lines.{lines-list, did-in-ranges, last-in-ranges, letter-long, letter-short}
 use Rattle.platform.specs.declared.Wrote.the-variants.{Bytes}
 use Rattle.platform.specs.declared.Stepped.the-variants.{Did, Done}
 use Rattle.platform.specs.declared.Ran.the-variants.{Done as Finished, Spent}
@@ -154,8 +153,14 @@ last-read file p ok k =
     let pl : Plain p = plan-plain p (accepted-plan file p ok) in
     let s : State = after p k in
     let l : Line = lastLine p s in
-    let small = crashed-lt p (plan-accepted p (accepted-plan file p ok)) (s .done) in
+    let small = crashed-lt p (plan-plain p (accepted-plan file p ok)) (s .done) in
     text-accepted l (last-in-ranges p pl s (after-range p pl k)) (omega (arith, small, pow-le-pow-right {n = 2} (lit< tt) (pl .n≤)))
+
+-- its letter
+pub last-letters : (p : Plan) (s : State)
+    → (p .h + p .d ≤ p .w → lastLine p s .letter ≡ letterE) × (p .w < p .h + p .d → lastLine p s .letter ≡ letterF)
+unfolding lastLine
+last-letters p s = (letter-long p, letter-short p)
 
 -- ---- what stands behind the pointers of accepted calls from C
 

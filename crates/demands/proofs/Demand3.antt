@@ -3,16 +3,17 @@
 use mathlib.Core.Path.{_≡_, refl, sym, ap, _∙_, subst}
 use mathlib.Core.Bool.{true}
 use mathlib.Core.List.{List, []}
-use Prim.Native.Nat.{ℕ, _<_}
+use Prim.Native.Nat.{ℕ, _+_, _≤_, _<_}
+use native.Mathlib.Omega.{arith}
 use borrow.Author.Tests.{eq-eqb}
 use lib.ListN.{length, getD}
 use Rattle.plans.specs.Plan.{Plan, planTest}
 use Rattle.runfile.specs.File.{accepted, fileOf}
 use Rattle.runfile.proofs.RoundTrip.{accepted-plan}
 use Rattle.model.specs.Platform.{State, start, firstEvents, after}
-use Rattle.model.specs.Range.{Accepted}
-use Rattle.model.specs.Claims.{CrashedAre, Safe, Settles, Joins, Completes}
-use Rattle.model.proofs.Plans.{plan-accepted}
+use Rattle.model.specs.Range.{EndsInE}
+use Rattle.model.specs.Claims.{CrashedAre}
+use Rattle.plans.proofs.Facts.{plan-plain}
 use Rattle.model.proofs.Theorems.{crashed, logarithm, safety, settling, joining, completing}
 use Rattle.limits.specs.Limits.{storeSize}
 use Rattle.store.specs.Store.{encode, planIn, stateIn, storeInRange}
@@ -24,7 +25,7 @@ use Rattle.platform.proofs.CallLists.{after-small, after-holds, none-seven, ope
 use Rattle.dispatcher.specs.PartCalls.{PartCall, storesAfterAll, callsOn, NoCallAnswers, LentCall, AllAround, storeAfterAllLent, lentCalls}
 use Rattle.dispatcher.proofs.PartCalls.{Led, AllLed, calls-at, calls-not-seven}
 use Rattle.dispatcher.proofs.Among.{all-lent-leave}
-use Rattle.demands.specs.Demands.{storeOf, AfterCalls, JustOpened, AllOpened, Demand3}
+use Rattle.demands.specs.Demands.{storeOf, AfterCallsE, AfterCalls, JustOpened, AllOpened, Demand3}
 
 -- an accepted file, and a lent store of its length
 module _ (file store : List ℕ) (p : Plan) (ok : fileOf file ≡ accepted p) (size : length store ≡ storeSize) where
@@ -39,20 +40,27 @@ module _ (file store : List ℕ) (p : Plan) (ok : fileOf file ≡ accepted p) (s
   pub called : (cs : List Call) → storeOf file store cs ≡ encode p (after p (eventsOf p cs))
   called cs = ap (λ (a : AfterOpen). storeAfterAll cs (a .store)) opened ∙ events-done p good cs
 
+  -- where the run ends in E
+  ends-after : (e : ℕ) → p .h + p .d ≤ p .w → AfterCallsE p (after p e)
+  ends-after e long =
+      let ac : EndsInE p = record { plain = plan-plain p good; long = long } in
+      record {
+        safe = safety p ac e;
+        settles = settling p ac e;
+        joins = joining p ac e;
+        completes = completing p ac e;
+      }
+
   pub left-after : (cs : List Call) → AfterCalls p cs (storeOf file store cs)
   left-after cs =
       let e : ℕ = eventsOf p cs in
-      let ac : Accepted p = plan-accepted p good in
       let holds = after-holds p good e in
       let state : stateIn (storeOf file store cs) ≡ after p e = ap stateIn (called cs) ∙ state-of p (after p e) holds in
       record {
         events = called cs;
         plan = ap planIn (called cs) ∙ plan-of p (after p e) holds;
-        crashed = subst (CrashedAre p (firstEvents p e)) (sym state) (crashed p (ac .plain) e);
-        safe = subst (Safe p) (sym state) (safety p ac e);
-        settles = subst (Settles p) (sym state) (settling p ac e);
-        joins = subst (Joins p) (sym state) (joining p ac e);
-        completes = subst (Completes p) (sym state) (completing p ac e);
+        crashed = subst (CrashedAre p (firstEvents p e)) (sym state) (crashed p (plan-plain p good) e);
+        ending = λ long. subst (AfterCallsE p) (sym state) (ends-after e (omega (arith, long)));
         inRange = ap storeInRange (called cs) ∙ in-range p (after p e) holds (after-small p good e);
       }
 
@@ -111,7 +119,6 @@ module _ (file store : List ℕ) (p : Plan) (ok : fileOf file ≡ accepted p) (s
 pub any-calls : Demand3
 any-calls = record {
   logarithm = logarithm;
-  longEnough = λ file p ok. plan-accepted p (accepted-plan file p ok) .four;
   opens = λ file store p ok size. ap (λ (a : AfterOpen). a .answer) (opened file store p ok size);
   justOpened = just-opened;
   left = left-after;

@@ -25,28 +25,21 @@ use Rattle.runfile.specs.File.{accepted, fileOf}
 use Rattle.runfile.proofs.RoundTrip.{accepted-plan}
 use Rattle.model.specs.Platform.{InFlight, State, Entry, Outcome, did, ended, refused, alive, start, nodeOf, try, left, steps, after}
 use Rattle.plans.specs.Plain.{Plain}
-use Rattle.model.specs.Range.{Accepted, Sound}
+use Rattle.model.specs.Range.{Sound}
 use Rattle.model.proofs.RangesKept.{start-node, after-range}
-use Rattle.model.proofs.Reached.{after-inv}
-use Rattle.model.proofs.Plans.{plan-accepted}
+use Rattle.plans.proofs.Facts.{plan-plain}
 use Rattle.plans.proofs.Tests.{ranges}
 use Rattle.model.proofs.Happened.{Happened, did-happened, after-suc}
 use Rattle.demands.specs.Nodes.{recordOf, NodeCall, callTo, SameEvent, lent, followed, recordAfter, tickOr, ticked, lastTick, Follows, SameAsNodes}
+use Rattle.model.proofs.OfOthers.{after-others}
 use Rattle.demands.proofs.OneEvent.{called-live, last-now, leaves-others, event-same}
 
 module _ (p : Plan) (good : planTest p ≡ true) (order : orderOf p ≡ numbers 0 (p .n)) where
-  abbrev ac : Accepted p
-  ac = plan-accepted p good
-
   abbrev pl : Plain p
-  pl = ac .plain
+  pl = plan-plain p good
 
   abbrev range : (k : ℕ) → Sound p (after p k)
   range k = after-range p pl k
-
-  -- the subject of a report in flight is crashed
-  reported : (k : ℕ) (m : InFlight) → List·Memᴰ m (after p k .flight) → m .kind ≡ R → alive p (after p k .done) (m .subject) ≡ false
-  reported k m h q = ((after-inv p ac k) .base .reported m h q) .dead
 
   happened : (k : ℕ) (e : Entry) (s' : State) → try p (after p k) ≡ did e s' → Happened p pl (after p k) e s'
   happened k e s' h = did-happened p pl (after p k) (range k) e s' h
@@ -92,7 +85,8 @@ module _ (p : Plan) (good : planTest p ≡ true) (order : orderOf p ≡ numbers 
   same-at k e s' t x c q last l b ok d part long =
       let h = happened k e s' t in
       subst (λ (z : State). SameEvent p (after p k) e z x c b part) (sym (h .leads))
-      (event-same p good (after p k) (range k) (e .tick) (h .late) (h .end) order last l b ok part long (reported k) (e .event) (h .chosen) (h .next) x c q d)
+      (event-same p good (after p k) (range k) (e .tick) (h .late) (h .end) order last l b ok part long (after-others p pl k) (e .event) (h .chosen)
+      (h .next) x c q d)
 
   range-at : (k : ℕ) (e : Entry) (s' : State) → try p (after p k) ≡ did e s' → (x : ℕ) (c : NodeCall) → callTo p (after p k) x (e .event) ≡ some c
       → (last : ℕ) → after p k .last ≤ last → last ≤ e .tick → InRange (recordOf p x last (nodeOf (after p k) x))

@@ -19,7 +19,7 @@ use Rattle.host.specs.Call.{delivered, withTurn}
 use Rattle.host.proofs.Accepted.{Accepted, deliver-accepted, timers-accepted, fired-watch, fired-heartbeat}
 use Rattle.ring.specs.Ring.{numbers}
 use Rattle.plans.specs.Plan.{Plan, orderOf, planTest}
-use Rattle.model.proofs.Plans.{plan-accepted}
+use Rattle.plans.proofs.Facts.{plan-plain}
 use Rattle.model.specs.Platform.{InFlight, State, Event, crash, message, watch, heartbeat, alive, nextEvent, nodeOf, messageAt}
 use Rattle.model.specs.Platform.{taken, without, received, apply}
 use Rattle.plans.specs.Plain.{Plain}
@@ -27,6 +27,7 @@ use Rattle.model.specs.Range.{FlightRange, Sound}
 use Rattle.model.proofs.NextEvent.{Chosen}
 use Rattle.model.proofs.RangesKept.{at-mem, in-n, here, other}
 use Rattle.model.proofs.Happened.{watch-first}
+use Rattle.model.proofs.OfOthers.{OfOthers}
 use Rattle.demands.specs.Nodes.{recordOf, NodeCall, deliver, timers, callTo, answers, leaves, sends, found, SameEvent}
 
 -- a call that is to a node is one call
@@ -42,7 +43,7 @@ no-call false c e = refl
 module _ (p : Plan) (good : planTest p ≡ true) (s : State) (r : Sound p s) (t : ℕ) (late : s .last ≤ t)
     (end : t ≤ p .end) where
   abbrev pl : Plain p
-  pl = plan-accepted p good .plain
+  pl = plan-plain p good
 
   -- ---- whose call it is
 
@@ -108,23 +109,20 @@ module _ (p : Plan) (good : planTest p ≡ true) (s : State) (r : Sound p s) (t 
     delivery i = deliver ((messageAt s i) .kind) ((messageAt s i) .from) ((messageAt s i) .subject) ((messageAt s i) .list)
 
     message-same : (i : ℕ) → Chosen p pl s t (message i)
-        → ((m : InFlight) → List·Memᴰ m (s .flight) → m .kind ≡ R → alive p (s .done) (m .subject) ≡ false)
-        → alive p (s .done) ((messageAt s i) .to) ≡ true → decode b ≡ recordOf p ((messageAt s i) .to) last (nodeOf s ((messageAt s i) .to))
+        → OfOthers s → alive p (s .done) ((messageAt s i) .to) ≡ true → decode b ≡ recordOf p ((messageAt s i) .to) last (nodeOf s ((messageAt s i) .to))
         → SameEvent p s (record { tick = t; event = message i }) (apply p s t (message i)) ((messageAt s i) .to) (delivery i) b part
     unfolding Chosen apply received found answers leaves sends recordOf delivered
-    message-same i ch reported a d =
+    message-same i ch others a d =
         let m : InFlight = messageAt s i in
         let has : List·Memᴰ m (s .flight) = at-mem (s .flight) i (ch .0) in
         let f : FlightRange p (s .last) m = r .flying m has in
         let k : Record = recordOf p (m .to) last (nodeOf s (m .to)) in
-        let about : m .kind ≡ R → (m .subject < p .n) × (m .subject ≡ m .to → ⊥) =
-        λ q. (f .subject, λ e. true≢false (sym a ∙ ap (alive p (s .done)) (sym e) ∙ reported m has q)) in
         let u : delivered k t (m .kind) (m .from) (m .subject) (m .list) ≡ received p s t m = rw (a, order) in
         let after : Turn → State = taken p s t (m .to) (without i (s .flight)) in
         subst (λ (v : Turn). SameEvent p s (record { tick = t; event = message i }) (after v) (m .to) (delivery i) b part)
         u (same (m .to) (f .to) last (message i) (delivered k t (m .kind) (m .from) (m .subject) (m .list)) (delivery i) b part
-        (deliver-accepted b k ok d t l ends part long (m .kind) (m .from) (m .subject) (m .list) (f .kind) (f .from) (f .apart) about
-        (f .list .below)))
+        (deliver-accepted b k ok d t l ends part long (m .kind) (m .from) (m .subject) (m .list) (f .kind) (f .from) (f .apart)
+        (λ q. (f .subject, others m has q)) (f .list .below)))
 
     watch-same : (x : ℕ) → Chosen p pl s t (watch x) → decode b ≡ recordOf p x last (nodeOf s x)
         → SameEvent p s (record { tick = t; event = watch x }) (apply p s t (watch x)) x timers b part
@@ -148,22 +146,21 @@ module _ (p : Plan) (good : planTest p ≡ true) (s : State) (r : Sound p s) (t 
         (same x (in-n p pl s r x (ch .0)) last (heartbeat x) _ timers b part (timers-accepted b k ok d t l ends part long))
 
     -- any event, to any node
-    pub event-same : ((m : InFlight) → List·Memᴰ m (s .flight) → m .kind ≡ R → alive p (s .done) (m .subject) ≡ false)
-        → (ev : Event) → Chosen p pl s t ev → nextEvent p s ≡ some (record { tick = t; event = ev })
+    pub event-same : OfOthers s → (ev : Event) → Chosen p pl s t ev → nextEvent p s ≡ some (record { tick = t; event = ev })
         → (x : ℕ) (c : NodeCall) → callTo p s x ev ≡ some c → decode b ≡ recordOf p x last (nodeOf s x)
         → SameEvent p s (record { tick = t; event = ev }) (apply p s t ev) x c b part
     unfolding callTo
-    event-same reported (crash k) ch n x c q d = let z : _≡_ {A = ℕ} 0 1 = cc in absurd (omega arith)
-    event-same reported (message i) ch n x c q d =
+    event-same others (crash k) ch n x c q d = let z : _≡_ {A = ℕ} 0 1 = cc in absurd (omega arith)
+    event-same others (message i) ch n x c q d =
         let o = one-call _ (delivery i) c q in
         let a = and-eq-true-iff (eqb ((messageAt s i) .to) x) _ .0 (o .0) in
         let e : (messageAt s i) .to ≡ x = eqb-true ((messageAt s i) .to) x (a .0) in
-        rw (← o .1, ← e) (message-same i ch reported (rw e (a .1)) (rw e d))
-    event-same reported (watch y) ch n x c q d =
+        rw (← o .1, ← e) (message-same i ch others (rw e (a .1)) (rw e d))
+    event-same others (watch y) ch n x c q d =
         let o = one-call _ timers c q in
         let e : y ≡ x = eqb-true y x (o .0) in
         rw (← o .1, ← e) (watch-same y ch (rw e d))
-    event-same reported (heartbeat y) ch n x c q d =
+    event-same others (heartbeat y) ch n x c q d =
         let o = one-call _ timers c q in
         let e : y ≡ x = eqb-true y x (o .0) in
         rw (← o .1, ← e) (heartbeat-same y ch n (rw e d))

@@ -1,17 +1,18 @@
 -- THE THEOREMS: the customer's three demands, and what request 104 claims. The statements stand in specs/Demands.antt. Assumes nothing.
 use Rattle.runfile.proofs.RoundTrip.{written-back, accepted-plan, read-back}
-use Rattle.runfile.proofs.Refusals.{refusal-small}
+use Rattle.runfile.proofs.Refusals.{refused-by-line}
 use Rattle.logline.proofs.LineTrip.{refused-number, written-of-read, read-of-written}
 use Rattle.logline.proofs.ColumnTrip.{five-columns}
 use Rattle.rehearsal.proofs.Parts.{whole-output}
 use Rattle.dispatcher.proofs.Theorems.{dispatches-lent}
 use Rattle.planner.proofs.Answered.{taken-apart}
 use Rattle.demands.specs.Demands.{Demand1, Demand2, Demand3, Request104}
-use Rattle.demands.proofs.Demand1.{file-length, open-down, step-down, run-down, run-bad-store, write-down, dispatch-down}
+use Rattle.demands.proofs.Demand1.{start-taken, file-length, open-down, step-down, run-down, run-bad-store, write-down, dispatch-down}
 use Rattle.demands.proofs.Demand1.{open-line, step-numbers, run-numbers, write-numbers, dispatch-numbers}
 use Rattle.demands.proofs.Demand1.{open-record-down, deliver-down, fire-down, records-stay}
-use Rattle.demands.proofs.Demand1.{line-taken, line-only, line-down, table-down}
-use Rattle.demands.proofs.Demand2.{next-events, lent-events, step-puts, run-puts, write-puts, dispatch-puts, line-read, last-read, file-again}
+use Rattle.demands.proofs.Demand1.{line-taken, line-only, line-down, table-down, never-four}
+use Rattle.demands.proofs.Demand2.{next-events, lent-events, step-puts, run-puts, write-puts, dispatch-puts, line-read, last-read, last-letters}
+use Rattle.demands.proofs.Demand2.{file-again}
 use Rattle.demands.proofs.Nodes.{rehearsed}
 use Rattle.demands.proofs.Demand3.{any-calls}
 
@@ -19,8 +20,9 @@ use Rattle.demands.proofs.Demand3.{any-calls}
 pub demand1 : Demand1
 demand1 = record {
   fileTaken = read-back;
+  startTaken = start-taken;
   fileLength = file-length;
-  fileNumber = refusal-small;
+  fileNumber = refused-by-line;
   fileOnly = λ file p ok. (written-back file p ok, accepted-plan file p ok);
   opening = open-down;
   stepping = step-down;
@@ -43,6 +45,7 @@ demand1 = record {
   lineOnly = line-only;
   lineWriting = line-down;
   table = table-down;
+  neverFour = never-four;
 }
 
 -- every event and line as 01 fixes them, and the same bytes when read and written again
@@ -57,6 +60,7 @@ demand2 = record {
   dispatchPuts = dispatch-puts;
   lines = line-read;
   lastLines = last-read;
+  lastLetters = last-letters;
   columns = five-columns;
   program = whole-output;
   fileAgain = file-again;

@@ -1,6 +1,7 @@
 -- A worked file, P,2,1,2,1,20. After eight events the next is node 0's heartbeat, due at tick 3, and its watch is due at tick 5, which is
 -- above 0 + 2 × W: a record that holds its fields with last tick 0 is refused by 10, which is why `event` of specs/Nodes.antt
--- asks for a record in range. The record that followed the run has last tick 3 and is taken. Assumes nothing.
+-- asks for a record in range. The record that followed the run has last tick 3 and is taken. W is H + D and no more, and demand 3's claims hold of
+-- its store after any calls. Assumes nothing.
 use mathlib.Core.Path.{_≡_, refl, ap, _∙_}
 use mathlib.Core.List.{List, []}
 use mathlib.Core.Option.{some}
@@ -14,10 +15,10 @@ use Rattle.node.specs.declared.Node.{Node}
 use Rattle.node.specs.Node.{reports, opening, learnt, onHeartbeat, onObserver, onReport, onHeartbeatDue, onMessage, leaving}
 use Rattle.node.specs.Range.{nodeTest, apart, liveTest}
 use Rattle.host.specs.Record.{numbersBytes, neighboursBytes, ticksBytes, markBytes, encode, decode, openable, inRange, sound}
-use Rattle.limits.specs.Limits.{recordSize, partSize}
+use Rattle.limits.specs.Limits.{recordSize, partSize, storeSize}
 use Rattle.limits.specs.Refusals.{badRecord, accepted as taken}
 use Rattle.host.specs.Call.{answer, tickTaken, timersAnswer}
-use Rattle.plans.specs.Plan.{Plan, within, startRanges, longEnough, rising, hits, noneTwice, crashOrder, delayOrder, fewDelays, every, startTest, crashTest}
+use Rattle.plans.specs.Plan.{Plan, within, startRanges, rising, hits, noneTwice, crashOrder, delayOrder, fewDelays, every, crashTest}
 use Rattle.plans.specs.Plan.{ringOrder, orderOf, ringTest, delayTest, planTest}
 use Rattle.runfile.specs.Text.{planText}
 use Rattle.runfile.specs.File.{accepted, fileOf}
@@ -25,14 +26,18 @@ use Rattle.runfile.proofs.RoundTrip.{read-back}
 use Rattle.model.specs.Platform.{heartbeat, alive, start, crashEntries, messageEntries, timerEntry, timerEntries, pending, earlier, first}
 use Rattle.model.specs.Platform.{upTo, nextEvent, delayIn, delayOf, numbered, nodeOf, taken as turned, without, received, apply, fits, tried, try}
 use Rattle.model.specs.Platform.{left, steps, after}
+use Rattle.store.specs.Store.{stateIn}
+use Rattle.platform.specs.CallLists.{Call}
+use Rattle.demands.specs.Demands.{storeOf, AfterCallsE}
 use Rattle.demands.specs.Nodes.{recordOf, callTo, recordAfter, tickOr, ticked, lastTick}
 use Rattle.demands.proofs.Nodes.{rehearsed}
+use Rattle.demands.proofs.Demand3.{any-calls}
 
 unfoldable pub two : Plan
 two = record { n = 2; h = 1; w = 2; d = 1; end = 20; ring = []; crashes = []; delays = [] }
 
 pub is-accepted : fileOf (planText two) ≡ accepted two
-unfolding two planTest startTest startRanges within longEnough ringTest crashTest every crashOrder rising noneTwice eachOnce
+unfolding two planTest startRanges within ringTest crashTest every crashOrder rising noneTwice eachOnce
     delayTest delayOrder fewDelays
 is-accepted = read-back two refl
 
@@ -73,3 +78,8 @@ pub late-tick-taken : timersAnswer (encode (recordOf two 0 3 node)) 3 (replicate
 unfolding two node recordOf bytes value fieldAt zeros numbersBytes neighboursBytes ticksBytes markBytes encode decode
     openable nodeTest apart liveTest inRange sound answer tickTaken timersAnswer listed partOf
 late-tick-taken = refl
+
+-- W is just H + D: no live node is listed after any calls on its store, nor does any other claim of an E run fail
+pub just-enough : (store : List ℕ) → length store ≡ storeSize → (cs : List Call) → AfterCallsE two (stateIn (storeOf (planText two) store cs))
+unfolding two
+just-enough store size cs = (any-calls .left (planText two) store two is-accepted size cs) .ending (omega arith)

@@ -1,5 +1,6 @@
 -- THE THREE DEMANDS of the customer's terms, and what request 104 of document 02 claims, each as a record of what holds of the calls' definitions,
--- which the calls' contracts promise for every input; what request 106 claims is a part of the third. proofs/Theorems.antt proves them. Assumes nothing.
+-- which the calls' contracts promise for every input; what requests 106, 107 and 109 claim are parts of these. proofs/Theorems.antt proves them.
+-- Assumes nothing.
 use mathlib.Core.Path.{_≡_}
 use mathlib.Core.Logic.{_≢_, _⊎_}
 use mathlib.Core.Bool.{Bool, true, false, cond, not, _&&_}
@@ -13,14 +14,14 @@ use Rattle.ring.specs.Ring.{numbers, tableAnswer}
 use Rattle.text.specs.Put.{put}
 use Rattle.text.specs.Number.{decimal}
 use Rattle.text.specs.Hex.{hexOf}
-use Rattle.plans.specs.Plan.{Plan, orderOf, planTest}
+use Rattle.plans.specs.Plan.{Plan, startPlan, orderOf, planTest}
 use Rattle.runfile.specs.Text.{planText}
 use Rattle.runfile.specs.File.{FileAnswer, accepted, turnedDown, fileOf}
 use Rattle.logline.specs.declared.Line.{Line}
 use Rattle.logline.specs.declared.Read.the-variants.{Accepted as LineRead, Refused as LineUnread}
 use Rattle.logline.specs.declared.Written.{Written}
 use Rattle.logline.specs.declared.Written.the-variants.{Bytes as LineBytes, Refused as LineRefused}
-use Rattle.logline.specs.Line.{Ranges, upTo, unknown, ranges, within, readOf, fields as columnsOf, lineText, writtenOf, outOf}
+use Rattle.logline.specs.Line.{letterE, letterF, Ranges, upTo, unknown, ranges, within, readOf, fields as columnsOf, lineText, writtenOf, outOf}
 use Rattle.model.specs.Platform.{State, Entry, nextEvent, apply, Outcome, did, ended, refused, try, steps, eventCount, runAnswer, firstEvents, after}
 use Rattle.model.specs.Lines.{lineOf, eventLines, lastLine, linesText, linesFrom}
 use Rattle.model.specs.Claims.{CrashedAre, Safe, LogRoundedUp, K, Settles, Joins, Completes}
@@ -67,7 +68,7 @@ pub record TurnsDown (number : ℕ) (places : List Place) (Untouched : Type 0) :
   pub first : number ≡ firstBroken places
   pub untouched : number ≢ 0 → Untouched
 
--- opening: the file's own number, 1 to 6 or 13, then the store's length
+-- opening: the file's own number, then the store's length
 unfoldable pub fileNumber : FileAnswer → ℕ
 fileNumber (accepted p) = 0
 fileNumber (turnedDown number line) = number
@@ -154,13 +155,32 @@ lineRefusal (LineRefused number) = number
 unfoldable pub tablePlaces : ℕ → ℕ → List Place
 tablePlaces n d = place (not (leb 1 n && leb n mostNodes)) 3 ∷ place (not (ltb d (2 ^ n))) 3 ∷ []
 
+-- no call gives number 4, of no file, whatever it is lent; opening neither where it answers number and line in one, for C
+pub record NeverFour : Type 0 where
+  pub reading : (file : List ℕ) → fileNumber (fileOf file) ≢ 4
+  pub opening : (file store : List ℕ) → openRefusal (openFile file store .answer) ≢ 4
+  pub openingC : (file store : List ℕ) → numberAndLine (openFile file store .answer) % 256 ≢ 4
+  pub stepping : (store log : List ℕ) → stepRefusal (step store log .answer) ≢ 4
+  pub running : (store : List ℕ) (budget : ℕ) → runRefusal (run store budget .answer) ≢ 4
+  pub writing : (store out : List ℕ) → writeRefusal (writeFile store out .answer) ≢ 4
+  pub dispatching : (part : List ℕ) (turnLength turns : ℕ) → dispatch part turnLength turns .answer .number ≢ 4
+  pub nodeOpen : (s : List ℕ) (number nodes h w : ℕ) → openAnswer s number nodes h w ≢ 4
+  pub nodeDeliver : (s : List ℕ) (tick kind sender subject list : ℕ) (part : List ℕ) → deliverAnswer s tick kind sender subject list part ≢ 4
+  pub nodeTimers : (s : List ℕ) (tick : ℕ) (part : List ℕ) → timersAnswer s tick part ≢ 4
+  pub lineReading : (text : List ℕ) → readOf text ≢ LineUnread 4
+  pub lineWriting : (l : Line) (out : List ℕ) → lineRefusal (writtenOf l (length out)) ≢ 4
+  pub table : (n d : ℕ) → tableAnswer n d ≢ 4
+
 pub record Demand1 : Type 0 where
   -- a run file is accepted exactly where it is the text of a plan that the rules allow
   pub fileTaken : (p : Plan) → planTest p ≡ true → fileOf (planText p) ≡ accepted p
-  -- 'run file, length: 0 or above 65,536 bytes' is refused by 1, and any other bad file by 2 to 6 or 13 and a line of its own
+  -- so is any P line by itself whose numbers are in their ranges. REQUEST 109: W may be below H + D
+  pub startTaken : (n h w d end : ℕ) → (1 ≤ n) × (n ≤ 64) → (1 ≤ h) × (h ≤ 1000) → (1 ≤ w) × (w ≤ 65535) → (1 ≤ d) × (d ≤ 255) → end ≤ 1000000
+      → fileOf (planText (startPlan n h w d end)) ≡ accepted (startPlan n h w d end)
+  -- 'run file, length: 0 or above 65,536 bytes' is refused by 1 and line 0, and any other bad file by 2, 3, 5, 6 or 13 and a line from 1 on
   pub fileLength : (file : List ℕ) → (leb 1 (length file) && leb (length file) 65536) ≡ false → fileOf file ≡ turnedDown 1 0
-  pub fileNumber : (file : List ℕ) (number line : ℕ) → fileOf file ≡ turnedDown number line
-      → (1 ≤ number) × ((number ≤ 6) ⊎ (number ≡ 13)) × (line ≤ 65536)
+  pub fileNumber : (file : List ℕ) (number line : ℕ) → fileOf file ≡ turnedDown number line → (leb 1 (length file) && leb (length file) 65536) ≡ true
+      → List·Memᴰ number (2 ∷ 3 ∷ 5 ∷ 6 ∷ 13 ∷ []) × (1 ≤ line) × (line ≤ 65536)
   pub fileOnly : (file : List ℕ) (p : Plan) → fileOf file ≡ accepted p → (planText p ≡ file) × (planTest p ≡ true)
   -- the platform's calls
   pub opening : (file store : List ℕ) → TurnsDown (openRefusal (openFile file store .answer)) (openPlaces file store) (openFile file store .store ≡ store)
@@ -204,6 +224,8 @@ pub record Demand1 : Type 0 where
       → (lineText l ≡ text) × (letterUnknown (ranges (l .letter)) ≡ false) × (outside (ranges (l .letter)) l ≡ false)
   pub lineWriting : (l : Line) (out : List ℕ) → TurnsDown (lineRefusal (writtenOf l (length out))) (linePlaces l out) (outOf l out ≡ out)
   pub table : (n d : ℕ) → tableAnswer n d ≡ firstBroken (tablePlaces n d)
+  -- REQUEST 109: 'Number 4 is given no longer, and that shall be shown'
+  pub neverFour : NeverFour
 
 -- ---- DEMAND 2: 'Every event does what the ring detector of Bosilca et al. does, as document 01 fixes it, in 01's order, and writes 01's
 -- line of five columns. A run file or log that is read and written again has the same bytes'
@@ -256,6 +278,9 @@ pub record Demand2 : Type 0 where
       → (l : Line) → List·Memᴰ l (eventLines p (after p k) s' e) → readOf (lineText l) ≡ LineRead l
   pub lastLines : (file : List ℕ) (p : Plan) → fileOf file ≡ accepted p → (k : ℕ)
       → let l : Line = lastLine p (after p k) in readOf (lineText l) ≡ LineRead l
+  -- REQUEST 109: its letter is E where W is at least H + D, and otherwise F, whatever came before
+  pub lastLetters : (p : Plan) (s : State)
+      → (p .h + p .d ≤ p .w → lastLine p s .letter ≡ letterE) × (p .w < p .h + p .d → lastLine p s .letter ≡ letterF)
   pub columns : (text : List ℕ) (l : Line) → readOf text ≡ LineRead l
       → columnsOf text ≡ (l .letter ∷ []) ∷ decimal (l .tick) ∷ decimal (l .node) ∷ decimal (l .other) ∷ hexOf 16 (l .list) ∷ []
   -- the rehearsal program: all that it writes of an input is the refusal's number and line, or the whole log
@@ -272,6 +297,20 @@ pub record Demand2 : Type 0 where
 
 -- ---- DEMAND 3: 'Between two crashes, the platform settles and no live node is ever listed'
 
+-- s is the state that such a store holds, of a file with W at least H + D: 'The absence of live nodes from lists is claimed for E runs only'
+pub record AfterCallsE (p : Plan) (s : State) : Type 0 where
+  -- no node's list holds a live node
+  pub safe : Safe p s
+  -- where each crash done came at least S ticks after the one before, and S ticks have passed since the last, every survivor lists
+  -- exactly the crashed nodes, emits to the next survivor and observes the one before
+  pub settles : Settles p s
+  -- REQUEST 106: however close the crashes done came, the last of the f at tick c, where no event due by tick c + 2 × W × f + D is left every
+  -- survivor's emitter and observer are the neighbouring survivors
+  pub joins : Joins p s
+  -- REQUEST 107: with m survivors, at least one, and no event left that is due by (m − 1) × (H + D) ticks after that, every survivor lists exactly
+  -- the crashed nodes
+  pub completes : Completes p s
+
 -- `store` is what any list of steps and runs, refused ones included, leaves of a store just opened from a file whose plan is p
 pub record AfterCalls (p : Plan) (cs : List Call) (store : List ℕ) : Type 0 where
   -- the events done are the first e, and the store is the encoding of the state after them
@@ -280,17 +319,9 @@ pub record AfterCalls (p : Plan) (cs : List Call) (store : List ℕ) : Type 0 wh
   pub plan : planIn store ≡ p
   -- crashed is each node whose C line's event is among them
   pub crashed : CrashedAre p (firstEvents p (eventsOf p cs)) (stateIn store)
-  -- no node's list holds a live node
-  pub safe : Safe p (stateIn store)
-  -- where each crash done came at least S ticks after the one before, and S ticks have passed since the last, every survivor lists
-  -- exactly the crashed nodes, emits to the next survivor and observes the one before
-  pub settles : Settles p (stateIn store)
-  -- REQUEST 106: however close the crashes done came, the last of the f at tick c, where no event due by tick c + 2 × W × f + D is left every
-  -- survivor's emitter and observer are the neighbouring survivors
-  pub joins : Joins p (stateIn store)
-  -- REQUEST 107: with m survivors, at least one, and no event left that is due by (m − 1) × (H + D) ticks after that, every survivor lists exactly
-  -- the crashed nodes
-  pub completes : Completes p (stateIn store)
+  -- REQUEST 109: where W is at least H + D, so that the run's last line has the letter E, that no live node is listed, and what rests on it. All else
+  -- holds whatever W is
+  pub ending : p .h + p .d ≤ p .w → AfterCallsE p (stateIn store)
   -- it is in range, the cap on the next number included
   pub inRange : storeInRange store ≡ true
 
@@ -306,11 +337,10 @@ pub record JustOpened (p : Plan) (store : List ℕ) : Type 0 where
 abbrev pub AllOpened : (ℕ → Plan) → List (List ℕ) → Type 0
 AllOpened plans bs = (i : ℕ) → i < length bs → JustOpened (plans i) (getD bs i [])
 
--- of every file that is accepted, for which W is at least H + D, and every lent store of its length
+-- of every file that is accepted and every lent store of its length
 pub record Demand3 : Type 0 where
   -- K in S is the base-two logarithm, rounded up, 0 for none
   pub logarithm : (m : ℕ) → LogRoundedUp m (K m)
-  pub longEnough : (file : List ℕ) (p : Plan) → fileOf file ≡ accepted p → p .h + p .d ≤ p .w
   pub opens : (file store : List ℕ) (p : Plan) → fileOf file ≡ accepted p → length store ≡ storeSize → openFile file store .answer ≡ Ready
   -- what opening any accepted file leaves is a store just opened, as `parts` takes them
   pub justOpened : (file store : List ℕ) (p : Plan) → fileOf file ≡ accepted p → length store ≡ storeSize

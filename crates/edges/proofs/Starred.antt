@@ -1,5 +1,5 @@
--- Document 01's starred edges hold, and those of document 02's line Q, reported emitter, line K and heartbeats with a list: each definition computes
--- to what the table says. Assumes nothing.
+-- Document 01's starred edges hold, and those of document 02's line Q, reported emitter, line K, heartbeats with a list and last line F: each
+-- definition computes to what the table says. Assumes nothing.
 use mathlib.Core.Path.{refl}
 use Rattle.ring.specs.Ring.{among, eachOnce, listingAll, unlisting, merging}
 use Rattle.ring.specs.Ring.{keep, numbers, listed, listing, passing, unlisted, place, round, ahead, firstUnlisted, back, next, count, powers}
@@ -15,7 +15,7 @@ use Rattle.plans.specs.Plan.{withCrashed, delayOrder, fewDelays, startPlan, wit
 use Rattle.logline.specs.Line.{ranges, within as lineWithin, formOf as lineForm, tried as lineTried, readOf, lineText, writtenOf as lineWritten}
 use Rattle.model.specs.Platform.{alive, survivors, crashedList, start, crashEntries, messageEntries, timerEntry, timerEntries, pending, earlier}
 use Rattle.model.specs.Platform.{first, upTo, nextEvent, delayIn, numbered, taken, without, received, apply, fits, tried, try, delayOf as messageDelay}
-use Rattle.model.specs.Lines.{otherOf, lastLine, linesFrom, log, moves, crashDeed, messageDeed, watchDeed, heartbeatDeed, deedOf, deedLines}
+use Rattle.model.specs.Lines.{otherOf, lastLetter, lastLine, linesFrom, log, moves, crashDeed, messageDeed, watchDeed, heartbeatDeed, deedOf, deedLines}
 use Rattle.edges.specs.Edges.{dead, targetsOf, searchFrom, five, reportTo5, beatTo5, bytes, judged, logText, written, logOf, workedLog, Edges}
 
 pub edges : Edges
@@ -25,14 +25,14 @@ unfolding among eachOnce listingAll unlisting merging numbersThen ringOf fresh r
     startRanges longEnough crashRange delayRange risingFrom rising later hits noneTwice crashOrder above delayOrder fewDelays onto lines startPlan
     fieldThen pairOf crashOf delayOf startOf formOf rowOf orElse withCrash withDelay startLine early crashLine delayLine firstLine laterLine stepThen
     laterLines allLines fileOf lineText alive survivors withCrashed crashedList start crashEntries messageEntries timerEntry timerEntries pending
-    earlier first upTo nextEvent delayIn messageDelay numbered taken without received apply fits tried try otherOf lastLine linesFrom log bytes judged
-    logText written logOf workedLog moves crashDeed messageDeed watchDeed heartbeatDeed deedOf deedLines ranges lineWithin lineForm lineTried readOf
+    earlier first upTo nextEvent delayIn messageDelay numbered taken without received apply fits tried try otherOf lastLetter lastLine linesFrom log bytes
+    judged logText written logOf workedLog moves crashDeed messageDeed watchDeed heartbeatDeed deedOf deedLines ranges lineWithin lineForm lineTried readOf
     lineWritten listFieldAt hexValue
 edges = record {
   worked-log = refl;
   lone-log = refl;
   watch-3-passes = refl;
-  watch-2-refused = refl;
+  watch-2-passes = refl;
   targets-of-1 = refl;
   targets-of-7 = refl;
   powers-below-4 = refl;
@@ -71,4 +71,7 @@ edges = record {
   no-emitter-heard = refl;
   named-reported = refl;
   marked-reported = refl;
+  short-log = refl;
+  last-read = refl;
+  last-65-refused = refl;
 }

@@ -1,6 +1,6 @@
 -- The table of document 01's starred edges, an entry each with 01's words above it: what a definition gives there; and those of document
--- 02's line Q, of its reported emitter, of its line K and of its heartbeats with a list. To add one, write its line here and `refl` for it in
--- proofs/Starred.antt. Assumes nothing.
+-- 02's line Q, of its reported emitter, of its line K, of its heartbeats with a list and of its last line F. To add one, write its line here and
+-- `refl` for it in proofs/Starred.antt. Assumes nothing.
 use mathlib.Core.Path.{_≡_}
 use mathlib.Core.List.{List, [], _∷_, _++_}
 use Prim.Native.Nat.{ℕ}
@@ -15,7 +15,7 @@ use Rattle.plans.specs.Plan.{startPlan, withRing, withDelay}
 use Rattle.logline.specs.declared.Line.{Line}
 use Rattle.logline.specs.declared.Read.the-variants.{Accepted, Refused}
 use Rattle.logline.specs.declared.Written.the-variants.{Bytes, Refused as Unwritten}
-use Rattle.logline.specs.Line.{letterK, readOf, lineText, writtenOf as lineWritten}
+use Rattle.logline.specs.Line.{letterF, letterK, readOf, lineText, writtenOf as lineWritten}
 use Rattle.model.specs.Lines.{line, log}
 
 -- the dead list with these nodes listed
@@ -85,8 +85,8 @@ pub record Edges : Type 0 where
   pub lone-log : logOf "P,1,1,2,1,5\n" ≡ bytes "E,5,1,0,0000000000000000\n"
   -- "H 2, D 1: W 3 passes"
   pub watch-3-passes : judged "P,2,2,3,1,6\n" ≡ accepted (startPlan 2 2 3 1 6)
-  -- "W 2 gets 4"
-  pub watch-2-refused : judged "P,2,2,2,1,6\n" ≡ turnedDown 4 1
+  -- "01's edge W 2 now passes", by document 02's #109
+  pub watch-2-passes : judged "P,2,2,2,1,6\n" ≡ accepted (startPlan 2 2 2 1 6)
   -- "N 8, nodes 2 and 3 listed: targets of 1 are 4, 5, 7"
   pub targets-of-1 : targetsOf 8 (dead (2 ∷ 3 ∷ [])) 1 ≡ 4 ∷ 5 ∷ 7 ∷ []
   -- "of 7 are 0, 1, 5"
@@ -167,3 +167,14 @@ pub record Edges : Type 0 where
   -- "a node relays the first R of each subject it gets, also where a heartbeat named it earlier", and no other
   pub named-reported : reportTo5 3 (3 ∷ []) [] ≡ sending (five (3 ∷ []) (3 ∷ [])) (message R 6 3 ∷ message R 7 3 ∷ message R 1 3 ∷ [])
   pub marked-reported : reportTo5 3 (3 ∷ []) (3 ∷ []) ≡ silent (five (3 ∷ []) (3 ∷ []))
+  -- the last line F of document 02, #109
+  -- "such a run's last line has the letter F instead of E"
+  pub short-log : logOf "P,2,2,2,1,2\n"
+      ≡ bytes "W,2,0,1,0000000000000002\n"
+      ++ bytes "K,2,0,1,0000000000000002\n"
+      ++ bytes "W,2,1,0,0000000000000001\n"
+      ++ bytes "K,2,1,1,0000000000000001\n"
+      ++ bytes "F,2,2,0,0000000000000000\n"
+  -- "the log reader takes F as E"
+  pub last-read : readOf (bytes "F,6,64,2048,0000000000000002\n") ≡ Accepted (line letterF 6 64 2048 2)
+  pub last-65-refused : readOf (bytes "F,6,65,0,0000000000000002\n") ≡ Refused 3

@@ -45,7 +45,7 @@ use Rattle.event.specs.declared.Next.the-variants.{Crash, Message as Del
 use Rattle.event.specs.Event.{SmallMessage, Turns, entry, nextAt, nextOf, happened, NextIs, nextOutcome, nextAnswer, storeLeft, turnOf, turnLeft}
 use Rattle.event.specs.Ready.{Ready}
 use Rattle.plans.proofs.Tests.{ranges}
-use Rattle.event.proofs.Readiness.{mostReached, ready-accepted, ready-sound, ready-next}
+use Rattle.event.proofs.Readiness.{mostReached, ready-plain, ready-sound, ready-next}
 use Rattle.event.proofs.Turning.{chosen-of, try-did, turn-refused, turn-did, refused-answer, did-answer, received-few}
 
 -- ---- a turn whose numbers fit
@@ -100,7 +100,7 @@ module _ (b : List ℕ) (r : Ready b) (t : ℕ) (ev : Event) (next : NextIs b t 
   s = stateIn b
 
   abbrev pl : Plain (planIn b)
-  pl = ready-accepted b r .plain
+  pl = ready-plain b r
 
   abbrev so : Sound (planIn b) (stateIn b)
   so = ready-sound b r
@@ -156,7 +156,7 @@ module _ (b : List ℕ) (r : Ready b) (t x : ℕ) where
   watch-timer next =
       let ch = chosen b r t (watch x) next in
       let place : x < planIn b .n = rw (ready-sound b r .nodes) at (ch .0) in
-      let pl = ready-accepted b r .plain in
+      let pl = ready-plain b r in
       let past = not-past b r t (watch x) next in
       let end = at-end b r t (watch x) next in
       let takes = watch-taken (planIn b) pl (stateIn b) (ready-sound b r) t past end x place (ch .1) (ch .2) in
@@ -167,7 +167,7 @@ module _ (b : List ℕ) (r : Ready b) (t x : ℕ) where
   beat-timer next =
       let ch = chosen b r t (heartbeat x) next in
       let place : x < planIn b .n = rw (ready-sound b r .nodes) at (ch .0) in
-      let pl = ready-accepted b r .plain in
+      let pl = ready-plain b r in
       let past = not-past b r t (heartbeat x) next in
       let end = at-end b r t (heartbeat x) next in
       let takes = beat-taken (planIn b) pl (stateIn b) (ready-sound b r) t past end x place (ch .1) (ch .2) in
@@ -178,7 +178,7 @@ module _ {b : List ℕ} {t x : ℕ} {e : Event} {turn : Plan → Node → Turn} 
   timer-tick = event-tick b (k .ready) t e (k .next)
 
   pub timer-byte : x < 256
-  timer-byte = omega (arith, k .place, ready-accepted b (k .ready) .plain .n≤)
+  timer-byte = omega (arith, k .place, ready-plain b (k .ready) .n≤)
 
   -- the code has u of the turn
   module _ {u : Turned} (is : u ≡ turned (turn (planIn b) (nodeOf (stateIn b) x))) where
@@ -217,7 +217,7 @@ module _ {b : List ℕ} {t x : ℕ} {e : Event} {turn : Plan → Node → Turn} 
 module _ (b : List ℕ) (r : Ready b) (t k : ℕ) (next : NextIs b t (crash k)) where
   pub crash-place : k < planIn b .n
   unfolding Chosen
-  crash-place = let ch = chosen b r t (crash k) next in rw (← ch .2) (ready-accepted b r .plain .node (stateIn b .done) (ch .0))
+  crash-place = let ch = chosen b r t (crash k) next in rw (← ch .2) (ready-plain b r .node (stateIn b .done) (ch .0))
 
   pub crash-done : (b' : List ℕ) (a : Deed) → a ≡ deed C t k k (nodeOf (stateIn b) k .list) false 0
       → b' ≡ encode (planIn b) (crashed (withTick (stateIn b) t))
@@ -261,10 +261,10 @@ module _ (b : List ℕ) (r : Ready b) (t i : ℕ) (next : NextIs b t (message i)
     message-place = rw same-to (flight-range .to)
 
     pub message-sender : f .from < mostNodes
-    message-sender = omega (arith, ap (λ (g : Flight). g .from) fe, flight-range .from, ready-accepted b r .plain .n≤)
+    message-sender = omega (arith, ap (λ (g : Flight). g .from) fe, flight-range .from, ready-plain b r .n≤)
 
     pub message-subject : f .subject < mostNodes
-    message-subject = omega (arith, ap (λ (g : Flight). g .subject) fe, flight-range .subject, ready-accepted b r .plain .n≤)
+    message-subject = omega (arith, ap (λ (g : Flight). g .subject) fe, flight-range .subject, ready-plain b r .n≤)
 
     -- the test of the crashed list
     module _ (dead : ℕ) (l : Bool) (de : dead ≡ crashedList (planIn b) (stateIn b .done)) (le : l ≡ listed dead (f .to)) where
@@ -273,7 +273,7 @@ module _ (b : List ℕ) (r : Ready b) (t i : ℕ) (next : NextIs b t (message i)
 
       not-dropped : not l ≡ alive (planIn b) (stateIn b .done) (M .to)
       not-dropped =
-          go l (alive (planIn b) (stateIn b .done) (M .to)) (sym listed-is ∙ crashed-listed (planIn b) (ready-accepted b r) (stateIn b .done) (M .to))
+          go l (alive (planIn b) (stateIn b .done) (M .to)) (sym listed-is ∙ crashed-listed (planIn b) (ready-plain b r) (stateIn b .done) (M .to))
         where
           go : (x y : Bool) → x ≡ not y → not x ≡ y
           go x true e = rw e
@@ -286,7 +286,7 @@ module _ (b : List ℕ) (r : Ready b) (t i : ℕ) (next : NextIs b t (message i)
     received-small = go (alive (planIn b) (stateIn b .done) (M .to)) refl
       where
         q : Plain (planIn b)
-        q = ready-accepted b r .plain
+        q = ready-plain b r
 
         turn : Bool → Turn
         turn c =

@@ -21,7 +21,7 @@ use Rattle.store.proofs.Store.{plan-encode, state-encode, held-encode}
 use Rattle.store.proofs.States.{tick-fits}
 use Rattle.event.specs.Acting.{Acting}
 use Rattle.plans.proofs.Tests.{ranges}
-use Rattle.event.proofs.Readiness.{acting-accepted}
+use Rattle.event.proofs.Readiness.{acting-plain}
 use Rattle.event.proofs.Searching.{dead-of, live-of}
 
 -- ---- the ring's order, as lent by the store
@@ -29,7 +29,7 @@ use Rattle.event.proofs.Searching.{dead-of, live-of}
 -- it has one node at least, and 64 at most
 pub order-sized : (b : List ℕ) → Acting b → {order : List ℕ} → order ≡ orderOf (planIn b) → (1 ≤ length order) × (length order ≤ mostNodes)
 order-sized b a {order} e =
-    let pl : Plain (planIn b) = acting-accepted b a .plain in
+    let pl : Plain (planIn b) = acting-plain b a in
     let size : length order ≡ planIn b .n = ap length e ∙ pl .order .size in
     (omega (arith, size, pl .n≥), omega (arith, size, pl .n≤))
 
@@ -77,7 +77,7 @@ module _
   pub turn-dropped : l ≡ true → (n : Node) → n ≡ nodeOf (stateIn b) (m .to) → turned (silent n) ≡ turned (received (planIn b) (stateIn b) t m)
   unfolding received
   turn-dropped h n ne =
-      ap turned (ap silent ne ∙ sym (ap turnWhere (dead-of (planIn b) (acting-accepted b a) (stateIn b .done) (m .to) (listed-is ∙ h))))
+      ap turned (ap silent ne ∙ sym (ap turnWhere (dead-of (planIn b) (acting-plain b a) (stateIn b .done) (m .to) (listed-is ∙ h))))
 
   pub turn-delivered : l ≡ false → (n : Node) → n ≡ nodeOf (stateIn b) (m .to) → (order : List ℕ) → order ≡ orderOf (planIn b) → (w : ℕ)
       → w ≡ planIn b .w
@@ -87,4 +87,4 @@ module _
       ap turned
       (ap₂ (λ (o : List ℕ) (v : ℕ). onMessage o v t (m .to) (m .kind) (m .from) (m .subject) (m .list) n) oe we
       ∙ (ap (onMessage (orderOf (planIn b)) (planIn b .w) t (m .to) (m .kind) (m .from) (m .subject) (m .list)) ne
-      ∙ sym (ap turnWhere (live-of (planIn b) (acting-accepted b a) (stateIn b .done) (m .to) (listed-is ∙ h)))))
+      ∙ sym (ap turnWhere (live-of (planIn b) (acting-plain b a) (stateIn b .done) (m .to) (listed-is ∙ h)))))

@@ -11,9 +11,9 @@ use Rattle.limits.specs.Limits.{mostTick, mostNext, storeSize}
 use Rattle.plans.specs.Plan.{Plan, planTest}
 use Rattle.model.specs.Platform.{State, start, try, left, steps}
 use Rattle.plans.specs.Plain.{Plain}
-use Rattle.model.specs.Range.{Accepted, Sound, InRange, storeTest}
+use Rattle.model.specs.Range.{Sound, InRange, storeTest}
 use Rattle.plans.proofs.Facts.{plan-plain}
-use Rattle.model.proofs.Plans.{plan-accepted}
+use Rattle.plans.proofs.Facts.{plan-plain}
 use Rattle.model.proofs.Tests.{test-store}
 use Rattle.model.proofs.RangesKept.{start-range, steps-range}
 use Rattle.model.proofs.NextNumber.{perTick, next-bound}
@@ -38,16 +38,16 @@ abbrev pub mostReached : ℕ
 mostReached = mostNext + perTick * (mostTick + 1)
 
 module _ (b : List ℕ) (r : Ready b) where
-  pub ready-accepted : Accepted (planIn b)
-  ready-accepted = plan-accepted (planIn b) (r .plan)
+  pub ready-plain : Plain (planIn b)
+  ready-plain = plan-plain (planIn b) (r .plan)
 
   pub ready-sound : Sound (planIn b) (stateIn b)
-  ready-sound = rw (r .is) (steps-range (planIn b) (ready-accepted .plain) (r .tries) (r .from) (r .inRange .sound))
+  ready-sound = rw (r .is) (steps-range (planIn b) ready-plain (r .tries) (r .from) (r .inRange .sound))
 
   pub ready-next : stateIn b .next ≤ mostReached
   ready-next =
-      rw (r .is) (bound (next-bound (planIn b) (ready-accepted .plain) mostNext (r .from) (r .inRange .sound) (r .inRange .cap) (r .tries))
-      (ready-accepted .plain .end≤))
+      rw (r .is) (bound (next-bound (planIn b) ready-plain mostNext (r .from) (r .inRange .sound) (r .inRange .cap) (r .tries))
+      (ready-plain .end≤))
     where
       bound : {a c : ℕ} → a ≤ mostNext + perTick * (c + 1) → c ≤ mostTick → a ≤ mostReached
       bound h e = omega arith
@@ -62,8 +62,8 @@ module _ (b : List ℕ) (r : Ready b) where
 
 -- what follows for an acting store
 module _ (b : List ℕ) (a : Acting b) where
-  pub acting-accepted : Accepted (planIn b)
-  acting-accepted = plan-accepted (planIn b) (a .plan)
+  pub acting-plain : Plain (planIn b)
+  acting-plain = plan-plain (planIn b) (a .plan)
 
   pub acting-crashes : Sized b × ((planTest (planIn b) ≡ true) × (stateIn b .done ≤ length (planIn b .crashes)))
   acting-crashes = (held-sized b (a .held), (a .plan, a .done))

@@ -21,7 +21,6 @@ use Rattle.plans.specs.Plan.{Crash, Plan}
 use Rattle.model.specs.Platform.{InFlight, State, Event, Entry, crash, message, watch, heartbeat, alive, survivors, crashedList, crashEntries}
 use Rattle.model.specs.Platform.{messageEntries, timerEntry, timerEntries, pending, earlier, first, upTo, nextEvent, noMessage}
 use Rattle.plans.specs.Plain.{noCrash, rowAt, Plain}
-use Rattle.model.specs.Range.{Accepted}
 use Rattle.model.proofs.NextEvent.{Under, crashes-in}
 use Rattle.model.proofs.Search.{under-first}
 use Rattle.ring.proofs.Laws.{keep-ext}
@@ -154,26 +153,26 @@ none-left p s t e h = go (first (pending p s)) (under-first t (pending p s) (λ 
 -- ---- the crashed nodes
 
 -- how many survive, by the crashed list
-pub survivors-count : (p : Plan) → Accepted p → (done : ℕ) → survivors p done ≡ count (p .n) (crashedList p done)
+pub survivors-count : (p : Plan) → Plain p → (done : ℕ) → survivors p done ≡ count (p .n) (crashedList p done)
 unfolding survivors count unlisted
-survivors-count p ac done =
+survivors-count p pl done =
     ap length (keep-ext (alive p done) (λ k. not (listed (crashedList p done) k)) (numbers 0 (p .n))
-    (λ k. go (alive p done k) (listed (crashedList p done) k) (crashed-listed p ac done k)))
+    (λ k. go (alive p done k) (listed (crashedList p done) k) (crashed-listed p pl done k)))
   where
     go : (a d : Bool) → d ≡ not a → a ≡ not d
     go true d e = rw e
     go false d e = rw e
 
 -- a node is live unless it is listed
-pub live-of : (p : Plan) → Accepted p → (done k : ℕ) → listed (crashedList p done) k ≡ false → alive p done k ≡ true
-live-of p ac done k h = go (alive p done k) (sym (crashed-listed p ac done k) ∙ h)
+pub live-of : (p : Plan) → Plain p → (done k : ℕ) → listed (crashedList p done) k ≡ false → alive p done k ≡ true
+live-of p pl done k h = go (alive p done k) (sym (crashed-listed p pl done k) ∙ h)
   where
     go : (a : Bool) → not a ≡ false → a ≡ true
     go true e = refl
     go false e = sym e
 
-pub dead-of : (p : Plan) → Accepted p → (done k : ℕ) → listed (crashedList p done) k ≡ true → alive p done k ≡ false
-dead-of p ac done k h = go (alive p done k) (sym (crashed-listed p ac done k) ∙ h)
+pub dead-of : (p : Plan) → Plain p → (done k : ℕ) → listed (crashedList p done) k ≡ true → alive p done k ≡ false
+dead-of p pl done k h = go (alive p done k) (sym (crashed-listed p pl done k) ∙ h)
   where
     go : (a : Bool) → not a ≡ true → a ≡ false
     go true e = sym e
@@ -246,7 +245,7 @@ unfolding leastTick timerEntry timerTick
 timer-least t zero e = refl
 timer-least t (suc v) e = refl
 
-module _ (p : Plan) (ac : Accepted p) (d : ℕ) (ns : List Node) (x l : ℕ) where
+module _ (p : Plan) (pl : Plain p) (d : ℕ) (ns : List Node) (x l : ℕ) where
   node-next : (live : Bool) → alive p d x ≡ live → x < length ns
       → leastTick l (timerEntries p d x (drop x ns)) ≡ leastTick (leastTick l
       (cond live (timerEntry ((getD ns x (alone x 0 0)) .watch) (watch x) ++ timerEntry ((getD ns x (alone x 0 0)) .heartbeat) (heartbeat x)) []))
@@ -258,7 +257,7 @@ module _ (p : Plan) (ac : Accepted p) (d : ℕ) (ns : List Node) (x l : ℕ) whe
       → leastTick l (timerEntries p d x (drop x ns)) ≡ leastTick (timerTick (timerTick l (a .watch)) (a .heartbeat))
       (timerEntries p d (x + 1) (drop (x + 1) ns))
   live-next a h e un =
-      node-next true (live-of p ac d x un) h
+      node-next true (live-of p pl d x un) h
       ∙ ap (λ (u : ℕ). leastTick u (timerEntries p d (x + 1) (drop (x + 1) ns)))
       (ap (λ (b : Node). leastTick l (timerEntry (b .watch) (watch x) ++ timerEntry (b .heartbeat) (heartbeat x))) (sym e)
       ∙ least-append l (timerEntry (a .watch) (watch x)) (timerEntry (a .heartbeat) (heartbeat x))
@@ -268,7 +267,7 @@ module _ (p : Plan) (ac : Accepted p) (d : ℕ) (ns : List Node) (x l : ℕ) whe
   pub dead-next : x < length ns → listed (crashedList p d) x ≡ true → leastTick l (timerEntries p d x (drop x ns)) ≡ leastTick l
       (timerEntries p d (x + 1) (drop (x + 1) ns))
   unfolding leastTick
-  dead-next h un = node-next false (dead-of p ac d x un) h
+  dead-next h un = node-next false (dead-of p pl d x un) h
 
   pub nodes-over : length ns ≤ x → leastTick l (timerEntries p d x (drop x ns)) ≡ l
   unfolding timerEntries leastTick
@@ -317,7 +316,7 @@ module _ (t : ℕ) (rest : List Entry) where
   timer-skip zero e h = refl
   timer-skip (suc u) e h = rw (ne-eqb u t (λ q. h (omega arith)))
 
-module _ (p : Plan) (ac : Accepted p) (d : ℕ) (ns : List Node) (t x : ℕ) (a : Node) (h : x < length ns) (is : a ≡ getD ns x (alone x 0 0)) where
+module _ (p : Plan) (pl : Plain p) (d : ℕ) (ns : List Node) (t x : ℕ) (a : Node) (h : x < length ns) (is : a ≡ getD ns x (alone x 0 0)) where
   abbrev Others : List Entry
   Others = timerEntries p d (x + 1) (drop (x + 1) ns)
 
@@ -325,7 +324,7 @@ module _ (p : Plan) (ac : Accepted p) (d : ℕ) (ns : List Node) (t x : ℕ) (a 
       (timerEntry (a .heartbeat) (heartbeat x) ++ Others)
   unfolding timerEntries
   mine un =
-      rw (add-one x, drop-cons ns x (alone x 0 0) h, live-of p ac d x un, is)
+      rw (add-one x, drop-cons ns x (alone x 0 0) h, live-of p pl d x un, is)
       (append-assoc (timerEntry ((getD ns x (alone x 0 0)) .watch) (watch x)) (timerEntry ((getD ns x (alone x 0 0)) .heartbeat) (heartbeat x)) _)
 
   pub watch-hit : listed (crashedList p d) x ≡ false → a .watch ≡ t + 1 → firstAt t (timerEntries p d x (drop x ns)) ≡ some (entry t (watch x))
@@ -339,11 +338,11 @@ module _ (p : Plan) (ac : Accepted p) (d : ℕ) (ns : List Node) (t x : ℕ) (a 
       → firstAt t (timerEntries p d x (drop x ns)) ≡ firstAt t Others
   live-skip un n e = ap (firstAt t) (mine un) ∙ timer-skip t _ (a .watch) (watch x) n ∙ timer-skip t _ (a .heartbeat) (heartbeat x) e
 
-module _ (p : Plan) (ac : Accepted p) (d : ℕ) (ns : List Node) (t x : ℕ) where
+module _ (p : Plan) (pl : Plain p) (d : ℕ) (ns : List Node) (t x : ℕ) where
   pub dead-skip : x < length ns → listed (crashedList p d) x ≡ true → firstAt t (timerEntries p d x (drop x ns)) ≡ firstAt t
       (timerEntries p d (x + 1) (drop (x + 1) ns))
   unfolding timerEntries
-  dead-skip h un = rw (add-one x, drop-cons ns x (alone x 0 0) h, dead-of p ac d x un)
+  dead-skip h un = rw (add-one x, drop-cons ns x (alone x 0 0) h, dead-of p pl d x un)
 
   pub nodes-end : length ns ≤ x → firstAt t (timerEntries p d x (drop x ns)) ≡ none
   unfolding timerEntries firstAt

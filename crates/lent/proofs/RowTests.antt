@@ -260,17 +260,3 @@ module _ (low high : ℕ) {x y : ℕ} {b : Bool} (got : x ≡ y) (told : b ≡ w
 
   pub inside : not b ≡ false → within low high y ≡ true
   inside h = rw (← got) (holds told h)
-
-within-high : (low high x : ℕ) → within low high x ≡ true → x ≤ high
-unfolding within
-within-high low high x h = leb-true x high (and-eq-true-iff (leb low x) (leb x high) .0 h .1)
-
--- H and D of a P line in range are so small that their sum is
-pub sum-small : (p : Plan) → startRanges p ≡ true → p .h + p .d ≤ mostH + mostD
-unfolding startRanges
-sum-small p t =
-    let n = and-eq-true-iff (within 1 mostNodes (p .n)) _ .0 t in
-    let h = and-eq-true-iff (within 1 mostH (p .h)) _ .0 (n .1) in
-    let w = and-eq-true-iff (within 1 mostW (p .w)) _ .0 (h .1) in
-    let d = and-eq-true-iff (within 1 mostD (p .d)) (within 0 mostTick (p .end)) .0 (w .1) in
-    omega (arith, within-high 1 mostH (p .h) (h .0), within-high 1 mostD (p .d) (d .0))

@@ -19,9 +19,8 @@ use Rattle.plans.proofs.Bools.{and-left, and-right}
 use Rattle.plans.proofs.Tests.{Ranges, ranges-of, ranges-good}
 use Rattle.limits.specs.Limits.{mostInFlight, mostNext}
 use Rattle.model.specs.Platform.{State, InFlight, alive, crashedList, noMessage}
-use Rattle.plans.specs.Plain.{noCrash, rowAt}
-use Rattle.model.specs.Range.{Accepted, nodesTest, messageTest, flightTest, undoneTest, soundTest, nodeHere}
-use Rattle.model.proofs.Plans.{plan-accepted}
+use Rattle.plans.specs.Plain.{noCrash, rowAt, Plain}
+use Rattle.model.specs.Range.{nodesTest, messageTest, flightTest, undoneTest, soundTest, nodeHere}
 use Rattle.node.specs.Range.{nodeTest, liveTest, notOverdue, timersTest, kindTest, carriedTest}
 use Rattle.model.proofs.SettledNode.{crashed-listed}
 use Rattle.store.specs.declared.CrashRow.{CrashRow}
@@ -48,13 +47,13 @@ module _ (t x : ℕ) (a : Node) where
 
 -- ---- a node, by whether it is crashed
 
-module _ (p : Plan) (ac : Accepted p) (done t x : ℕ) (a : Node) where
+module _ (p : Plan) (pl : Plain p) (done t x : ℕ) (a : Node) where
   pub node-out : nodeTest (p .n) (p .h) (p .w) t a ≡ false → false ≡ nodeHere p done t x a
   node-out e = rw e
 
   module _ (in-range : nodeTest (p .n) (p .h) (p .w) t a ≡ true) (dead : ℕ) (list : dead ≡ crashedList p done) (r : Bool) (is : r ≡ listed dead x) where
     crashed-is : r ≡ not (alive p done x)
-    crashed-is = is ∙ ap (λ (d : ℕ). listed d x) list ∙ crashed-listed p ac done x
+    crashed-is = is ∙ ap (λ (d : ℕ). listed d x) list ∙ crashed-listed p pl done x
 
     pub node-crashed : r ≡ true → true ≡ nodeHere p done t x a
     node-crashed e = rw (in-range, not-true (alive p done x) (sym crashed-is ∙ e))

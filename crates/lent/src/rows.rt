@@ -9,7 +9,7 @@ ghost use mathlib.Core.Path.{_≡_};
 ghost use mathlib.Core.Bool.{_&&_};
 ghost use Prim.Native.Nat.{_+_, _<_};
 ghost use lib.ListN.{length, drop};
-ghost use Rattle.plans.specs.Plan.{within, crashRange, delayRange, rising, later, hits, noneTwice, delayOrder, every, startRanges, startTest, crashTest};
+ghost use Rattle.plans.specs.Plan.{within, crashRange, delayRange, rising, later, hits, noneTwice, delayOrder, every, startRanges, crashTest};
 ghost use Rattle.plans.specs.Plan.{ringRange, ringTest, delayTest, planTest};
 ghost use Rattle.ring.specs.Ring.{eachOnce};
 ghost use Rattle.plans.specs.Plain.{rowAt};
@@ -48,17 +48,6 @@ fn values_in_range(s: &[u8]) -> bool
         return false;
     }
     is_within(0, MOST_TICK as usize, plan::end_tick(s) as usize)
-}
-
-// Whether the P line is in range, and W at least H + D.
-fn start_in_range(s: &[u8]) -> bool
-    requires { ⌜ length (now s) ≡ storeSize ⌝ }
-    ensures { λ r. ⌜ r ≡ startTest (planIn (now (s .entry))) ⌝ }
-{
-    if !values_in_range(s) {
-        return false;
-    }
-    plan::period(s) + plan::longest_delay(s) <= plan::time_out(s)
 }
 
 // Whether the numbers of the Q line are nodes, and none stands twice.
@@ -272,7 +261,7 @@ pub fn plan_in_range(s: &[u8]) -> bool
     requires { ⌜ Sized (now s) ⌝ }
     ensures { λ r. ⌜ r ≡ planTest (planIn (now (s .entry))) ⌝ }
 {
-    if !start_in_range(s) {
+    if !values_in_range(s) {
         return false;
     }
     if !ring_in_range(s) {

@@ -17,7 +17,7 @@ badForm = 2
 abbrev pub outOfRange : ℕ
 outOfRange = 3
 
--- 'P line: W below H + D'
+-- 'P line: W below H + D'; by document 02's #109 'given no longer', and no other number takes its place
 abbrev pub shortTimeOut : ℕ
 shortTimeOut = 4
 

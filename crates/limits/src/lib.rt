@@ -53,8 +53,6 @@ pub const BAD_FORM: u64 = 2;
 
 pub const OUT_OF_RANGE: u64 = 3;
 
-pub const SHORT_TIME_OUT: u64 = 4;
-
 pub const NOT_RISING: u64 = 5;
 
 pub const MANY_DELAYS: u64 = 6;

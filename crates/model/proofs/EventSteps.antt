@@ -19,7 +19,7 @@ use Rattle.plans.specs.Plan.{Crash, Plan, orderOf}
 use Rattle.model.specs.Platform.{InFlight, State, Event, alive, survivors, delayOf, numbered, nodeOf, taken, messageAt, without, received, apply}
 use Rattle.model.specs.Platform.{crash as crashE, message as messageE, watch as watchE, heartbeat as beatE}
 use Rattle.plans.specs.Plain.{noCrash, rowAt}
-use Rattle.model.specs.Range.{Accepted, FlightRange, NotBefore, Sound}
+use Rattle.model.specs.Range.{EndsInE, FlightRange, NotBefore, Sound}
 use Rattle.model.specs.Claims.{S, settledBy, Spaced}
 use Rattle.ring.proofs.Unlisted.{countBy}
 use Rattle.ring.proofs.GoingBack.{Found}
@@ -42,7 +42,7 @@ abbrev pub lastOf : Plan → ℕ → Last
 lastOf p zero = never
 lastOf p (suc i) = at ((rowAt p i) .tick)
 
-module _ (p : Plan) (ac : Accepted p) where
+module _ (p : Plan) (ac : EndsInE p) where
   pub survivors-cnt : (s : State) → countBy (p .n) (crashedIn (view p s)) ≡ survivors p (s .done)
   unfolding survivors countBy
   survivors-cnt s =

@@ -56,6 +56,8 @@ pub mod ListsSpread
 pub mod NextEvent
 -- opening, and any event
 pub mod RangesKept
+-- no report is of its receiver, whatever W
+pub mod OfOthers
 -- e from the calls alone
 pub mod Calls
 -- the cap on the next number, and the most events

@@ -12,7 +12,7 @@ use Rattle.node.specs.Node.{ringed}
 use Rattle.plans.specs.Plan.{Plan, hits, orderOf}
 use Rattle.model.specs.Platform.{alive, start, nodeOf}
 use Rattle.plans.specs.Plain.{Plain}
-use Rattle.model.specs.Range.{Accepted}
+use Rattle.model.specs.Range.{EndsInE}
 use Rattle.ring.proofs.Neighbours.{open-next-below, open-back-below, open-back-nearest, back-next, next-back, open-back-other}
 use Rattle.ring.proofs.Lists.{listed-none}
 use Rattle.ring.proofs.Gaps.{gap, gap-far, gap-out, gap≥1, gap≤n}
@@ -32,7 +32,7 @@ start-live : (p : Plan) (j : ℕ) → alive p ((start p) .done) j ≡ true
 unfolding start alive hits among
 start-live p j = refl
 
-module _ (p : Plan) (ac : Accepted p) where
+module _ (p : Plan) (ac : EndsInE p) where
   abbrev pl : Plain p
   pl = ac .plain
 

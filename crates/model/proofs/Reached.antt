@@ -14,7 +14,7 @@ use Rattle.plans.specs.Plan.{Crash, Plan}
 use Rattle.plans.proofs.Rows.{hits-many}
 use Rattle.model.specs.Platform.{State, alive, survivors, nodeOf, start, apply, Outcome, try, left, steps, after}
 use Rattle.plans.specs.Plain.{rowAt, Plain}
-use Rattle.model.specs.Range.{Accepted, NotBefore, Sound}
+use Rattle.model.specs.Range.{EndsInE, NotBefore, Sound}
 use Rattle.model.specs.Claims.{Spaced, S, settledBy, joinedBy, completeBy}
 use Rattle.model.proofs.Invariant.{Inv}
 use Rattle.model.proofs.InvariantKept.{opened-inv, step-inv}
@@ -27,7 +27,7 @@ use Rattle.model.proofs.Viewed.{P, tickOf, view, least}
 use Rattle.model.proofs.EventSteps.{lastOf, survivors-cnt, Does, event-does}
 use Rattle.model.proofs.Opened.{start-opened}
 
-module _ (p : Plan) (ac : Accepted p) where
+module _ (p : Plan) (ac : EndsInE p) where
   abbrev pl : Plain p
   pl = ac .plain
 

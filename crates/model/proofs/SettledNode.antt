@@ -17,17 +17,14 @@ use Rattle.ring.proofs.Laws.{keep-ext}
 use Rattle.ring.proofs.Lists.{listed-ext}
 use Rattle.plans.specs.Plan.{Plan, hits, orderOf}
 use Rattle.model.specs.Platform.{State, alive, nextSurvivor, survivorBefore, crashedList, nodeOf}
-use Rattle.plans.specs.Plain.{noCrash}
-use Rattle.model.specs.Range.{Accepted, Sound}
+use Rattle.plans.specs.Plain.{noCrash, Plain}
+use Rattle.model.specs.Range.{EndsInE, Sound}
 use Rattle.model.specs.Claims.{JoinedAt, SettledAt}
 use Rattle.model.proofs.Phases.{crashedIn}
 use Rattle.model.proofs.SpacedRuns.{JoinedIn, SettledIn}
 use Rattle.model.proofs.Viewed.{P, view}
 
-module _ (p : Plan) (ac : Accepted p) where
-  abbrev io' : InOrder (p .n) (orderOf p)
-  io' = (ac .plain) .order
-
+module _ (p : Plan) (pl : Plain p) where
   -- the crashed list holds the crashed nodes
   pub crashed-listed : (n k : ℕ) → listed (crashedList p n) k ≡ not (alive p n k)
   unfolding crashedList alive
@@ -41,7 +38,11 @@ module _ (p : Plan) (ac : Accepted p) where
       below i h =
           let a : i < n = omega (arith, length-take n (p .crashes)) in
           let b : i < length (p .crashes) = omega (arith, length-take n (p .crashes)) in
-          rw (getD-take n (p .crashes) i noCrash a) ((ac .plain) .node i b)
+          rw (getD-take n (p .crashes) i noCrash a) (pl .node i b)
+
+module _ (p : Plan) (ac : EndsInE p) where
+  abbrev io' : InOrder (p .n) (orderOf p)
+  io' = (ac .plain) .order
 
   module _ (s : State) (j : ℕ) (jN : j < p .n) (l : alive p (s .done) j ≡ true) where
     abbrev dead : ℕ → Bool
@@ -88,8 +89,8 @@ module _ (p : Plan) (ac : Accepted p) where
       where
         lst : (nodeOf s j) .list ≡ crashedList p (s .done)
         lst =
-            listed-ext (p .n) ((nodeOf s j) .list) (crashedList p (s .done)) ((r .fields j jN) .list) (crashed-lt (s .done))
-            (λ k. each k (listed ((nodeOf s j) .list) k) refl (alive p (s .done) k) refl ∙ sym (crashed-listed (s .done) k))
+            listed-ext (p .n) ((nodeOf s j) .list) (crashedList p (s .done)) ((r .fields j jN) .list) (crashed-lt p (ac .plain) (s .done))
+            (λ k. each k (listed ((nodeOf s j) .list) k) refl (alive p (s .done) k) refl ∙ sym (crashed-listed p (ac .plain) (s .done) k))
           where
             each : (k : ℕ) (a : Bool) → listed ((nodeOf s j) .list) k ≡ a → (b : Bool) → alive p (s .done) k ≡ b
                 → listed ((nodeOf s j) .list) k ≡ not (alive p (s .done) k)

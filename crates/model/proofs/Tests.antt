@@ -21,9 +21,8 @@ use Rattle.limits.specs.Limits.{mostNext}
 use Rattle.model.specs.Range.{FlightRange, Rises, Sound, nodesTest, messageTest, flightTest, undoneTest, soundTest, storeTest, InRange, nodeHere}
 use Rattle.ring.proofs.Lists.{listed-none}
 use Rattle.plans.specs.Plain.{rowAt, Plain, noCrash}
-use Rattle.model.specs.Range.{Accepted}
 use Rattle.model.proofs.Theorems.{ranges}
-use Rattle.model.proofs.Plans.{plan-accepted}
+use Rattle.plans.proofs.Facts.{plan-plain}
 
 -- ---- the nodes
 
@@ -219,14 +218,14 @@ module _ (p : Plan) (pl : Plain p) (s : State) where
 
 -- ---- a store
 
--- what passes the test of a store is an accepted plan and a state in range
-pub test-store : (p : Plan) (s : State) → storeTest p s ≡ true → Accepted p × InRange p s
+-- what passes the test of a store is a plan in range and a state in range
+pub test-store : (p : Plan) (s : State) → storeTest p s ≡ true → Plain p × InRange p s
 unfolding storeTest
 test-store p s h =
     let a = and-eq-true-iff (planTest p) _ .0 h in
     let b = and-eq-true-iff (soundTest p s) (leb (s .next) mostNext) .0 (a .1) in
-    let ac : Accepted p = plan-accepted p (a .0) in
-    (ac, record { sound = test-range p (ac .plain) s (b .0); cap = leb-true _ _ (b .1) })
+    let pl : Plain p = plan-plain p (a .0) in
+    (pl, record { sound = test-range p pl s (b .0); cap = leb-true _ _ (b .1) })
 
 -- and what is both passes it
 pub store-test : (p : Plan) (s : State) → Plain p → planTest p ≡ true → InRange p s → storeTest p s ≡ true
@@ -235,4 +234,4 @@ store-test p s pl t r = and-eq-true-iff _ _ .1 (t, (and-eq-true-iff _ _ .1 ((ran
 
 -- no store that an accepted file leads to is refused by 7
 pub reached-test : (p : Plan) → planTest p ≡ true → (e : ℕ) → storeTest p (after p e) ≡ true
-reached-test p t e = let pl : Plain p = (plan-accepted p t) .plain in store-test p (after p e) pl t ((ranges p pl) .reached e)
+reached-test p t e = let pl : Plain p = plan-plain p t in store-test p (after p e) pl t ((ranges p pl) .reached e)

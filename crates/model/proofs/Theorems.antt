@@ -1,11 +1,11 @@
--- THE THEOREMS: what demand 3 and requests 106 and 107 claim, and the ranges, of every state that a file leads to, for any ring order. Each statement
--- stands in specs/Claims.antt. Assumes nothing.
+-- THE THEOREMS: what demand 3 and requests 106 and 107 claim, and the ranges, of every state that a file leads to, for any ring order. All but
+-- who has crashed and the ranges are of runs that end in E. Each statement stands in specs/Claims.antt. Assumes nothing.
 use Prim.Native.Nat.{ℕ}
 use Rattle.ring.proofs.Counts.{jumps-covers, jumps-le}
 use Rattle.plans.specs.Plan.{Plan}
 use Rattle.model.specs.Platform.{firstEvents, after}
 use Rattle.plans.specs.Plain.{Plain}
-use Rattle.model.specs.Range.{Accepted}
+use Rattle.model.specs.Range.{EndsInE}
 use Rattle.model.specs.Claims.{CrashedAre, Safe, LogRoundedUp, K, Settles, NoneLeftBy, Joins, Completes, NeverOutOfRange}
 use Rattle.model.proofs.NextEvent.{by-parts}
 use Rattle.model.proofs.RangesKept.{steps-range, after-range}
@@ -23,11 +23,11 @@ pub crashed : (p : Plan) → Plain p → (e : ℕ) → CrashedAre p (firstEvents
 crashed p pl e = crashed-are p pl e
 
 -- after any number of events no node's list holds a live node
-pub safety : (p : Plan) → Accepted p → (e : ℕ) → Safe p (after p e)
+pub safety : (p : Plan) → EndsInE p → (e : ℕ) → Safe p (after p e)
 safety p ac e = record { unlisted = λ j k h. ((after-inv p ac e) .base .listed j k h) .dead }
 
 -- after any number of events, where the crashes are spaced and S ticks have passed since the last, every survivor is settled
-pub settling : (p : Plan) → Accepted p → (e : ℕ) → Settles p (after p e)
+pub settling : (p : Plan) → EndsInE p → (e : ℕ) → Settles p (after p e)
 settling p ac e =
     record {
       settled = λ i d sp nl j jN l. settled-at p ac (after p e) j jN l (after-range p (ac .plain) e)
@@ -36,7 +36,7 @@ settling p ac e =
 
 -- after any number of events, however close the crashes came, where no event due by c + 2 × W × f + D is left every survivor's emitter and
 -- observer are the neighbouring survivors
-pub joining : (p : Plan) → Accepted p → (e : ℕ) → Joins p (after p e)
+pub joining : (p : Plan) → EndsInE p → (e : ℕ) → Joins p (after p e)
 unfolding NoneLeftBy
 joining p ac e =
     record {
@@ -44,7 +44,7 @@ joining p ac e =
     }
 
 -- and where no event due by (m − 1) × (H + D) after that is left every survivor lists exactly the crashed nodes
-pub completing : (p : Plan) → Accepted p → (e : ℕ) → Completes p (after p e)
+pub completing : (p : Plan) → EndsInE p → (e : ℕ) → Completes p (after p e)
 unfolding NoneLeftBy
 completing p ac e =
     record {

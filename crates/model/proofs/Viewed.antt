@@ -20,7 +20,7 @@ use Rattle.node.proofs.Sends.{report-of, report-to, target-apart}
 use Rattle.plans.specs.Plan.{Crash, Plan, hits, orderOf}
 use Rattle.model.specs.Platform.{InFlight, State, alive, numbered, nodeOf, taken}
 use Rattle.plans.specs.Plain.{noCrash, Plain}
-use Rattle.model.specs.Range.{Accepted, NotBefore, Sound}
+use Rattle.model.specs.Range.{EndsInE, NotBefore, Sound}
 use Rattle.ring.proofs.Unlisted.{countBy, aheadBy}
 use Rattle.ring.proofs.GoingBack.{hops, ahead-iter}
 use Rattle.ring.proofs.Lists.{listing-keeps, listing-lists, listing-only, merging-keeps, merging-takes, merging-only}
@@ -45,7 +45,7 @@ tick-of (r ∷ rs) z (suc i) k o h e =
     rw (ne-eqb (r .node) k (λ q. o 0 (suc i) (omega arith) h (q ∙ sym e)))
     (tick-of rs z i k (λ a b x y. o (suc a) (suc b) (omega arith) (omega arith)) (omega arith) e)
 
-module _ (p : Plan) (ac : Accepted p) where
+module _ (p : Plan) (ac : EndsInE p) where
   abbrev pub pl : Plain p
   pl = ac .plain
 
@@ -77,7 +77,7 @@ module _ (p : Plan) (ac : Accepted p) where
     log = jumps;
     log-is = jumps-covers;
     D≥1 = pl .d≥;
-    W≥ = ac .four;
+    W≥ = omega (arith, ac .long);
   }
 
 -- ---- a timer, a node and a state
@@ -113,7 +113,7 @@ seen b a = record {
 abbrev pub view : Plan → State → View
 view p s = record { last = s .last; node = λ j. seen (alive p (s .done) j) (nodeOf s j); flight = s .flight }
 
-module _ (p : Plan) (ac : Accepted p) (s : State) (r : Sound p s) where
+module _ (p : Plan) (ac : EndsInE p) (s : State) (r : Sound p s) where
   abbrev pub Q : Params
   Q = P p ac
 

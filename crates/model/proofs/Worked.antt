@@ -1,30 +1,33 @@
 -- A file with a crash, in number order and shuffled, whose settled state is computed and meets every hypothesis of `settling`; one with three
--- crashes at one tick, likewise for `joining`; one in which a node leaves its emitter by report; and the S of document 01's edge. Assumes nothing.
+-- crashes at one tick, likewise for `joining`; one whose report dies with its relays, likewise for `completing`; one in which a node leaves its
+-- emitter by report; one with W one below H + D, of which none of these claims holds; and the S of document 01's edge. Assumes nothing.
 use mathlib.Core.Path.{_≡_, refl, sym, ap, subst, _∙_}
-use mathlib.Core.Bool.{true}
+use mathlib.Core.Bool.{true, true≢false}
 use mathlib.Core.List.{List, [], _∷_, map}
 use mathlib.Core.Option.{none, some}
-use Prim.Native.Nat.{ℕ, _<_}
+use Prim.Native.Nat.{ℕ, suc, _+_, _≤_, _<_}
 use native.Mathlib.Omega.{arith}
 use lib.ListN.{getD}
 use Rattle.ring.specs.Ring.{keep, numbers, among, eachOnce, listed, listing, unlisting, merging, unlisted, passing, round, place, ahead}
-use Rattle.ring.specs.Ring.{firstUnlisted, back, next, count, powers, jumps, targets}
+use Rattle.ring.specs.Ring.{firstUnlisted, back, next, count, powers, jumps, targets, listingAll}
 use Rattle.node.specs.declared.Node.{Node}
 use Rattle.node.specs.Node.{due, R, reports, opening, learnt, onHeartbeat, onObserver, onReport, onHeartbeatDue, onMessage, leaving}
 use Rattle.logline.specs.Line.{letterR, letterK}
 use Rattle.model.specs.Platform.{alive, survivors, start, crashEntries, messageEntries, timerEntry, timerEntries, pending, earlier, first, upTo}
-use Rattle.model.specs.Platform.{InFlight, State, message, messageAt, nextSurvivor, crashedList}
+use Rattle.model.specs.Platform.{InFlight, State, message, messageAt, nextSurvivor, survivorBefore, crashedList}
 use Rattle.model.specs.Platform.{nextEvent, delayIn, delayOf, numbered, nodeOf, taken, without, received, apply, fits, tried, try, left, steps, after}
 use Rattle.plans.specs.Plan.{Crash, Plan, within, startRanges, longEnough, crashRange, risingFrom, rising, later, hits, noneTwice, crashOrder}
-use Rattle.plans.specs.Plan.{ringOrder, orderOf, ringTest, ringCount, ringRange, delayOrder, fewDelays, every, startTest, crashTest, delayTest, planTest}
+use Rattle.plans.specs.Plan.{withCrashed, ringOrder, orderOf, ringTest, ringCount, ringRange, delayOrder, fewDelays, every, crashTest, delayTest, planTest}
 use Rattle.plans.specs.Plain.{Plain}
-use Rattle.model.specs.Range.{Accepted, NotBefore}
+use Rattle.plans.proofs.Facts.{plan-plain}
+use Rattle.model.specs.Range.{EndsInE, NotBefore}
 use Rattle.model.specs.Lines.{line, otherOf, moves, messageDeed, deedOf, deedLines, eventLines}
-use Rattle.model.specs.Claims.{S, settledBy, Spaced, NoneLeftBefore, SettledAt, joinedBy, NoneLeftBy, JoinedAt, completeBy}
+use Rattle.model.specs.Claims.{Safe, S, settledBy, Spaced, NoneLeftBefore, SettledAt, Settles, joinedBy, NoneLeftBy, JoinedAt, Joins, completeBy}
+use Rattle.model.specs.Claims.{Completes}
 use Rattle.model.proofs.NextEvent.{Best, best}
 use Rattle.model.proofs.RangesKept.{after-range}
 use Rattle.model.proofs.Theorems.{settling, joining, completing}
-use Rattle.model.proofs.Plans.{plan-accepted}
+use Rattle.model.proofs.Plans.{plan-ends}
 use Rattle.model.proofs.Search.{none-left-before}
 
 -- ---- 63 survivors, W 100, D 5: S is 140
@@ -66,13 +69,13 @@ unfolding four endOf keep numbers listed listing unlisting merging unlisted pass
 four-ends =
     (record { nodes = refl; done = refl; by = refl; end = refl }, record { nodes = refl; done = refl; by = refl; end = refl })
 
-pub four-accepted : Accepted (four []) × Accepted (four shuffled)
-unfolding four planTest startTest startRanges within longEnough ringTest ringCount ringRange crashTest every crashRange crashOrder rising
+pub four-plan : EndsInE (four []) × EndsInE (four shuffled)
+unfolding four planTest startRanges within longEnough ringTest ringCount ringRange crashTest every crashRange crashOrder rising
     risingFrom noneTwice eachOnce hits among delayTest delayOrder fewDelays
-four-accepted = (plan-accepted (four []) refl, plan-accepted (four shuffled) refl)
+four-plan = (plan-ends (four []) refl refl, plan-ends (four shuffled) refl refl)
 
 -- the same by the theorem: its hypotheses are met
-module _ (ring : List ℕ) (fields : List (List ℕ)) (accepted : Accepted (four ring)) (ends : Ends ring fields) where
+module _ (ring : List ℕ) (fields : List (List ℕ)) (accepted : EndsInE (four ring)) (ends : Ends ring fields) where
   abbrev p : Plan
   p = four ring
 
@@ -94,7 +97,7 @@ pub four-settles : (j : ℕ) → j < 4
     → (alive (four []) ((after (four []) 200) .done) j ≡ true → SettledAt (four []) (after (four []) 200) j)
     × (alive (four shuffled) ((after (four shuffled) 200) .done) j ≡ true → SettledAt (four shuffled) (after (four shuffled) 200) j)
 four-settles j h =
-    (settles [] _ (four-accepted .0) (four-ends .0) j h, settles shuffled _ (four-accepted .1) (four-ends .1) j h)
+    (settles [] _ (four-plan .0) (four-ends .0) j h, settles shuffled _ (four-plan .1) (four-ends .1) j h)
 
 -- ---- a file in which three neighbours crash at one tick: P,6,1,2,1,14 and C,1,1, C,1,2, C,1,3. With f = 3, c + 2 × W × f + D is
 -- 1 + 2 × 2 × 3 + 1 = 14, and all that is due by then is done
@@ -138,13 +141,13 @@ trip-ends = (
   record { not-yet = refl; tick = refl; nodes = refl; done = refl; by = refl; end = refl },
 )
 
-pub trip-accepted : Accepted (trip []) × Accepted (trip mixed)
-unfolding trip planTest startTest startRanges within longEnough ringTest ringCount ringRange crashTest every crashRange crashOrder rising
+pub trip-plan : EndsInE (trip []) × EndsInE (trip mixed)
+unfolding trip planTest startRanges within longEnough ringTest ringCount ringRange crashTest every crashRange crashOrder rising
     risingFrom later noneTwice eachOnce hits among delayTest delayOrder fewDelays
-trip-accepted = (plan-accepted (trip []) refl, plan-accepted (trip mixed) refl)
+trip-plan = (plan-ends (trip []) refl refl, plan-ends (trip mixed) refl refl)
 
 -- the same by the theorem: its hypotheses are met
-module _ (ring : List ℕ) (events : ℕ) (early late : List (List ℕ)) (accepted : Accepted (trip ring)) (ends : Rejoins ring events early late) where
+module _ (ring : List ℕ) (events : ℕ) (early late : List (List ℕ)) (accepted : EndsInE (trip ring)) (ends : Rejoins ring events early late) where
   abbrev pt : Plan
   pt = trip ring
 
@@ -162,7 +165,7 @@ pub trip-joins : (j : ℕ) → j < 6
     → (alive (trip []) ((after (trip []) 200) .done) j ≡ true → JoinedAt (trip []) (after (trip []) 200) j)
     × (alive (trip mixed) ((after (trip mixed) 200) .done) j ≡ true → JoinedAt (trip mixed) (after (trip mixed) 200) j)
 trip-joins j h =
-    (joins [] _ _ _ (trip-accepted .0) (trip-ends .0) j h, joins mixed _ _ _ (trip-accepted .1) (trip-ends .1) j h)
+    (joins [] _ _ _ (trip-plan .0) (trip-ends .0) j h, joins mixed _ _ _ (trip-plan .1) (trip-ends .1) j h)
 
 next-is-4 : nextSurvivor (trip []) ((after (trip []) 81) .done) 0 ≡ 4
 unfolding trip keep numbers listed listing unlisting merging unlisted passing round place ahead firstUnlisted back next count powers jumps targets
@@ -176,7 +179,7 @@ next-is-4 = refl
 pub too-soon : NoneLeftBy (trip []) (after (trip []) 81) 10 × (JoinedAt (trip []) (after (trip []) 81) 0 → ⊥)
 unfolding NoneLeftBy neighbours
 too-soon =
-    let pl : Plain (trip []) = trip-accepted .0 .plain in
+    let pl : Plain (trip []) = trip-plan .0 .plain in
     let s : State = after (trip []) 81 in
     let now : NotBefore (trip []) s 11 11 11 = subst (λ t. NotBefore (trip []) s t t t) (trip-ends .0 .tick) (after-range (trip []) pl 81 .past) in
     let observer : (nodeOf s 0) .observer ≡ 1 = ap (λ (l : List (List ℕ)). getD (getD l 0 []) 1 0) (trip-ends .0 .not-yet) in
@@ -212,20 +215,20 @@ unfolding lost twoLists keep numbers listed listing unlisting merging unlisted p
     fits tried try left steps after joinedBy completeBy
 lost-ends = record { short = refl; heard = refl; tick = refl; unreported = refl; full = refl; done = refl; by = refl; end = refl }
 
-pub lost-accepted : Accepted lost
-unfolding lost planTest startTest startRanges within longEnough ringTest ringCount ringRange crashTest every crashRange crashOrder rising
+pub lost-plan : EndsInE lost
+unfolding lost planTest startRanges within longEnough ringTest ringCount ringRange crashTest every crashRange crashOrder rising
     risingFrom later noneTwice eachOnce hits among delayTest delayOrder fewDelays
-lost-accepted = plan-accepted lost refl
+lost-plan = plan-ends lost refl refl
 
 -- the same by the theorem: its hypotheses are met
 pub lost-completes : (j : ℕ) → j < 5 → alive lost ((after lost 200) .done) j ≡ true → (nodeOf (after lost 200) j) .list ≡ crashedList lost 3
 unfolding Best lost NoneLeftBy NoneLeftBefore
 lost-completes j h l =
-    let pl : Plain lost = lost-accepted .plain in
+    let pl : Plain lost = lost-plan .plain in
     let s : State = after lost 200 in
     let over : NotBefore lost s 93 93 93 = subst (Best lost pl s) (lost-ends .end) (best lost pl s) in
     let left : NoneLeftBefore lost s 43 = λ e m. omega (arith, none-left-before lost pl s 93 over e m) in
-    (completing lost lost-accepted 200) .complete 2 (lost-ends .done) (subst (NoneLeftBy lost s) (sym (lost-ends .by)) left) j h l
+    (completing lost lost-plan 200) .complete 2 (lost-ends .done) (subst (NoneLeftBy lost s) (sym (lost-ends .by)) left) j h l
     ∙ ap (crashedList lost) (lost-ends .done)
 
 -- ---- a file in which a node leaves its emitter by report: P,9,3,10,7,47 with six crashes. Node 6 takes node 2 at tick 46, by its expired
@@ -236,10 +239,10 @@ nine =
     let at : ℕ → ℕ → Crash = λ tick node. record { tick = tick; node = node } in
     record { n = 9; h = 3; w = 10; d = 7; end = 47; ring = []; crashes = at 2 4 ∷ at 2 8 ∷ at 10 2 ∷ at 11 5 ∷ at 15 1 ∷ at 28 3 ∷ []; delays = [] }
 
-pub nine-accepted : Accepted nine
-unfolding nine planTest startTest startRanges within longEnough ringTest ringCount ringRange crashTest every crashRange crashOrder rising
+pub nine-plan : EndsInE nine
+unfolding nine planTest startRanges within longEnough ringTest ringCount ringRange crashTest every crashRange crashOrder rising
     risingFrom later noneTwice eachOnce hits among delayTest delayOrder fewDelays
-nine-accepted = plan-accepted nine refl
+nine-plan = plan-ends nine refl refl
 
 -- node 6 after some events
 unfoldable pub six : ℕ → Node
@@ -265,3 +268,76 @@ unfolding nine six firstIn keep numbers listed listing unlisting merging unliste
     crashEntries messageEntries timerEntry timerEntries pending earlier first upTo nextEvent delayIn delayOf numbered taken without received apply
     fits tried try left steps after otherOf moves messageDeed deedOf deedLines
 six-leaves = record { observes-2 = refl; message-next = refl; report-of-2 = refl; observes-1 = refl; lines = refl }
+
+-- ---- a file with W one below H + D: P,3,2,2,1,9 and C,1,0. At tick 2 node 2 lists node 1, which is live; at the end each of the two survivors
+-- lists the other and is alone. Nothing due by 9 is left, and none of the claims counts from a later tick
+
+unfoldable pub short : Plan
+short = record { n = 3; h = 2; w = 2; d = 1; end = 9; ring = []; crashes = record { tick = 1; node = 0 } ∷ []; delays = [] }
+
+abbrev shortEnd : State
+shortEnd = after short 40
+
+pub record ShortEnds : Type 0 where
+  -- a run file may hold it, and one tick more would be enough
+  pub taken : planTest short ≡ true
+  pub one-less : short .w + 1 ≡ short .h + short .d
+  pub done : shortEnd .done ≡ 1
+  -- nodes 1 and 2 are live, and 1 lists 0 and 2 and observes itself
+  pub live-1 : alive short (shortEnd .done) 1 ≡ true
+  pub live-2 : alive short (shortEnd .done) 2 ≡ true
+  pub list : (nodeOf shortEnd 1) .list ≡ 5
+  pub lists-2 : listed ((nodeOf shortEnd 1) .list) 2 ≡ true
+  pub emitter : (nodeOf shortEnd 1) .emitter ≡ 1
+  -- where it should list 0 alone and observe 2
+  pub dead : crashedList short (shortEnd .done) ≡ 1
+  pub before : survivorBefore short (shortEnd .done) 1 ≡ 2
+  pub settled : settledBy short 0 ≡ 6
+  pub joined : joinedBy short 0 ≡ 6
+  pub complete : completeBy short 0 ≡ 9
+  pub end : nextEvent short shortEnd ≡ none
+
+pub short-ends : ShortEnds
+unfolding short keep numbers listed listing unlisting merging unlisted passing round place ahead firstUnlisted back next count powers jumps targets
+    reports opening learnt onHeartbeat onObserver onReport onHeartbeatDue leaving onMessage ringOrder orderOf hits among alive survivors start
+    crashEntries messageEntries timerEntry timerEntries pending earlier first upTo nextEvent delayIn delayOf numbered taken without received apply
+    fits tried try left steps after S settledBy joinedBy completeBy survivorBefore crashedList withCrashed listingAll
+    planTest startRanges within ringTest crashTest every crashRange crashOrder rising risingFrom noneTwice eachOnce delayTest delayOrder fewDelays
+short-ends = record {
+  taken = refl;
+  one-less = refl;
+  done = refl;
+  live-1 = refl;
+  live-2 = refl;
+  list = refl;
+  lists-2 = refl;
+  emitter = refl;
+  dead = refl;
+  before = refl;
+  settled = refl;
+  joined = refl;
+  complete = refl;
+  end = refl;
+}
+
+-- so W at least H + D is needed for each of the four claims
+pub none-holds : (Safe short shortEnd → ⊥) × (Settles short shortEnd → ⊥) × (Joins short shortEnd → ⊥) × (Completes short shortEnd → ⊥)
+unfolding Best short Spaced NoneLeftBy NoneLeftBefore
+none-holds = (
+  λ h. true≢false (sym (f .live-2) ∙ h .unlisted 1 2 (f .lists-2)),
+  λ h. omega (arith, h .settled 0 (f .done) (λ i l. absurd (omega arith)) (by (f .settled) (omega arith)) 1 (omega arith) (f .live-1) .list, f .list, f .dead),
+  λ h. omega (arith, h .joined 0 (f .done) (by (ap suc (f .joined)) (omega arith)) 1 (omega arith) (f .live-1) .emitter, f .emitter, f .before),
+  λ h. omega (arith, h .complete 0 (f .done) (by (ap suc (f .complete)) (omega arith)) 1 (omega arith) (f .live-1), f .list, f .dead),
+)
+  where
+    f : ShortEnds
+    f = short-ends
+
+    pl : Plain short
+    pl = plan-plain short (f .taken)
+
+    over : NotBefore short shortEnd 10 10 10
+    over = subst (Best short pl shortEnd) (f .end) (best short pl shortEnd)
+
+    by : {u v : ℕ} → v ≡ u → u ≤ 10 → NoneLeftBefore short shortEnd v
+    by e l x m = omega (arith, none-left-before short pl shortEnd 10 over x m)

@@ -16,10 +16,10 @@ use Rattle.model.specs.Platform.{InFlight, State, alive, nodeOf}
 
 -- ---- a plan
 
--- the plan of an accepted file, as far as the theorems need it: in range, and W at least H + D, number 4
-pub record Accepted (p : Plan) : Type 0 where
+-- the plan of an 'E run', as far as the theorems need it: in range, and W at least H + D
+pub record EndsInE (p : Plan) : Type 0 where
   pub plain : Plain p
-  pub four : p .h + p .d ≤ p .w
+  pub long : p .h + p .d ≤ p .w
 
 -- ---- a state
 

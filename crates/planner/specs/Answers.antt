@@ -24,7 +24,7 @@ unfoldable pub numberAndLine : Opened → ℕ
 numberAndLine Ready = 0
 numberAndLine (Unopened number line) = number + 256 * line
 
--- ---- step: which event by its letter (E where none is left), its tick, node and other, and the length of its line
+-- ---- step: which event by its letter (E or F where none is left), its tick, node and other, and the length of its line
 
 unfoldable pub stepLetter : Stepped → ℕ → ℕ
 stepLetter (Did line size) was = line .letter

@@ -78,8 +78,8 @@ pub extern "C" fn kelbraut_write(store: &[u8], out: &mut [u8], size: &mut u64) -
     }
 }
 
-// Does one event and writes its line. Answers the number of the refusal, 0 where there is none. Puts the letter of the event's line, E where
-// none is left, its tick, node and other, and the length of the line.
+// Does one event and writes its line. Answers the number of the refusal, 0 where there is none. Puts the letter of the event's line, E or F
+// where none is left, its tick, node and other, and the length of the line.
 #[no_mangle]
 pub extern "C" fn kelbraut_step(
     store: &mut [u8],

@@ -10,7 +10,7 @@ use lib.Dec.{leb}
 use lib.ListN.{length, getD}
 use Rattle.limits.specs.Limits.{mostNodes, mostH, mostW, mostD, mostTick, mostNumber, mostDelays}
 use Rattle.plans.specs.Plan.{Crash, Delay, Plan, withCrash, withDelay, within, startRanges, longEnough, crashRange, delayRange, crashOrder, delayOrder}
-use Rattle.plans.specs.Plan.{fewDelays, every, startTest, ringTest, crashTest, delayTest, planTest}
+use Rattle.plans.specs.Plan.{fewDelays, every, ringTest, crashTest, delayTest, planTest}
 use Rattle.plans.specs.Plan.{startPlan, withRing, orderOf, ringCount, ringRange, rising, noneTwice}
 use Rattle.ring.specs.Ring.{eachOnce, InOrder}
 use Rattle.plans.proofs.Orders.{ring-taken, ring-few, ring-below, order-once}
@@ -57,11 +57,16 @@ ranges-of p e =
       end-high = in-high 0 mostTick (p .end) e4;
     }
 
+-- W is at least H + D
+pub long-enough : (p : Plan) → longEnough p ≡ true → p .h + p .d ≤ p .w
+unfolding longEnough
+long-enough p e = leb-true _ _ e
+
 -- ---- the whole test
 
 -- the parts of the test of a plan
 pub record Tests (p : Plan) : Type 0 where
-  pub start : startTest p ≡ true
+  pub start : startRanges p ≡ true
   pub ring : ringTest p ≡ true
   pub crashes : every (crashRange p) (p .crashes) ≡ true
   pub crash-order : crashOrder (p .crashes) ≡ true
@@ -72,13 +77,13 @@ pub record Tests (p : Plan) : Type 0 where
 pub tests-of : (p : Plan) → planTest p ≡ true → Tests p
 unfolding planTest crashTest delayTest
 tests-of p e =
-    let later = and-elim-right (startTest p) _ e in
+    let later = and-elim-right (startRanges p) _ e in
     let rest = and-elim-right (ringTest p) _ later in
     let crashes = and-elim-left (crashTest p) (delayTest p) rest in
     let delays = and-elim-right (crashTest p) (delayTest p) rest in
     let more = and-elim-right (every (delayRange p) (p .delays)) _ delays in
     record {
-      start = and-elim-left (startTest p) _ e;
+      start = and-elim-left (startRanges p) _ e;
       ring = and-elim-left (ringTest p) _ later;
       crashes = and-elim-left (every (crashRange p) (p .crashes)) _ crashes;
       crash-order = and-elim-right (every (crashRange p) (p .crashes)) _ crashes;
@@ -93,16 +98,10 @@ of-tests p t = rw (t .start, t .ring, t .crashes, t .crash-order, t .delays, t .
 
 module _ (p : Plan) (good : planTest p ≡ true) where
   pub ranges-good : startRanges p ≡ true
-  unfolding startTest
-  ranges-good = and-elim-left (startRanges p) _ (tests-of p good .start)
+  ranges-good = tests-of p good .start
 
   pub ranges : Ranges p
   ranges = ranges-of p ranges-good
-
-  -- W is at least H + D, number 4
-  pub long-enough : p .h + p .d ≤ p .w
-  unfolding startTest longEnough
-  long-enough = leb-true _ _ (and-elim-right (startRanges p) _ (tests-of p good .start))
 
   -- the order has each node once
   pub in-order : InOrder (p .n) (orderOf p)
@@ -127,7 +126,7 @@ module _ (p : Plan) (good : planTest p ≡ true) where
 
 pub ring-good : (p : Plan) (ks : List ℕ) → planTest p ≡ true → ringCount p ks ≡ true → ringRange p ks ≡ true → eachOnce ks ≡ true
     → planTest (withRing p ks) ≡ true
-unfolding withRing startTest ringCount ringRange startRanges longEnough crashRange delayRange
+unfolding withRing ringCount ringRange startRanges crashRange delayRange
 ring-good p ks g count range once =
     let t = tests-of p g in
     of-tests (withRing p ks) (record {
@@ -142,7 +141,7 @@ ring-good p ks g count range once =
 
 pub crash-good : (p : Plan) (r : Crash) → planTest p ≡ true → crashRange p r ≡ true → crashOrder (p .crashes ++ (r ∷ [])) ≡ true
     → planTest (withCrash p r) ≡ true
-unfolding withCrash startTest ringTest ringCount ringRange startRanges longEnough crashRange delayRange
+unfolding withCrash ringTest ringCount ringRange startRanges crashRange delayRange
 crash-good p r g range order =
     let t = tests-of p g in
     of-tests (withCrash p r) (record {
@@ -157,7 +156,7 @@ crash-good p r g range order =
 
 pub delay-good : (p : Plan) (r : Delay) → planTest p ≡ true → delayRange p r ≡ true → delayOrder (p .delays ++ (r ∷ [])) ≡ true
     → fewDelays (p .delays ++ (r ∷ [])) ≡ true → planTest (withDelay p r) ≡ true
-unfolding withDelay startTest ringTest ringCount ringRange startRanges longEnough crashRange delayRange
+unfolding withDelay ringTest ringCount ringRange startRanges crashRange delayRange
 delay-good p r g range order few =
     let t = tests-of p g in
     of-tests (withDelay p r) (record {
@@ -173,7 +172,7 @@ delay-good p r g range order few =
 -- ---- no row
 
 pub head-good : (p : Plan) → planTest p ≡ true → planTest (withRing (startPlan (p .n) (p .h) (p .w) (p .d) (p .end)) (p .ring)) ≡ true
-unfolding withRing startPlan startTest ringTest ringCount ringRange startRanges longEnough crashOrder delayOrder rising noneTwice eachOnce fewDelays every
+unfolding withRing startPlan ringTest ringCount ringRange startRanges crashOrder delayOrder rising noneTwice eachOnce fewDelays every
 head-good p g =
     let t = tests-of p g in
     of-tests (withRing (startPlan (p .n) (p .h) (p .w) (p .d) (p .end)) (p .ring)) (record {

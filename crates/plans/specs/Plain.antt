@@ -15,7 +15,7 @@ abbrev pub rowAt : Plan → ℕ → Crash
 rowAt p i = getD (p .crashes) i noCrash
 
 -- a plan in range, as far as the theorems need it: P line, C lines that rise with no node twice, delays of 1 to D, and an order that
--- has each node once. Number 4 is apart; the upper ends of H, W and D and the numbers of L lines play no part
+-- has each node once. Whether W is at least H + D is apart; the upper ends of H, W and D and the numbers of L lines play no part
 pub record Plain (p : Plan) : Type 0 where
   pub n≥ : 1 ≤ p .n
   pub n≤ : p .n ≤ mostNodes

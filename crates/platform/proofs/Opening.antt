@@ -19,7 +19,7 @@ use Rattle.runfile.specs.declared.Entry.{Entry}
 use Rattle.runfile.specs.Reader.{outlineOf, readOf, entryAt, fieldsAt, ringPlace, crashPlace, delayPlace}
 use Rattle.plans.proofs.Tests.{Ranges, ranges, few-ring, few-delays}
 use Rattle.plans.proofs.Few.{crashes-few}
-use Rattle.runfile.proofs.Refusals.{refusal-small, refusal-most}
+use Rattle.runfile.proofs.Refusals.{refusal-small}
 use Rattle.runfile.proofs.RoundTrip.{accepted-plan}
 use Rattle.runfile.proofs.Places.{ring-place-first, ring-place-last, crash-place-first, crash-place-last, ring-at, crash-at, delay-at}
 use Rattle.runfile.proofs.Size.{plan-size}
@@ -246,4 +246,4 @@ opening-small file store number line e = go (fileOf file) refl e
         let a : k ≡ number = cc in
         let b : l ≡ line = cc in
         let s = refusal-small file k l same in
-        omega (arith, s .0, refusal-most file k l same, s .2)
+        omega (arith, s .0, s .1, s .2)

@@ -8,7 +8,7 @@ use mathlib.Core.Option.{Option, none, some}
 use lib.Dec.{eqb}
 use lib.ListN.{length, length-append}
 use borrow.Author.Tests.{eq-eqb, eqb-true}
-use Rattle.plans.specs.Plan.{Crash, Delay, Plan, startRanges, longEnough, crashRange, delayRange, crashOrder, delayOrder, fewDelays, every, startTest}
+use Rattle.plans.specs.Plan.{Crash, Delay, Plan, startRanges, crashRange, delayRange, crashOrder, delayOrder, fewDelays, every}
 use Rattle.plans.specs.Plan.{crashTest, delayTest, planTest, rising, noneTwice, ringCount, ringRange, withRing, withCrash, withDelay}
 use Rattle.ring.specs.Ring.{eachOnce}
 use Rattle.runfile.specs.Text.{lineText, startText}
@@ -30,16 +30,14 @@ else-inv false k s q e = let z : _≡_ {A = ℕ} 0 1 = cc in absurd (omega arith
 pub record Opened (x : Option Row) (q : Plan) : Type 0 where
   pub row : x ≡ some (start q)
   pub ranges : startRanges q ≡ true
-  pub long : longEnough q ≡ true
 
 pub first-inv : (x : Option Row) (q : Plan) → firstLine x ≡ next q → Opened x q
 unfolding firstLine startLine
 first-inv none q e = let z : _≡_ {A = ℕ} 0 1 = cc in absurd (omega arith)
 first-inv (some (start p)) q e =
-    let a = else-inv (startRanges p) 3 _ q e in
-    let b = else-inv (longEnough p) 4 _ q (a .1) in
-    let same : p ≡ q = cc (b .1) in
-    record { row = ap (λ (r : Plan). some (start r)) same; ranges = ap startRanges (sym same) ∙ a .0; long = ap longEnough (sym same) ∙ b .0 }
+    let a = else-inv (startRanges p) _ _ q e in
+    let same : p ≡ q = cc (a .1) in
+    record { row = ap (λ (r : Plan). some (start r)) same; ranges = ap startRanges (sym same) ∙ a .0 }
 first-inv (some (ring ks)) q e = let z : _≡_ {A = ℕ} 0 1 = cc in absurd (omega arith)
 first-inv (some (crash r)) q e = let z : _≡_ {A = ℕ} 0 1 = cc in absurd (omega arith)
 first-inv (some (delay r)) q e = let z : _≡_ {A = ℕ} 0 1 = cc in absurd (omega arith)
@@ -52,10 +50,10 @@ opened-text l q o =
 
 -- a P line opens a plan that a file may hold
 pub opened-good : (l : List ℕ) (q : Plan) → Opened (rowOf 0 l) q → planTest q ≡ true
-unfolding planTest startTest crashTest delayTest crashOrder delayOrder fewDelays every rising noneTwice eachOnce
+unfolding planTest crashTest delayTest crashOrder delayOrder fewDelays every rising noneTwice eachOnce
 opened-good l q o =
     let r = start-rows 0 l q (o .row) in
-    rw (o .ranges, o .long, no-ring-taken q (ap length (r .2)), r .0, r .1)
+    rw (o .ranges, no-ring-taken q (ap length (r .2)), r .0, r .1)
 
 -- ---- a later line
 

@@ -5,7 +5,7 @@ use mathlib.Core.Path.{_≡_, refl, sym, ap, _∙_}
 use mathlib.Core.List.{List}
 use lib.ListN.{length, take, drop, length-take}
 use borrow.Author.Tests.{le-leb, lt-leb}
-use Rattle.plans.specs.Plan.{Plan, startRanges, startTest, within}
+use Rattle.plans.specs.Plan.{Plan, within}
 use Rattle.runfile.specs.Text.{startText}
 use Rattle.runfile.specs.File.{Step, next, stop, lines, rowOf, firstLine, laterLine, stepThen, laterLines, allLines, fileOf}
 use Rattle.runfile.specs.Reader.{outlineOf, readOf, sofarOf, Kept, lineAnswer, Passed, lineLength}
@@ -31,9 +31,9 @@ stop-inv (stop m) k e = let same : k ≡ m = cc in ap stop (sym same)
 
 -- what is kept has the range of N
 pub kept-n : (p : Plan) (st : Sofar) → Kept p st → (1 ≤ st .n) × (st .n ≤ 64)
-unfolding startTest sofarOf
+unfolding sofarOf
 kept-n p st k =
-    let r = ranges-of p (and-elim-left (startRanges p) _ (tests-of p (k .good) .start)) in
+    let r = ranges-of p (tests-of p (k .good) .start) in
     let same : st .n ≡ p .n = ap (λ (s : Sofar). s .n) (k .same) in
     (omega (arith, r .n-low), omega (arith, r .n-high))
 

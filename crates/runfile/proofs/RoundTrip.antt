@@ -10,7 +10,7 @@ use mathlib.Core.List.{List, [], _∷_, _++_, append-assoc, append-nil}
 use lib.Dec.{eqb}
 use lib.ListN.{length}
 use borrow.Author.Tests.{le-leb}
-use Rattle.plans.specs.Plan.{Crash, Delay, Plan, within, startRanges, longEnough, startTest, crashRange, delayRange, crashOrder, delayOrder, fewDelays, every}
+use Rattle.plans.specs.Plan.{Crash, Delay, Plan, within, startRanges, crashRange, delayRange, crashOrder, delayOrder, fewDelays, every}
 use Rattle.plans.specs.Plan.{planTest, startPlan, ringRange, withRing, withCrash, withDelay}
 use Rattle.runfile.specs.Text.{lineText, startText, ringText, crashText, delayText, rowsText, headText, planText}
 use Rattle.text.specs.Field.{onto}
@@ -199,19 +199,17 @@ crashes-read p done (r ∷ rest) line g e =
     )
     (crashes-read p (done ++ (r ∷ [])) rest (suc line) g (e ∙ sym (append-assoc done (r ∷ []) rest)))
 
--- the P line's tests, of the plan without its rows
-opening-tests : (p : Plan) → startTest p ≡ true
-    → (startRanges (startPlan (p .n) (p .h) (p .w) (p .d) (p .end)) ≡ true) × (longEnough (startPlan (p .n) (p .h) (p .w) (p .d) (p .end)) ≡ true)
-unfolding startTest startRanges longEnough startPlan
-opening-tests p e = (and-elim-left (startRanges p) (longEnough p) e, and-elim-right (startRanges p) (longEnough p) e)
+-- the P line's test, of the plan without its rows
+opening-test : (p : Plan) → startRanges p ≡ true → startRanges (startPlan (p .n) (p .h) (p .w) (p .d) (p .end)) ≡ true
+unfolding startRanges startPlan
+opening-test p e = e
 
 start-taken : (p : Plan) → planTest p ≡ true → firstLine (rowOf 0 (startText p)) ≡ next (part p [] [] [])
 unfolding firstLine startLine orElse startPlan
 start-taken p g =
     let b = ranges-of p (ranges-good p g) in
-    let t = opening-tests p (tests-of p g .start) in
     rw (start-read p (omega (arith, b .n-high)) (omega (arith, b .h-high)) (omega (arith, b .w-high)) (omega (arith, b .d-high)) (omega (arith, b .end-high)))
-    (rw (t .0, t .1))
+    (rw (opening-test p (ranges-good p g)))
 
 start-line : (p : Plan) (s : List ℕ) → startRanges p ≡ true → lines (startText p ++ s) ≡ startText p ∷ lines s
 unfolding startText Small

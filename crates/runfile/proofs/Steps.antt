@@ -15,7 +15,7 @@ use Rattle.ring.specs.Ring.{listed, listing, listingAll, eachOnce}
 use Rattle.text.specs.declared.Ranged.the-variants.{Within, Outside}
 use Rattle.text.specs.Field.{rangedOf}
 use Rattle.text.proofs.FieldLaws.{range-bound}
-use Rattle.plans.specs.Plan.{Crash, Delay, Plan, within, startRanges, longEnough, crashRange, delayRange, crashOrder, delayOrder, fewDelays, planTest}
+use Rattle.plans.specs.Plan.{Crash, Delay, Plan, within, startRanges, crashRange, delayRange, crashOrder, delayOrder, fewDelays, planTest}
 use Rattle.plans.specs.Plan.{withCrashed, startPlan, ringRange, withRing, withCrash, withDelay}
 use Rattle.runfile.specs.File.{ring, ringOf, next, orElse, startLine, fresh, ringLine, early, crashLine, delayLine, laterLine}
 use Rattle.runfile.specs.Reader.{sofarOf, Kept, lineAnswer, follows, crashFloor, delayFloor, numbersThere, numbersAt, ringRefusal}
@@ -87,21 +87,12 @@ module _ (n h w d end : ℕ) where
         and-intro (inside n 1 64 n' rn) (and-intro (inside h 1 1000 h' rh)
         (and-intro (inside w 1 65535 w' rw') (and-intro (inside d 1 255 d' rd) (inside end 0 1000000 end' re))))
 
-    pub start-short : w' < h' + d' → Stop 4 ≡ lineAnswer (startLine (startPlan n h w d end))
-    unfolding startLine orElse lineAnswer longEnough startPlan
-    start-short k =
-        let short : w < h + d = omega (arith, range-bound h 1 1000 h' rh .0, range-bound w 1 65535 w' rw' .0, range-bound d 1 255 d' rd .0) in
-        rw (start-inside, lt-leb (h + d) w short)
-
-    pub start-next : h' + d' ≤ w'
-        → Next (record { n = n'; h = h'; w = w'; d = d'; end = end'; ring = 0; crashes = 0; delays = 0; tick = 0; node = 0; seen = 0; number = 0 })
+    pub start-next : Next (record { n = n'; h = h'; w = w'; d = d'; end = end'; ring = 0; crashes = 0; delays = 0; tick = 0; node = 0; seen = 0; number = 0 })
         ≡ lineAnswer (startLine (startPlan n h w d end))
-    unfolding startLine orElse lineAnswer longEnough startPlan sofarOf crashFloor delayFloor withCrashed listingAll
-    start-next k =
-        let long : h + d ≤ w = omega (arith, range-bound h 1 1000 h' rh .0, range-bound w 1 65535 w' rw' .0, range-bound d 1 255 d' rd .0) in
+    unfolding startLine orElse lineAnswer startPlan sofarOf crashFloor delayFloor withCrashed listingAll
+    start-next =
         rw (
           start-inside,
-          le-leb (h + d) w long,
           ← range-bound n 1 64 n' rn .0,
           ← range-bound h 1 1000 h' rh .0,
           ← range-bound w 1 65535 w' rw' .0,

@@ -1,6 +1,6 @@
 -- What a run file comes to: the plan that it holds, or the number and line of its refusal. Document 01's 'Run file and log' and the
--- numbers 1 to 6 of 'Where a call is turned down': 'Places are tried downwards; lines one after another, the first bad line deciding';
--- document 02's #101 for the line Q and number 13. Assumes nothing.
+-- numbers 1 to 6 of 'Where a call is turned down': 'Places are tried downwards; lines one after another, the first bad line deciding'; document
+-- 02's #101 for the line Q and number 13, and its #109, by which 4 'is given no longer'. Assumes nothing.
 use mathlib.Core.Bool.{Bool, cond, _&&_}
 use mathlib.Core.List.{List, [], _∷_}
 use mathlib.Core.Option.{Option, none, some}
@@ -8,12 +8,12 @@ use Prim.Native.Nat.{ℕ, zero, suc}
 use lib.Dec.{eqb}
 use lib.ListN.{length}
 use Rattle.limits.specs.Limits.{mostBytes}
-use Rattle.limits.specs.Refusals.{badLength, badForm, outOfRange, shortTimeOut, notRising, manyDelays, notEachOnce}
+use Rattle.limits.specs.Refusals.{badLength, badForm, outOfRange, notRising, manyDelays, notEachOnce}
 use Rattle.ring.specs.Ring.{eachOnce}
 use Rattle.text.specs.declared.Number.{Number}
 use Rattle.text.specs.declared.Number.the-variants.{Value, NoNumber}
 use Rattle.text.specs.Field.{lineFeed, onto, ends, numberFieldAt}
-use Rattle.plans.specs.Plan.{Crash, Delay, Plan, startPlan, withCrash, withDelay, within, startRanges, longEnough, crashRange, delayRange, crashOrder}
+use Rattle.plans.specs.Plan.{Crash, Delay, Plan, startPlan, withCrash, withDelay, within, startRanges, crashRange, delayRange, crashOrder}
 use Rattle.plans.specs.Plan.{delayOrder, fewDelays, withRing, ringRange}
 use Rattle.runfile.specs.Text.{letterP, letterQ, letterC, letterL}
 
@@ -98,9 +98,9 @@ pub data Step : Type 0 where
 unfoldable pub orElse : Bool → ℕ → Step → Step
 orElse passed number step = cond passed step (stop number)
 
--- a P line: out of range, then W below H + D
+-- a P line: out of range. 'A file with W below H + D .. now runs by the same rules'
 unfoldable pub startLine : Plan → Step
-startLine p = orElse (startRanges p) outOfRange (orElse (longEnough p) shortTimeOut (next p))
+startLine p = orElse (startRanges p) outOfRange (next p)
 
 -- no Q, C or L line came yet: 'order of letters'
 unfoldable pub fresh : Plan → Bool

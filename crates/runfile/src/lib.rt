@@ -14,7 +14,6 @@ use limits::MOST_W;
 use limits::NOT_EACH_ONCE;
 use limits::NOT_RISING;
 use limits::OUT_OF_RANGE;
-use limits::SHORT_TIME_OUT;
 use text::Number;
 use text::Ranged;
 ghost use mathlib.Core.Path.{_≡_};
@@ -94,9 +93,6 @@ fn take_start(n: u64, h: u64, w: u64, d: u64, end: u64) -> Line
     let Ranged::Within(end) = text::in_range(end, 0, MOST_TICK) else {
         return Line::Stop(OUT_OF_RANGE);
     };
-    if w < h + d {
-        return Line::Stop(SHORT_TIME_OUT);
-    }
     Line::Next(Sofar {
         n,
         h,

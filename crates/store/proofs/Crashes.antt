@@ -12,7 +12,6 @@ use Rattle.ring.specs.Ring.{listing}
 use Rattle.plans.specs.Plan.{Plan, Crash, planTest}
 use Rattle.model.specs.Platform.{crashedList}
 use Rattle.plans.specs.Plain.{noCrash, rowAt}
-use Rattle.model.specs.Range.{Accepted}
 use Rattle.store.specs.Store.{planIn}
 
 pub crashed-next : (p : Plan) (i : ℕ) → i < length (p .crashes) → crashedList p (i + 1) ≡ listing (crashedList p i) ((rowAt p i) .node)

@@ -3,7 +3,7 @@ use borrow.Author.Needs.{needs}
 use native.Mathlib.Omega.{arith}
 use mathlib.Core.Path.{sym, _∙_}
 use Rattle.text.proofs.FieldLaws.{range-bound}
-use Rattle.runfile.proofs.Steps.{start-n, start-h, start-w, start-d, start-end, start-short, start-next}
+use Rattle.runfile.proofs.Steps.{start-n, start-h, start-w, start-d, start-end, start-next}
 use Rattle.runfile.proofs.take_start.Statement.{statement}
 use Rattle.runfile.proofs.take_start.Tie as tie
 
@@ -25,37 +25,11 @@ returns-4 c = start-d _ _ _ _ _ (sym (c .before .before .in-range4 .ensures) ∙
 returns-5 : tie.Need-returns-5
 returns-5 c = start-end _ _ _ _ _ (sym (c .before .before .in-range5 .ensures) ∙ c .enum-told5 .given .1)
 
-add-if1 : tie.Need-add-if1
-add-if1 c =
-    let d = c .before .before .before .before .before in
-    let h = d .before .before .before .before .before .before .before .before in
-    omega (
-      arith,
-      range-bound _ 1 1000 _ (sym (h .before .before .in-range2 .ensures) ∙ h .h .given .1),
-      range-bound _ 1 255 _ (sym (d .before .before .in-range4 .ensures) ∙ d .d .given .1),
-    )
-
 returns-6 : tie.Need-returns-6
-returns-6 c =
-    let end = c .before .before in
-    let d = end .before .before .before .before in
-    let w = d .before .before .before .before in
-    let h = w .before .before .before .before in
-    let n = h .before .before .before .before in
-    start-short _ _ _ _ _ _ _ _ _ _
-    (sym (n .before .before .in-range .ensures) ∙ n .n .given .1)
-    (sym (h .before .before .in-range2 .ensures) ∙ h .h .given .1)
-    (sym (w .before .before .in-range3 .ensures) ∙ w .w .given .1)
-    (sym (d .before .before .in-range4 .ensures) ∙ d .d .given .1)
-    (sym (end .before .before .in-range5 .ensures) ∙ end .end .given .1)
-    (c .if1 .taken)
-
-returns-7 : tie.Need-returns-7
-returns-7 c = search (start-next, sym, _∙_, needs)
+returns-6 c = search (start-next, sym, _∙_, needs)
 
 pub take-start-spec : {M : Type 1} → statement M
 take-start-spec =
     tie.close (tie.spec (λ c κs. search needs) (λ c. search needs) enum-told returns (λ c κs. search needs) (λ c. search needs)
     (λ c. search needs) returns-2 (λ c κs. search needs) (λ c. search needs) (λ c. search needs) returns-3 (λ c κs. search needs)
-    (λ c. search needs) (λ c. search needs) returns-4 (λ c κs. search needs) (λ c. search needs) (λ c. search needs) returns-5 add-if1 returns-6
-    returns-7)
+    (λ c. search needs) (λ c. search needs) returns-4 (λ c κs. search needs) (λ c. search needs) (λ c. search needs) returns-5 returns-6)

@@ -1,22 +1,22 @@
 -- `course::look::is_due` meets its contract. Assumes nothing.
-use Rattle.event.proofs.Readiness.{acting-accepted, held-sized}
+use Rattle.event.proofs.Readiness.{acting-plain, held-sized}
 use Rattle.course.proofs.Looking.{due-dead, due-watch, due-beat, due-not}
 use native.Mathlib.Omega.{arith}
 use Rattle.course.proofs.look.is_due.Statement.{statement}
 use Rattle.course.proofs.look.is_due.Tie as tie
 
 cast-is-listed : tie.Need-cast-is-listed
-cast-is-listed c = let p = c .before .pre in omega (arith, p .1 .1 .1, acting-accepted _ (p .0) .plain .n≤)
+cast-is-listed c = let p = c .before .pre in omega (arith, p .1 .1 .1, acting-plain _ (p .0) .n≤)
 
 is-listed-requires : tie.Need-is-listed-requires
-is-listed-requires c κs = let p = c .before .pre in omega (arith, p .1 .1 .1, acting-accepted _ (p .0) .plain .n≤)
+is-listed-requires c κs = let p = c .before .pre in omega (arith, p .1 .1 .1, acting-plain _ (p .0) .n≤)
 
 returns : tie.Need-returns
 returns c =
     let at-is-listed = c .before in
     let start = at-is-listed .before .before in
     let p = start .pre in
-    due-dead _ (acting-accepted _ (p .0)) _ _ (p .1 .0) _ _ (at-is-listed .is-listed .ensures) _ (c .if1 .taken)
+    due-dead _ (acting-plain _ (p .0)) _ _ (p .1 .0) _ _ (at-is-listed .is-listed .ensures) _ (c .if1 .taken)
 
 node-at-requires : tie.Need-node-at-requires
 node-at-requires c κs =
@@ -26,7 +26,7 @@ node-at-requires c κs =
 add-if2 : tie.Need-add-if2
 add-if2 c =
     let p = c .before .before .before .before .pre in
-    omega (arith, p .1 .1 .0, acting-accepted _ (p .0) .plain .end≤)
+    omega (arith, p .1 .1 .0, acting-plain _ (p .0) .end≤)
 
 returns-2 : tie.Need-returns-2
 returns-2 c =
@@ -36,13 +36,13 @@ returns-2 c =
     let start = at-is-listed .before .before in
     let p = start .pre in
     let listed = at-is-listed .is-listed .ensures in
-    due-watch _ (acting-accepted _ (p .0)) _ _ (p .1 .0) _ _ listed _ (at-if1 .if1 .left) _ (at-node-at .node-at .ensures)
+    due-watch _ (acting-plain _ (p .0)) _ _ (p .1 .0) _ _ listed _ (at-if1 .if1 .left) _ (at-node-at .node-at .ensures)
     (c .if2 .taken)
 
 add-if3 : tie.Need-add-if3
 add-if3 c =
     let p = c .before .before .before .before .before .before .pre in
-    omega (arith, p .1 .1 .0, acting-accepted _ (p .0) .plain .end≤)
+    omega (arith, p .1 .1 .0, acting-plain _ (p .0) .end≤)
 
 returns-3 : tie.Need-returns-3
 returns-3 c =
@@ -51,7 +51,7 @@ returns-3 c =
     let at-is-listed = at-if1 .before in
     let start = at-is-listed .before .before in
     let p = start .pre in
-    due-beat _ (acting-accepted _ (p .0)) _ _ (p .1 .0) _ _ (at-is-listed .is-listed .ensures) _ (at-if1 .if1 .left) _ (at-node-at .node-at .ensures)
+    due-beat _ (acting-plain _ (p .0)) _ _ (p .1 .0) _ _ (at-is-listed .is-listed .ensures) _ (at-if1 .if1 .left) _ (at-node-at .node-at .ensures)
     (c .if3 .taken)
 
 returns-4 : tie.Need-returns-4
@@ -62,7 +62,7 @@ returns-4 c =
     let at-is-listed = at-if1 .before in
     let start = at-is-listed .before .before in
     let p = start .pre in
-    due-not _ (acting-accepted _ (p .0)) _ _ (p .1 .0) _ _ (at-is-listed .is-listed .ensures) _ (at-if1 .if1 .left) _ (at-node-at .node-at .ensures)
+    due-not _ (acting-plain _ (p .0)) _ _ (p .1 .0) _ _ (at-is-listed .is-listed .ensures) _ (at-if1 .if1 .left) _ (at-node-at .node-at .ensures)
     (at-if2 .if2 .left) (c .if3 .left)
 
 pub is-due-spec : {M : Type 1} → statement M

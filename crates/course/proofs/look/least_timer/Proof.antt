@@ -2,7 +2,7 @@
 use Prim.Native.Nat.{_-_, _≤_}
 use mathlib.Core.Path.{_≡_}
 use Rattle.store.specs.Store.{planIn, stateIn}
-use Rattle.event.proofs.Readiness.{acting-accepted}
+use Rattle.event.proofs.Readiness.{acting-plain}
 use Rattle.course.specs.Look.{Under}
 use Rattle.course.proofs.Looking.{under-starts, under-turn, under-all}
 use borrow.Author.Needs.{needs}
@@ -23,7 +23,7 @@ end-tick-requires : tie.Need-end-tick-requires Inv-loop μ-loop
 end-tick-requires c κs = c .before .before .pre .0 .held .size
 
 add-least : tie.Need-add-least Inv-loop μ-loop
-add-least c = omega (arith, c .end-tick .ensures, acting-accepted _ (c .before .before .before .pre .0) .plain .end≤)
+add-least c = omega (arith, c .end-tick .ensures, acting-plain _ (c .before .before .before .pre .0) .end≤)
 
 loop-holds : tie.Need-loop-holds Inv-loop μ-loop
 loop-holds c =

@@ -1,5 +1,5 @@
 -- `course::look::sooner_of` meets its contract. Assumes nothing.
-use Rattle.event.proofs.Readiness.{acting-accepted, held-sized}
+use Rattle.event.proofs.Readiness.{acting-plain, held-sized}
 use Rattle.course.proofs.Looking.{sooner-dead, sooner-live}
 use native.Mathlib.Omega.{arith}
 use borrow.Author.Needs.{needs}
@@ -7,17 +7,17 @@ use Rattle.course.proofs.look.sooner_of.Statement.{statement}
 use Rattle.course.proofs.look.sooner_of.Tie as tie
 
 cast-is-listed : tie.Need-cast-is-listed
-cast-is-listed c = let p = c .before .pre in omega (arith, p .1 .1, acting-accepted _ (p .0) .plain .n≤)
+cast-is-listed c = let p = c .before .pre in omega (arith, p .1 .1, acting-plain _ (p .0) .n≤)
 
 is-listed-requires : tie.Need-is-listed-requires
-is-listed-requires c κs = let p = c .before .pre in omega (arith, p .1 .1, acting-accepted _ (p .0) .plain .n≤)
+is-listed-requires c κs = let p = c .before .pre in omega (arith, p .1 .1, acting-plain _ (p .0) .n≤)
 
 returns : tie.Need-returns
 returns c =
     let at-is-listed = c .before in
     let start = at-is-listed .before .before in
     let p = start .pre in
-    sooner-dead _ (acting-accepted _ (p .0)) _ _ (p .1 .0) _ _ (at-is-listed .is-listed .ensures) _ (c .if1 .taken)
+    sooner-dead _ (acting-plain _ (p .0)) _ _ (p .1 .0) _ _ (at-is-listed .is-listed .ensures) _ (c .if1 .taken)
 
 node-at-requires : tie.Need-node-at-requires
 node-at-requires c κs =
@@ -32,7 +32,7 @@ returns-2 c =
     let at-is-listed = at-if1 .before in
     let start = at-is-listed .before .before in
     let p = start .pre in
-    sooner-live _ (acting-accepted _ (p .0)) _ _ (p .1 .0) _ _ (at-is-listed .is-listed .ensures) _ (at-if1 .if1 .left) _ (at-node-at .node-at .ensures) _ _
+    sooner-live _ (acting-plain _ (p .0)) _ _ (p .1 .0) _ _ (at-is-listed .is-listed .ensures) _ (at-if1 .if1 .left) _ (at-node-at .node-at .ensures) _ _
     (at-earlier-timer .earlier-timer .ensures) (c .earlier-timer2 .ensures)
 
 pub sooner-of-spec : {M : Type 1} → statement M

@@ -1,7 +1,7 @@
 -- `course::steps::step` meets its contract. Assumes nothing.
 use mathlib.Core.Path.{ap}
 use Rattle.plans.specs.Plan.{Plan}
-use Rattle.event.proofs.Readiness.{ready-accepted}
+use Rattle.event.proofs.Readiness.{ready-plain}
 use Rattle.course.proofs.Parting.{apart-held, apart-plan, apart-acting}
 use Rattle.course.proofs.Choosing.{looked, chosen-quiet, chosen-ended, chosen-crash, chosen-message}
 use native.Mathlib.Omega.{arith}
@@ -24,7 +24,7 @@ add-message-tick c =
     let p = start .pre in
     let k = p .underway in
     let e = ap (λ (z : Plan). z .end) (apart-plan (k .apart)) in
-    omega (arith, at-end-tick .end-tick .ensures, e, ready-accepted (p .whole) (k .ready) .plain .end≤)
+    omega (arith, at-end-tick .end-tick .ensures, e, ready-plain (p .whole) (k .ready) .end≤)
 
 message-tick-requires : tie.Need-message-tick-requires
 message-tick-requires c κs =

@@ -1,5 +1,5 @@
 -- `course::steps::timers` meets its contract. Assumes nothing.
-use Rattle.event.proofs.Readiness.{held-sized, ready-accepted}
+use Rattle.event.proofs.Readiness.{held-sized, ready-plain}
 use Rattle.course.proofs.Parting.{apart-held, apart-plan, apart-acting}
 use Rattle.course.proofs.Looking.{passed-less, apart-dead, apart-timers}
 use Rattle.course.proofs.Choosing.{timer-found, found-a-watch, found-a-beat, timer-acts, timer-steps, chosen-later}
@@ -54,7 +54,7 @@ add-if2 : tie.Need-add-if2
 add-if2 c =
     let start = c .before .before .before .before .before .before .before .before .before in
     let p = start .pre in
-    omega (arith, p .quiet .tick, ready-accepted (p .whole) (p .underway .ready) .plain .end≤)
+    omega (arith, p .quiet .tick, ready-plain (p .whole) (p .underway .ready) .end≤)
 
 do-watch-requires : tie.Need-do-watch-requires
 do-watch-requires c κs =

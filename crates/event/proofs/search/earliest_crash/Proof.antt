@@ -2,7 +2,7 @@
 use mathlib.Core.Path.{sym}
 use native.Mathlib.Numerals.{add-one}
 use Rattle.store.specs.Store.{planIn, stateIn}
-use Rattle.event.proofs.Readiness.{acting-accepted, held-sized}
+use Rattle.event.proofs.Readiness.{acting-plain, held-sized}
 use Rattle.event.proofs.Searching.{crashes-over, crash-first}
 use native.Mathlib.Omega.{arith}
 use Rattle.event.proofs.search.earliest_crash.Statement.{statement}
@@ -18,7 +18,7 @@ end-tick-requires : tie.Need-end-tick-requires
 end-tick-requires c κs = c .before .before .before .before .pre .held .size
 
 add-result : tie.Need-add-result
-add-result c = omega (arith, c .end-tick .ensures, acting-accepted _ (c .before .before .before .before .before .pre) .plain .end≤)
+add-result c = omega (arith, c .end-tick .ensures, acting-plain _ (c .before .before .before .before .before .pre) .end≤)
 
 returns : tie.Need-returns
 returns c =
@@ -42,7 +42,7 @@ returns-2 c =
     let at-crashes-done = at-crash-count .before in
     let start = at-crashes-done .before .before in
     let e = at-crashes-done .crashes-done .ensures in
-    rw (c .crash-at .ensures, e) (sym (crash-first (planIn (start .args .s .now)) (acting-accepted _ (start .pre) .plain) (stateIn (start .args .s .now))
+    rw (c .crash-at .ensures, e) (sym (crash-first (planIn (start .args .s .now)) (acting-plain _ (start .pre)) (stateIn (start .args .s .now))
     (omega (arith, at-if1 .if1 .left, at-crash-count .crash-count .ensures, e))))
 
 pub earliest-crash-spec : {M : Type 1} → statement M

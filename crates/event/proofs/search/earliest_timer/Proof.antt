@@ -6,7 +6,7 @@ use lib.ListN.{length, drop}
 use Rattle.model.specs.Platform.{timerEntries}
 use Rattle.store.specs.Store.{planIn, stateIn}
 use Rattle.event.specs.Search.{leastTick}
-use Rattle.event.proofs.Readiness.{held-sized, ready-accepted}
+use Rattle.event.proofs.Readiness.{held-sized, ready-plain}
 use Rattle.event.proofs.Searching.{live-next, dead-next, nodes-over, test-live, test-dead}
 use borrow.Author.Needs.{needs}
 use native.Mathlib.Omega.{arith}
@@ -31,7 +31,7 @@ cast-is-listed : tie.Need-cast-is-listed Inv-loop μ-loop
 cast-is-listed c =
     let turn = c .before in
     let start = turn .before .before .before in
-    omega (arith, c .loop-test .taken, turn .loop .inv .0, ready-accepted _ (start .pre .0) .plain .n≤)
+    omega (arith, c .loop-test .taken, turn .loop .inv .0, ready-plain _ (start .pre .0) .n≤)
 
 node-at-requires : tie.Need-node-at-requires Inv-loop μ-loop
 node-at-requires c κs =
@@ -52,9 +52,9 @@ loop-again c =
     let h : l .x < length (z .nodes) = rw (start .pre .0 .held .fits .nodes) (omega (arith, test .loop-test .taken, l .inv .0)) in (
       l .inv .0,
       search needs,
-      l .inv .2 ∙ ⊎-elim (λ w. live-next p (ready-accepted _ (start .pre .0)) (z .done) (z .nodes) (l .x) (l .least) _ h
+      l .inv .2 ∙ ⊎-elim (λ w. live-next p (ready-plain _ (start .pre .0)) (z .done) (z .nodes) (l .x) (l .least) _ h
           (w .1 .ensures) (test-live p (z .done) (start .args .dead) (l .x) _ (at-is-listed .is-listed .ensures) (start .pre .1) (w .0 .taken))
-          ∙ rw (w .4, w .3 .ensures, w .2 .ensures)) (λ w. dead-next p (ready-accepted _ (start .pre .0)) (z .done) (z .nodes) (l .x) (l .least) h
+          ∙ rw (w .4, w .3 .ensures, w .2 .ensures)) (λ w. dead-next p (ready-plain _ (start .pre .0)) (z .done) (z .nodes) (l .x) (l .least) h
           (test-dead p (z .done) (start .args .dead) (l .x) _ (at-is-listed .is-listed .ensures) (start .pre .1) (w .0 .left)) ∙ rw (w .1)) (c .if1 .came),
     )
 
@@ -62,7 +62,7 @@ returns : tie.Need-returns Inv-loop μ-loop
 returns c =
     let turn = c .before in
     let start = turn .before .before .before in
-    sym (turn .loop .inv .2 ∙ nodes-over (planIn (start .args .s .now)) (ready-accepted _ (start .pre .0)) (stateIn (start .args .s .now) .done)
+    sym (turn .loop .inv .2 ∙ nodes-over (planIn (start .args .s .now)) (ready-plain _ (start .pre .0)) (stateIn (start .args .s .now) .done)
     (stateIn (start .args .s .now) .nodes) (turn .loop .x) (turn .loop .least)
     (rw (start .pre .0 .held .fits .nodes) (omega (arith, c .loop-test .left, turn .loop .inv .0))))
 

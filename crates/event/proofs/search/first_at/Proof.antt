@@ -9,7 +9,7 @@ use Rattle.model.specs.Platform.{crashEntries, messageEntries, timerEntries, pe
 use Rattle.store.specs.Store.{planIn, stateIn}
 use Rattle.event.specs.Event.{nextOf, nextAt}
 use Rattle.event.specs.Search.{firstAt}
-use Rattle.event.proofs.Readiness.{held-sized, ready-accepted}
+use Rattle.event.proofs.Readiness.{held-sized, ready-plain}
 use Rattle.event.proofs.Searching.{crash-hit, crash-skip, crash-end, message-hit, message-skip, message-end, watch-hit, beat-hit, live-skip}
 use Rattle.event.proofs.Searching.{dead-skip, nodes-end, test-live, test-dead}
 use borrow.Author.Needs.{needs}
@@ -190,7 +190,7 @@ cast-is-listed :
 cast-is-listed c =
     let at-loop3 = c .before in
     let start = at-loop3 .before .before .before .before .before .before .before .before .before .before .before in
-    omega (arith, c .loop3-test .taken, at-loop3 .loop3 .inv .0, ready-accepted _ (start .pre .0) .plain .n≤)
+    omega (arith, c .loop3-test .taken, at-loop3 .loop3 .inv .0, ready-plain _ (start .pre .0) .n≤)
 
 is-listed-requires :
     tie.Need-is-listed-requires
@@ -216,13 +216,13 @@ add-if4 : tie.Need-add-if4 Inv-loop μ-loop Inv-loop2 μ-loop2 Inv-loop3 μ-loop
 add-if4 c =
     let up = c .before .before .before .before .before .before .before .before .before .before .before .before in
     let start = up .before .before .before in
-    omega (arith, start .pre .1 .1, ready-accepted _ (start .pre .0) .plain .end≤)
+    omega (arith, start .pre .1 .1, ready-plain _ (start .pre .0) .end≤)
 
 add-if5 : tie.Need-add-if5 Inv-loop μ-loop Inv-loop2 μ-loop2 Inv-loop3 μ-loop3 Inv-found μ-found
 add-if5 c =
     let up = c .before .before .before .before .before .before .before .before .before .before .before .before in
     let start = up .before .before .before .before .before in
-    omega (arith, start .pre .1 .1, ready-accepted _ (start .pre .0) .plain .end≤)
+    omega (arith, start .pre .1 .1, ready-plain _ (start .pre .0) .end≤)
 
 loop3-less :
     tie.Need-loop3-less Inv-loop μ-loop Inv-loop2 μ-loop2 Inv-loop3 μ-loop3 Inv-found μ-found
@@ -241,9 +241,9 @@ loop3-again c =
     let h : at-loop3 .loop3 .x < length (z .nodes) =
     rw (start .pre .0 .held .fits .nodes) (omega (arith, test .loop3-test .taken, at-loop3 .loop3 .inv .0)) in (
       l .inv .0,
-      l .inv .1 ∙ ⊎-elim (λ w. live-skip p (ready-accepted _ (start .pre .0)) (z .done) (z .nodes) (start .args .t) (l .x) _ h (w .1 .ensures)
+      l .inv .1 ∙ ⊎-elim (λ w. live-skip p (ready-plain _ (start .pre .0)) (z .done) (z .nodes) (start .args .t) (l .x) _ h (w .1 .ensures)
           (test-live p (z .done) (start .args .dead) (l .x) _ (at-is-listed .is-listed .ensures) (start .pre .1 .0) (w .0 .taken)) (w .3 .left) (w .5 .left))
-          (λ w. dead-skip p (ready-accepted _ (start .pre .0)) (z .done) (z .nodes) (start .args .t) (l .x) h
+          (λ w. dead-skip p (ready-plain _ (start .pre .0)) (z .done) (z .nodes) (start .args .t) (l .x) h
           (test-dead p (z .done) (start .args .dead) (l .x) _ (at-is-listed .is-listed .ensures) (start .pre .1 .0) (w .left))) (c .if3 .came),
     )
 
@@ -289,7 +289,7 @@ returns-3 c =
     let z = stateIn (start .args .s .now) in
     let l = at-loop3 .loop3 in
     let h : at-loop3 .loop3 .x < length (z .nodes) = rw (start .pre .0 .held .fits .nodes) (omega (arith, test .loop3-test .taken, at-loop3 .loop3 .inv .0)) in
-    sym (ap nextOf (l .inv .1 ∙ watch-hit p (ready-accepted _ (start .pre .0)) (z .done) (z .nodes) (start .args .t) (l .x) _ h (at-node-at .node-at .ensures)
+    sym (ap nextOf (l .inv .1 ∙ watch-hit p (ready-plain _ (start .pre .0)) (z .done) (z .nodes) (start .args .t) (l .x) _ h (at-node-at .node-at .ensures)
     (test-live p (z .done) (start .args .dead) (l .x) _ (at-is-listed .is-listed .ensures) (start .pre .1 .0) (at-if3 .if3 .taken)) (c .if4 .taken)))
 
 returns-4 :
@@ -307,7 +307,7 @@ returns-4 c =
     let z = stateIn (start .args .s .now) in
     let l = at-loop3 .loop3 in
     let h : at-loop3 .loop3 .x < length (z .nodes) = rw (start .pre .0 .held .fits .nodes) (omega (arith, test .loop3-test .taken, at-loop3 .loop3 .inv .0)) in
-    sym (ap nextOf (l .inv .1 ∙ beat-hit p (ready-accepted _ (start .pre .0)) (z .done) (z .nodes) (start .args .t) (l .x) _ h (at-node-at .node-at .ensures)
+    sym (ap nextOf (l .inv .1 ∙ beat-hit p (ready-plain _ (start .pre .0)) (z .done) (z .nodes) (start .args .t) (l .x) _ h (at-node-at .node-at .ensures)
     (test-live p (z .done) (start .args .dead) (l .x) _ (at-is-listed .is-listed .ensures) (start .pre .1 .0) (at-if3 .if3 .taken)) (at-if4 .if4 .left)
     (c .if5 .taken)))
 
@@ -320,7 +320,7 @@ returns-5 c =
     let p = planIn (start .args .s .now) in
     let z = stateIn (start .args .s .now) in
     let l = at-loop3 .loop3 in
-    sym (ap nextOf (l .inv .1 ∙ nodes-end p (ready-accepted _ (start .pre .0)) (z .done) (z .nodes) (start .args .t) (l .x)
+    sym (ap nextOf (l .inv .1 ∙ nodes-end p (ready-plain _ (start .pre .0)) (z .done) (z .nodes) (start .args .t) (l .x)
     (rw (start .pre .0 .held .fits .nodes) (omega (arith, c .loop3-test .left, l .inv .0)))))
 
 pub first-at-spec : {M : Type 1} → statement M

@@ -1,5 +1,5 @@
 -- `lent::state::node_in_range` meets its contract. Assumes nothing.
-use Rattle.model.proofs.Plans.{plan-accepted}
+use Rattle.plans.proofs.Facts.{plan-plain}
 use mathlib.Core.Path.{_∙_}
 use Rattle.store.specs.Store.{planIn, stateIn}
 use Rattle.fields.proofs.Answers.{fails, holds}
@@ -14,7 +14,7 @@ returns c =
     let after-node-at = after-node-fits .before in
     let start = after-node-at .before .before in
     rw (← after-node-at .node-at .ensures)
-    (node-out (planIn (start .args .s .now)) (plan-accepted _ (start .pre .0 .plan)) (stateIn (start .args .s .now) .done) (start .args .t) (start .args .x) _
+    (node-out (planIn (start .args .s .now)) (plan-plain _ (start .pre .0 .plan)) (stateIn (start .args .s .now) .done) (start .args .t) (start .args .x) _
     (fails (after-node-fits .node-fits .ensures) (c .if1 .taken)))
 
 returns-2 : tie.Need-returns-2
@@ -25,7 +25,7 @@ returns-2 c =
     let after-node-at = after-node-fits .before in
     let start = after-node-at .before .before in
     rw (← after-node-at .node-at .ensures)
-    (node-crashed (planIn (start .args .s .now)) (plan-accepted _ (start .pre .0 .plan)) (stateIn (start .args .s .now) .done)
+    (node-crashed (planIn (start .args .s .now)) (plan-plain _ (start .pre .0 .plan)) (stateIn (start .args .s .now) .done)
     (start .args .t) (start .args .x) _
     (holds (after-node-fits .node-fits .ensures) (at-if1 .if1 .left)) _ (start .pre .1 .0) _ (after-is-listed .is-listed .ensures) (c .if2 .taken))
 
@@ -39,7 +39,7 @@ returns-3 c =
     let start = after-node-at .before .before in
     rw (← after-node-at .node-at .ensures)
     (c .live-fits .ensures
-    ∙ node-live (planIn (start .args .s .now)) (plan-accepted _ (start .pre .0 .plan)) (stateIn (start .args .s .now) .done) (start .args .t)
+    ∙ node-live (planIn (start .args .s .now)) (plan-plain _ (start .pre .0 .plan)) (stateIn (start .args .s .now) .done) (start .args .t)
     (start .args .x) _ (holds (after-node-fits .node-fits .ensures) (at-if1 .if1 .left)) _ (start .pre .1 .0) _ (after-is-listed .is-listed .ensures)
     (at-if2 .if2 .left))
 

@@ -1,7 +1,7 @@
 -- `store::plan::crashed_list` meets its contract. The loop's invariant: the list has the nodes of the rows before i. Assumes nothing.
 use Rattle.ring.specs.Ring.{listingAll}
 use Rattle.plans.specs.Plan.{withCrashed}
-use Rattle.model.proofs.Plans.{plan-accepted}
+use Rattle.plans.proofs.Facts.{plan-plain}
 use Prim.Native.Nat.{_-_, _≤_}
 use mathlib.Core.Path.{_≡_, refl, sym, ap, _∙_}
 use Rattle.model.specs.Platform.{crashedList}
@@ -26,7 +26,7 @@ with-listed-requires : tie.Need-with-listed-requires Inv-loop μ-loop
 with-listed-requires c κs =
     let turn = c .before .before in
     let start = turn .before .before .before in
-    let p = plan-accepted _ (start .pre .1 .0) .plain in
+    let p = plan-plain _ (start .pre .1 .0) in
     rw (c .crash-at .ensures) (omega (arith, p .n≤, p .node (turn .loop .i) (omega arith)))
 
 loop-again : tie.Need-loop-again Inv-loop μ-loop
