@@ -1,7 +1,8 @@
 #!/bin/sh
-# Tests the calls of a rehearsal in C through the static library: tests/planner.c calls all five, and the planner's program of
-# include/ is compiled from the header alone. What it writes is compared with fixed tables, and with those that tests/planner.py
-# computes from the rehearsal program's logs. Stops at the first failure.
+# Tests the calls of a rehearsal in C through the static library: tests/planner.c calls all five, tests/log_loop.c runs the loop
+# of the header that writes a log, and the planner's program of include/ is compiled from the header alone. What it writes is
+# compared with fixed tables, and with those that tests/planner.py computes from the rehearsal program's logs. Stops at the
+# first failure.
 #
 # Usage: tests/planner.sh [SEED [COUNT]]
 
@@ -335,10 +336,32 @@ wrong_use() {
     [ ! -e /dev/full ] || ! printf 'P,3,2,2,1,8\n' | "$planner" > /dev/full || fail 'output that fails is passed over'
 }
 
+# same_log: the header's loop writes the rehearsal program's log of the run file on standard input.
+same_log() {
+    cat > "$out/log-loop.run"
+    "$rehearse" < "$out/log-loop.run" > "$out/log-loop-expected"
+    timeout 60 "$out/log-loop" < "$out/log-loop.run" > "$out/log-loop-written" || fail "the header's loop does not end"
+    cmp "$out/log-loop-expected" "$out/log-loop-written"
+}
+
+# Logs that end in E, in F and in 8,0, and a refused file: the loop ends with each.
+header_loop() {
+    sed -n '/^ \*     uint8_t store\[KELBRAUT_STORE\]/,/^ \*$/s/^ \*//p' include/kelbraut.h > "$out/log_loop.inc"
+    c "$out/log-loop" -I"$out" tests/log_loop.c "$library"
+    for file in tests/worked.run docs/rehearsal.run docs/short.run; do
+        same_log < "$file"
+    done
+    tail -n 1 "$out/log-loop-written" | grep -q '^F,34,4,1,' || fail 'the log of docs/short.run does not end in F'
+    echo P,48,100,119,20,300 | same_log
+    [ "$(tail -n 1 "$out/log-loop-written")" = 8,0 ] || fail 'no event of 48 nodes with a short time-out is refused'
+    echo P,65,1,2,1,5 | same_log
+}
+
 rehearsal_program
 library planner
 c "$out/planner-calls" tests/planner.c "$library"
 "$out/planner-calls"
+header_loop
 c "$planner" include/planner.c "$library"
 tables
 short_time_outs
