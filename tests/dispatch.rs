@@ -583,9 +583,11 @@ fn summary(seen: &Seen, count: u64) -> Result<(), String> {
     println!("dispatch: {finished:?} stores finished; {waited} waited seven turns; {passed_bound} passed the bound of message numbers");
     let [only_long, only_short, both] = timeouts;
     let [short_turns, short_stopped, short_finished] = short;
-    println!("dispatch: parts whose stores all have W at least H + D {only_long}, all less {only_short}, both {both}; steps that answer E and F {ends:?}");
+    println!("dispatch: accepted with W at least H + D in all stores {only_long}, in none {only_short}, in some {both}");
     println!("dispatch: {short_turns} turns of stores with W below H + D, {short_stopped} of these stopped, {short_finished} finished");
-    if count >= COUNT && (*both < count || *short_turns < 10 * count || [*only_short, *short_stopped, *short_finished, ends[1]].iter().any(|met| *met < count / 10)) {
+    println!("dispatch: steps of single stores that answer the last line, E and F: {ends:?}");
+    let hardly = [*only_short, *short_stopped, *short_finished, ends[1]].iter().any(|met| *met < count / 10);
+    if count >= COUNT && (*both < count || *short_turns < 10 * count || hardly) {
         return Err("too few stores with W below H + D came up".to_string());
     }
     let kinds: [&[u64]; 12] = [

@@ -219,7 +219,8 @@ fn bad_store(part: &[u8], turns: u64) -> bool {
             || is_made(DamagedSkipped))
     };
     let odd = part.len() % STORE_BYTES > 0 && !is_made(EndOfPartNotLookedAt) || part.is_empty() && is_made(EmptyGetsSeven);
-    odd || is_made(SevenForBoth) && has_both(part) || part.chunks_exact(STORE_BYTES).enumerate().any(|(index, bytes)| tested(index, bytes) && out_of_range(bytes))
+    let mixed = is_made(SevenForBoth) && has_both(part);
+    odd || mixed || part.chunks_exact(STORE_BYTES).enumerate().any(|(index, bytes)| tested(index, bytes) && out_of_range(bytes))
 }
 
 /// The number of the refusal before any turn, 0 where there is none.

@@ -24,12 +24,12 @@ prints() {
     cmp "$1.expected" "$1.out"
 }
 
-# mistake WORDS EDIT: two parts of tests/readers.c each find the mistake that this edit by sed puts into the header.
+# mistake WORDS EDIT [PARTS]: these parts of tests/readers.c, by default two, each find the mistake that this edit by sed puts into the header.
 mistake() {
     sed "$2" include/kelbraut.h > "$mistaken/kelbraut.h"
     ! cmp -s include/kelbraut.h "$mistaken/kelbraut.h" || fail "$1: the edit changes nothing"
     c99 "$mistaken/readers" -I"$mistaken" tests/readers.c
-    for part in bytes calls; do
+    for part in ${3:-bytes calls}; do
         status=0
         "$mistaken/readers" "$seed" "$part" > "$mistaken/out" 2> "$mistaken/err" || status=$?
         [ "$status" -eq 1 ] && grep -q "^readers: $part, line" "$mistaken/err" || fail "$1: $part does not find it"
@@ -77,7 +77,10 @@ mistake 'the highest byte first' 's/bytes\[place + i\]/bytes[place + size - 1 - 
 mistake 'nodes passed ahead, not back' 's/left < taken ? left + nodes - taken : left - taken/left > taken ? taken + nodes - left : taken - left/'
 mistake 'the new emitter passed, too' 's/left + nodes - taken : left - taken/left + nodes - taken + 1 : left - taken + 1/'
 mistake 'its own number for N' 's/nodes = after\[1\]/nodes = after[0]/'
-echo 'host: 17 mistakes in the readers found'
+mistake 'F ends no run' 's/ || letter == KELBRAUT_END_SHORT;/;/' letters
+mistake 'E ends no run' 's/letter == KELBRAUT_END ||/0 ||/' letters
+mistake 'the low byte alone is a letter' 's/return letter == KELBRAUT_END ||/letter \&= 255; return letter == KELBRAUT_END ||/' letters
+echo 'host: 20 mistakes in the readers found'
 
 # Calls on different records may run in several threads: the library has no bytes of its own that a call could write.
 written=$(size "$library" | awk 'NR > 1 { bytes += $2 + $3 } END { print (NR > 1 ? bytes : "unknown") }')

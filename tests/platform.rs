@@ -712,7 +712,8 @@ fn full_flight_short(seen: &mut Seen) -> Result<(), String> {
     let lines = answers(seen, full, &[(all, ran(2_048, 0)), (Call::Step, done), (all, ran(0, 0)), (Call::Step, done)])?;
     same("the last line of a full flight", lines, last.repeat(2))?;
     let eight = refused(REFUSED_EVENT);
-    let calls = [(Call::Run { budget: 2_048 }, ran(2_048, 1)), (Call::Step, eight), (all, stopped(0)), (Call::Write, answer(0, &[over.len() as u64]))];
+    let written = answer(0, &[over.len() as u64]);
+    let calls = [(Call::Run { budget: 2_048 }, ran(2_048, 1)), (Call::Step, eight), (all, stopped(0)), (Call::Write, written)];
     answers(seen, over, &calls)?;
     answers(seen, over, &[(all, stopped(2_048)), (Call::Step, eight)]).map(|_| ())
 }
@@ -767,7 +768,7 @@ fn reported_emitters(seen: &mut Seen) -> Result<(), String> {
     logged(seen, include_str!("reported-nine.run"), include_str!("reported-nine.log"))
 }
 
-/// A report of the emitter leaves a node alone only on a lent store: here node 1, which lists 2 and observes 0.
+/// With W at least H + D a report of the emitter leaves a node alone only on a lent store: here node 1, which lists 2 and observes 0.
 fn alone_by_report(seen: &mut Seen) -> Result<(), String> {
     use layout::*;
     let mut bytes = reached(b"P,3,5,20,6,90\n", 0);
@@ -1171,7 +1172,8 @@ fn summary(seen: &Seen, count: u64) -> Result<(), String> {
     let [settled, joined, full] = owed;
     println!("platform: owed after calls on stores that a file led to, and so: {settled} settled rings, {joined} joined ones, {full} full lists");
     let Short { opened: short_opened, calls: short_calls, ends, reached, listing, written } = short;
-    println!("platform: with W below H + D {short_opened} stores opened, {short_calls} calls accepted, {written} files come back; last lines E and F {ends:?}");
+    println!("platform: with W below H + D {short_opened} stores opened, {short_calls} calls accepted, {written} files come back");
+    println!("platform: steps that answer the last line, E and F: {ends:?}");
     println!("platform: {reached} times such a store was looked at that a file led to, {listing} times with a live node in a list");
     println!("platform: {learnt} steps by which a node lists what a heartbeat names, {named} by which it relays a report of a listed node");
     if count > 0 && (*settled < count || *joined < 2 * count || *full < count) {

@@ -1,6 +1,7 @@
 /*
- * The readers of include/kelbraut.h, beside the bytes and the calls that they are about, in three parts:
+ * The readers of include/kelbraut.h, beside the bytes and the calls that they are about, in four parts:
  *
+ *     letters  which letters end a run: E and F, of all numbers that a step may answer, and none beyond
  *     bytes    every byte of a record and of a message, with every value, by docs/LAYOUTS.md; every move in every ring
  *     calls    records that random calls lead to: before the next due tick the timers do nothing, at it they do something;
  *              whom they send to and with which list, whose heartbeat counts, what it adds to the list, which reports are
@@ -44,6 +45,16 @@ static uint64_t mixed(uint64_t x) {
 static uint64_t below(uint64_t bound) {
     state += UINT64_C(0x9e3779b97f4a7c15);
     return mixed(state) % bound;
+}
+
+/* ---- letters */
+
+static void test_letters(void) {
+    CHECK(KELBRAUT_END == 'E' && KELBRAUT_END_SHORT == 'F');
+    for (uint64_t letter = 0; letter < 1024; letter++) {
+        CHECK(kelbraut_is_end(letter) == (letter == 'E' || letter == 'F'));
+        CHECK(!kelbraut_is_end(letter | UINT64_C(1) << 32) && !kelbraut_is_end(~letter));
+    }
 }
 
 /* ---- the bytes of docs/LAYOUTS.md */
@@ -535,7 +546,7 @@ int main(int count, char **words) {
     static const struct {
         const char *name;
         void (*test)(void);
-    } parts[] = {{"bytes", test_bytes}, {"calls", test_calls}, {"rings", test_rings}};
+    } parts[] = {{"letters", test_letters}, {"bytes", test_bytes}, {"calls", test_calls}, {"rings", test_rings}};
     if (count < 2) {
         fprintf(stderr, "usage: readers SEED [PART]\n");
         return 2;

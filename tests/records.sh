@@ -211,10 +211,10 @@ mistakes
 each_generated '' $((count / 5)) "$work" generated
 each_generated small "$count" "$work" generated
 moves=$("$out/simulate" moves tests/reported-*.run $(steady $(grep -La '^Q' "$work/$seed"-*.run)))
-[ "$moves" -ge $((count / 250)) ] || fail "$moves moves by report in the two files made for it and the small ones with W at least H + D, without a Q line"
+[ "$moves" -ge $((count / 250)) ] || fail "$moves moves by report in the two files made for it and the small ones with W at least H + D"
 more=$(grep -vcx 1 "$work/passed") || fail 'no node passed more than one'
 [ "$more" -ge $((count / 50)) ] || fail "$more lines K with more than one node passed"
-[ "$short" -ge $((count / 10)) ] && [ "$listing" -ge $((count / 15)) ] || fail "$short files with W below H + D, $listing of them list a live node"
+[ "$short" -ge $((count / 10)) ] && [ "$listing" -ge $((count / 15)) ] || fail "$short files with a short W, $listing of them list a live node"
 lines=$(counted)
 echo "records: $files files, $wide of them with 48 nodes or more, agree; $ordered with a Q line, $refused refused; 10 mistakes found"
 echo "records: $short files with W below H + D, in $listing of them records list a live node, after $listed calls, each accepted"

@@ -211,4 +211,5 @@ recounted 'small files with W at least H + D' $((count / 2)) $((count / 50)) $(s
 moves=$("$out/simulate" moves $(steady "$work/$seed"-*.run))
 [ "$moves" -ge $((count / 100)) ] || fail "$moves moves by report in the small files with W at least H + D"
 [ "$short" -ge $((count / 6)) ] || fail "$short logs end in F"
-echo "rehearse: $files files, $lines lines agree, $short of the logs end in F, $refused in 8,0; $moves moves by report in the small files with W at least H + D"
+echo "rehearse: $moves moves by report in the small files with W at least H + D"
+echo "rehearse: $files files, $lines lines agree; $short of the logs end in F, $refused in 8,0"

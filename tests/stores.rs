@@ -1,6 +1,6 @@
 //! Stores: those that a run file leads to; and some that none leads to, all of them in range: a plan with any fields of nodes and any
-//! messages that the ranges allow. Rules can be told apart on these that no run tells apart, as a watch renewed by a heartbeat from anyone,
-//! or a heartbeat that names its sender or its receiver.
+//! messages that the ranges allow, W at least H + D or less. Rules can be told apart on these that no run with W at least H + D tells apart, as
+//! a watch renewed by a heartbeat from anyone, or a heartbeat that names its sender or its receiver.
 #![allow(dead_code)]
 
 use simulator::layout;

@@ -106,8 +106,8 @@ impl Size {
     }
 
     /// A store of this size. From tick 1 on each node sends a heartbeat a tick; before tick 1 + D none is delivered, so that as many events
-    /// lead there as messages are in flight. They come to N × D, at most 2,048. The crashes are at the end tick; the L rows' delay is D. W is H + D,
-    /// of a lone node without a Q line a tick less.
+    /// lead there as messages are in flight. They come to N × D, at most 2,048. The crashes are at the end tick; the L rows' delay is D. W is
+    /// H + D, of a lone node without a Q line a tick less.
     fn store(&self) -> Vec<u8> {
         let [nodes, crashes, delays, messages] = [self.nodes, self.crashes, self.delays, self.messages].map(|count| count as u64);
         let (delay, end) = ((MAX_IN_FLIGHT as u64 / nodes).min(MAX_DELAY), 300);
