@@ -146,7 +146,8 @@ ran-down overfullRun n = refl
 -- ---- the platform's calls
 
 -- a P line by itself
-pub start-taken : (n h w d end : ℕ) → (1 ≤ n) × (n ≤ 64) → (1 ≤ h) × (h ≤ 1000) → (1 ≤ w) × (w ≤ 65535) → (1 ≤ d) × (d ≤ 255) → end ≤ 1000000
+pub start-taken : (n h w d end : ℕ) → (1 ≤ n) × (n ≤ 64) → (1 ≤ h) × (h ≤ 1000) → (1 ≤ w) × (w ≤ 65535) → (1 ≤ d) × (d ≤ 255)
+    → end ≤ 1000000
     → fileOf (planText (startPlan n h w d end)) ≡ acceptedFile (startPlan n h w d end)
 unfolding startPlan planTest startRanges between ringTest crashTest every crashOrder rising noneTwice eachOnce delayTest delayOrder fewDelays
 start-taken n h w d end hn hh hw hd he =

@@ -14,7 +14,7 @@ use Rattle.limits.specs.Limits.{logRoom, storeSize, fileRoom}
 use Rattle.text.specs.Put.{put}
 use Rattle.logline.specs.declared.Line.{Line}
 use Rattle.logline.specs.declared.Read.the-variants.{Accepted as Read}
-use Rattle.logline.specs.Line.{letterE, letterF, lineText, readOf}
+use Rattle.logline.specs.Line.{letterE, letterF, ranges, lineText, readOf}
 use Rattle.logline.proofs.LineTrip.{text-accepted}
 use Rattle.plans.specs.Plan.{Plan}
 use Rattle.runfile.specs.File.{accepted, fileOf}
@@ -161,6 +161,10 @@ pub last-letters : (p : Plan) (s : State)
     → (p .h + p .d ≤ p .w → lastLine p s .letter ≡ letterE) × (p .w < p .h + p .d → lastLine p s .letter ≡ letterF)
 unfolding lastLine
 last-letters p s = (letter-long p, letter-short p)
+
+pub last-ranges : ranges letterF ≡ ranges letterE
+unfolding ranges
+last-ranges = refl
 
 -- ---- what stands behind the pointers of accepted calls from C
 

@@ -108,8 +108,8 @@ module _ (p : Plan) (good : planTest p ≡ true) (s : State) (r : Sound p s) (t 
     abbrev delivery : ℕ → NodeCall
     delivery i = deliver ((messageAt s i) .kind) ((messageAt s i) .from) ((messageAt s i) .subject) ((messageAt s i) .list)
 
-    message-same : (i : ℕ) → Chosen p pl s t (message i)
-        → OfOthers s → alive p (s .done) ((messageAt s i) .to) ≡ true → decode b ≡ recordOf p ((messageAt s i) .to) last (nodeOf s ((messageAt s i) .to))
+    message-same : (i : ℕ) → Chosen p pl s t (message i) → OfOthers s → alive p (s .done) ((messageAt s i) .to) ≡ true
+        → decode b ≡ recordOf p ((messageAt s i) .to) last (nodeOf s ((messageAt s i) .to))
         → SameEvent p s (record { tick = t; event = message i }) (apply p s t (message i)) ((messageAt s i) .to) (delivery i) b part
     unfolding Chosen apply received found answers leaves sends recordOf delivered
     message-same i ch others a d =

@@ -12,7 +12,7 @@ use Rattle.demands.proofs.Demand1.{open-line, step-numbers, run-numbers
 use Rattle.demands.proofs.Demand1.{open-record-down, deliver-down, fire-down, records-stay}
 use Rattle.demands.proofs.Demand1.{line-taken, line-only, line-down, table-down, never-four}
 use Rattle.demands.proofs.Demand2.{next-events, lent-events, step-puts, run-puts, write-puts, dispatch-puts, line-read, last-read, last-letters}
-use Rattle.demands.proofs.Demand2.{file-again}
+use Rattle.demands.proofs.Demand2.{last-ranges, file-again}
 use Rattle.demands.proofs.Nodes.{rehearsed}
 use Rattle.demands.proofs.Demand3.{any-calls}
 
@@ -61,6 +61,7 @@ demand2 = record {
   lines = line-read;
   lastLines = last-read;
   lastLetters = last-letters;
+  lastRanges = last-ranges;
   columns = five-columns;
   program = whole-output;
   fileAgain = file-again;

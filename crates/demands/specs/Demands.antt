@@ -175,11 +175,13 @@ pub record Demand1 : Type 0 where
   -- a run file is accepted exactly where it is the text of a plan that the rules allow
   pub fileTaken : (p : Plan) → planTest p ≡ true → fileOf (planText p) ≡ accepted p
   -- so is any P line by itself whose numbers are in their ranges. REQUEST 109: W may be below H + D
-  pub startTaken : (n h w d end : ℕ) → (1 ≤ n) × (n ≤ 64) → (1 ≤ h) × (h ≤ 1000) → (1 ≤ w) × (w ≤ 65535) → (1 ≤ d) × (d ≤ 255) → end ≤ 1000000
+  pub startTaken : (n h w d end : ℕ) → (1 ≤ n) × (n ≤ 64) → (1 ≤ h) × (h ≤ 1000) → (1 ≤ w) × (w ≤ 65535) → (1 ≤ d) × (d ≤ 255)
+      → end ≤ 1000000
       → fileOf (planText (startPlan n h w d end)) ≡ accepted (startPlan n h w d end)
   -- 'run file, length: 0 or above 65,536 bytes' is refused by 1 and line 0, and any other bad file by 2, 3, 5, 6 or 13 and a line from 1 on
   pub fileLength : (file : List ℕ) → (leb 1 (length file) && leb (length file) 65536) ≡ false → fileOf file ≡ turnedDown 1 0
-  pub fileNumber : (file : List ℕ) (number line : ℕ) → fileOf file ≡ turnedDown number line → (leb 1 (length file) && leb (length file) 65536) ≡ true
+  pub fileNumber : (file : List ℕ) (number line : ℕ) → fileOf file ≡ turnedDown number line
+      → (leb 1 (length file) && leb (length file) 65536) ≡ true
       → List·Memᴰ number (2 ∷ 3 ∷ 5 ∷ 6 ∷ 13 ∷ []) × (1 ≤ line) × (line ≤ 65536)
   pub fileOnly : (file : List ℕ) (p : Plan) → fileOf file ≡ accepted p → (planText p ≡ file) × (planTest p ≡ true)
   -- the platform's calls
@@ -281,6 +283,8 @@ pub record Demand2 : Type 0 where
   -- REQUEST 109: its letter is E where W is at least H + D, and otherwise F, whatever came before
   pub lastLetters : (p : Plan) (s : State)
       → (p .h + p .d ≤ p .w → lastLine p s .letter ≡ letterE) × (p .w < p .h + p .d → lastLine p s .letter ≡ letterF)
+  -- 'the log reader takes F as E', and so do the writer and the columns, which go by the same ranges
+  pub lastRanges : ranges letterF ≡ ranges letterE
   pub columns : (text : List ℕ) (l : Line) → readOf text ≡ LineRead l
       → columnsOf text ≡ (l .letter ∷ []) ∷ decimal (l .tick) ∷ decimal (l .node) ∷ decimal (l .other) ∷ hexOf 16 (l .list) ∷ []
   -- the rehearsal program: all that it writes of an input is the refusal's number and line, or the whole log

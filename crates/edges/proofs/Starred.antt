@@ -74,4 +74,5 @@ edges = record {
   short-log = refl;
   last-read = refl;
   last-65-refused = refl;
+  last-2049-refused = refl;
 }

@@ -178,3 +178,4 @@ pub record Edges : Type 0 where
   -- "the log reader takes F as E"
   pub last-read : readOf (bytes "F,6,64,2048,0000000000000002\n") ≡ Accepted (line letterF 6 64 2048 2)
   pub last-65-refused : readOf (bytes "F,6,65,0,0000000000000002\n") ≡ Refused 3
+  pub last-2049-refused : readOf (bytes "F,6,64,2049,0000000000000002\n") ≡ Refused 3

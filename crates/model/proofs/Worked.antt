@@ -325,7 +325,7 @@ pub none-holds : (Safe short shortEnd → ⊥) × (Settles short shortEnd → �
 unfolding Best short Spaced NoneLeftBy NoneLeftBefore
 none-holds = (
   λ h. true≢false (sym (f .live-2) ∙ h .unlisted 1 2 (f .lists-2)),
-  λ h. omega (arith, h .settled 0 (f .done) (λ i l. absurd (omega arith)) (by (f .settled) (omega arith)) 1 (omega arith) (f .live-1) .list, f .list, f .dead),
+  λ h. omega (arith, h .settled 0 (f .done) spaced-1 (by (f .settled) (omega arith)) 1 (omega arith) (f .live-1) .list, f .list, f .dead),
   λ h. omega (arith, h .joined 0 (f .done) (by (ap suc (f .joined)) (omega arith)) 1 (omega arith) (f .live-1) .emitter, f .emitter, f .before),
   λ h. omega (arith, h .complete 0 (f .done) (by (ap suc (f .complete)) (omega arith)) 1 (omega arith) (f .live-1), f .list, f .dead),
 )
@@ -335,6 +335,9 @@ none-holds = (
 
     pl : Plain short
     pl = plan-plain short (f .taken)
+
+    spaced-1 : Spaced short 1
+    spaced-1 i l = absurd (omega arith)
 
     over : NotBefore short shortEnd 10 10 10
     over = subst (Best short pl shortEnd) (f .end) (best short pl shortEnd)

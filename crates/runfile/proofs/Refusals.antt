@@ -5,7 +5,7 @@ use native.Mathlib.Omega.{arith}
 use mathlib.Core.Path.{_≡_, refl, sym, subst, _∙_}
 use mathlib.Core.Logic.{_≢_}
 use mathlib.Core.Bool.{Bool, true, false, cond, _&&_}
-use mathlib.Core.List.{List, [], _∷_, List·Memᴰ, List·Memᴰ·head, List·Memᴰ·tail}
+use mathlib.Core.List.{List, [], _∷_, List·Memᴰ, List·Memᴰ·head as here, List·Memᴰ·tail as there}
 use mathlib.Core.Option.{Option, none, some}
 use lib.Dec.{eqb, leb}
 use lib.ListN.{length}
@@ -36,19 +36,19 @@ else-numbered true number step h k = k
 else-numbered false number step h k = h
 
 bad-form : OfLine badForm
-bad-form = List·Memᴰ·head refl
+bad-form = here refl
 
 out-of-range : OfLine outOfRange
-out-of-range = List·Memᴰ·tail (List·Memᴰ·head refl)
+out-of-range = there (here refl)
 
 not-rising : OfLine notRising
-not-rising = List·Memᴰ·tail (List·Memᴰ·tail (List·Memᴰ·head refl))
+not-rising = there (there (here refl))
 
 many-delays : OfLine manyDelays
-many-delays = List·Memᴰ·tail (List·Memᴰ·tail (List·Memᴰ·tail (List·Memᴰ·head refl)))
+many-delays = there (there (there (here refl)))
 
 not-each-once : OfLine notEachOnce
-not-each-once = List·Memᴰ·tail (List·Memᴰ·tail (List·Memᴰ·tail (List·Memᴰ·tail (List·Memᴰ·head refl))))
+not-each-once = there (there (there (there (here refl))))
 
 first-numbered : (x : Option Row) → Numbered (firstLine x)
 unfolding firstLine startLine Numbered
@@ -133,13 +133,14 @@ module _ (s : List ℕ) (number line : ℕ) (e : fileOf s ≡ turnedDown number 
   refusal-small = by (leb 1 (length s) && leb (length s) 65536) refl
     where
       of-line : (n : ℕ) → OfLine n → (1 ≤ n) × (n ≤ 13) × (n ≢ shortTimeOut)
-      of-line n (List·Memᴰ·head q) = (omega arith, omega arith, λ k. omega arith)
-      of-line n (List·Memᴰ·tail (List·Memᴰ·head q)) = (omega arith, omega arith, λ k. omega arith)
-      of-line n (List·Memᴰ·tail (List·Memᴰ·tail (List·Memᴰ·head q))) = (omega arith, omega arith, λ k. omega arith)
-      of-line n (List·Memᴰ·tail (List·Memᴰ·tail (List·Memᴰ·tail (List·Memᴰ·head q)))) = (omega arith, omega arith, λ k. omega arith)
-      of-line n (List·Memᴰ·tail (List·Memᴰ·tail (List·Memᴰ·tail (List·Memᴰ·tail (List·Memᴰ·head q))))) = (omega arith, omega arith, λ k. omega arith)
+      of-line n (here q) = (omega arith, omega arith, λ k. omega arith)
+      of-line n (there (here q)) = (omega arith, omega arith, λ k. omega arith)
+      of-line n (there (there (here q))) = (omega arith, omega arith, λ k. omega arith)
+      of-line n (there (there (there (here q)))) = (omega arith, omega arith, λ k. omega arith)
+      of-line n (there (there (there (there (here q))))) = (omega arith, omega arith, λ k. omega arith)
 
-      by : (t : Bool) → (leb 1 (length s) && leb (length s) 65536) ≡ t → (1 ≤ number) × (number ≤ 13) × (line ≤ 65536) × (number ≢ shortTimeOut)
+      by : (t : Bool) → (leb 1 (length s) && leb (length s) 65536) ≡ t
+          → (1 ≤ number) × (number ≤ 13) × (line ≤ 65536) × (number ≢ shortTimeOut)
       by true good =
           let r = refused-by-line good in
           let o = of-line number (r .0) in
