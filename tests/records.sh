@@ -11,7 +11,7 @@
 . "$(dirname "$0")/common.sh"
 
 seed=${1:-$usual_seed}
-count=${2:-1400}
+count=${2:-2100}
 work=$out/records-$seed
 seconds=20
 
@@ -42,12 +42,14 @@ same() {
         differ "$1" "$2" "the nodes do otherwise than is rehearsed, status $status"
     fi
     cut -c 1 "$work/records" >> "$work/letters"
-    sed -n 's/^K,[0-9]*,[0-9]*,\([0-9]*\),.*/\1/p' "$work/records" >> "$work/passed"
     IFS=, read -r letter nodes period timeout delay rest < "$2"
+    enough=long
+    [ "$timeout" -ge $((period + delay)) ] || enough=short
+    sed -n 's/^K,[0-9]*,[0-9]*,\([0-9]*\),.*/\1/p' "$work/records" >> "$work/passed-$enough"
     read -r live < "$work/live"
     files=$((files + 1))
     [ "$nodes" -lt 48 ] || wide=$((wide + 1))
-    if [ "$timeout" -lt $((period + delay)) ]; then
+    if [ "$enough" = short ]; then
         short=$((short + 1))
         [ "$live" -eq 0 ] || listing=$((listing + 1))
         listed=$((listed + live))
@@ -180,11 +182,6 @@ mistakes() {
     done
 }
 
-# steady FILE..: those of them with W at least H + D.
-steady() {
-    awk -F, 'FNR == 1 && $4 + 0 >= $3 + $5 { print FILENAME }' "$@"
-}
-
 # counted: how many lines there were of each letter, and of 8,0. All of them have to come up.
 counted() {
     for letter in C H O R X W S K E F 8; do
@@ -211,12 +208,13 @@ mistakes
 each_generated '' $((count / 5)) "$work" generated
 each_generated small "$count" "$work" generated
 moves=$("$out/simulate" moves tests/reported-*.run $(steady $(grep -La '^Q' "$work/$seed"-*.run)))
-[ "$moves" -ge $((count / 250)) ] || fail "$moves moves by report in the two files made for it and the small ones with W at least H + D"
-more=$(grep -vcx 1 "$work/passed") || fail 'no node passed more than one'
-[ "$more" -ge $((count / 50)) ] || fail "$more lines K with more than one node passed"
+[ "$moves" -ge $((count / 210)) ] || fail "$moves moves by report in the two files made for it and the small ones with W at least H + D"
+more=$(cat "$work"/passed-* | grep -vcx 1) || fail 'no node passed more than one'
+steady_more=$(grep -vcx 1 "$work/passed-long") || fail 'no node passed more than one with W at least H + D'
+[ "$steady_more" -ge $((count / 75)) ] || fail "$steady_more lines K with more than one node passed with W at least H + D"
 [ "$short" -ge $((count / 10)) ] && [ "$listing" -ge $((count / 15)) ] || fail "$short files with a short W, $listing of them list a live node"
 lines=$(counted)
 echo "records: $files files, $wide of them with 48 nodes or more, agree; $ordered with a Q line, $refused refused; 10 mistakes found"
 echo "records: $short files with W below H + D, in $listing of them records list a live node, after $listed calls, each accepted"
 echo "records: $moves moves by report in the two files made for it and the small ones with W at least H + D; lines:$lines"
-echo "records: $more lines K with more than one node passed, at most $(sort -n "$work/passed" | tail -n 1)"
+echo "records: $more lines K with more than one node passed, $steady_more of them with W at least H + D, at most $(sort -n "$work"/passed-* | tail -n 1)"

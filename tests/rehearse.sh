@@ -65,11 +65,6 @@ kept() {
     mv "$work/proved" "${2%.run}.log"
 }
 
-# steady FILE..: those of them with W at least H + D.
-steady() {
-    awk -F, 'FNR == 1 && $4 + 0 >= $3 + $5 { print FILENAME }' "$@"
-}
-
 # recounted KIND LINES MORE FILE..: every line K of the kept logs of these files is right and none is missing. At least so many came up, and so
 # many of them with more than one node passed.
 recounted() {

@@ -8,7 +8,7 @@
 . "$(dirname "$0")/common.sh"
 
 seed=${1:-$usual_seed}
-count=${2:-400}
+count=${2:-600}
 files=$out/generated-$seed
 
 # answers NAME INPUT ANSWER COMMAND: the program, given COMMAND, answers INPUT by ANSWER, byte for byte.
@@ -71,12 +71,15 @@ commands() {
         "false tests/worked.run $out/false.run tests/worked.log $out/joined.run"
 }
 
-# recounted FILE..: every line K of the files' logs is right and none is missing. Enough of them come up, also with more than one node passed.
+# recounted KIND LINES MORE FILE..: every line K of the files' logs is right and none is missing. At least so many come up, and so many of
+# them with more than one node passed.
 recounted() {
-    passed=$("$out/simulate" recount "$@") || fail 'the lines K differ from those counted once more'
+    kind=$1 least_lines=$2 least_more=$3
+    shift 3
+    passed=$("$out/simulate" recount "$@") || fail "the lines K of the $kind differ from those counted once more"
     set -- $passed
-    echo "simulator: $1 lines K in the generated files, $2 with more than one node passed, at most $3"
-    [ "$1" -ge $((5 * count)) ] && [ "$2" -ge "$count" ] || fail 'too few lines K'
+    echo "simulator: $1 lines K in the $kind, $2 with more than one node passed, at most $3"
+    [ "$1" -ge "$least_lines" ] && [ "$2" -ge "$least_more" ] || fail "too few lines K in the $kind"
 }
 
 # joined FILE..: survivors are joined wherever request 106 owes it, and their lists full wherever request 107 does; both are owed often enough.
@@ -86,7 +89,7 @@ joined() {
     echo "simulator: $1 generated files with a crash, survivors joined after all $2 events at which they have to be;"
     echo "simulator: nearest to its bound they were not yet joined $3 ticks after a last crash, of $4"
     echo "simulator: lists full after all $5 events at which they have to be; nearest to its bound not yet $6 ticks after a last crash, of $7"
-    [ "$1" -ge $((count / 4)) ] && [ "$2" -ge $((50 * count)) ] && [ "$3" -gt 0 ] || fail 'too few survivors have to be joined'
+    [ "$1" -ge $((count / 3)) ] && [ "$2" -ge $((50 * count)) ] && [ "$3" -gt 0 ] || fail 'too few survivors have to be joined'
     [ "$5" -ge $((50 * count)) ] && [ "$6" -gt 0 ] || fail 'too few lists have to be full'
 }
 
@@ -117,7 +120,8 @@ commands
 mkdir -p "$files"
 each_generated '' "$count" "$files" ends
 echo "simulator: $("$out/simulate" moves "$files"/*.run) moves by report in the generated files"
-recounted "$files"/*.run
+recounted 'generated files' $((5 * count)) "$count" "$files"/*.run
+recounted 'generated files with W at least H + D' $((2 * count / 3)) $((count / 15)) $(steady "$files"/*.run)
 joined "$files"/*.run
 falsely "$files"/*.run
 rm -r "$files"

@@ -301,7 +301,7 @@ pub record Demand2 : Type 0 where
 
 -- ---- DEMAND 3: 'Between two crashes, the platform settles and no live node is ever listed'
 
--- s is the state that such a store holds, of a file with W at least H + D: 'The absence of live nodes from lists is claimed for E runs only'
+-- what holds besides of the state s after any calls where W is at least H + D: 'The absence of live nodes from lists is claimed for E runs only'
 pub record AfterCallsE (p : Plan) (s : State) : Type 0 where
   -- no node's list holds a live node
   pub safe : Safe p s
