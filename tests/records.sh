@@ -208,10 +208,10 @@ mistakes
 each_generated '' $((count / 5)) "$work" generated
 each_generated small "$count" "$work" generated
 moves=$("$out/simulate" moves tests/reported-*.run $(steady $(grep -La '^Q' "$work/$seed"-*.run)))
-[ "$moves" -ge $((count / 210)) ] || fail "$moves moves by report in the two files made for it and the small ones with W at least H + D"
+[ "$moves" -ge $((count / 150)) ] || fail "$moves moves by report in the two files made for it and the small ones with W at least H + D"
 more=$(cat "$work"/passed-* | grep -vcx 1) || fail 'no node passed more than one'
 steady_more=$(grep -vcx 1 "$work/passed-long") || fail 'no node passed more than one with W at least H + D'
-[ "$steady_more" -ge $((count / 75)) ] || fail "$steady_more lines K with more than one node passed with W at least H + D"
+[ "$steady_more" -ge $((count / 50)) ] || fail "$steady_more lines K with more than one node passed with W at least H + D"
 [ "$short" -ge $((count / 10)) ] && [ "$listing" -ge $((count / 15)) ] || fail "$short files with a short W, $listing of them list a live node"
 lines=$(counted)
 echo "records: $files files, $wide of them with 48 nodes or more, agree; $ordered with a Q line, $refused refused; 10 mistakes found"

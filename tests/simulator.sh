@@ -121,7 +121,7 @@ mkdir -p "$files"
 each_generated '' "$count" "$files" ends
 echo "simulator: $("$out/simulate" moves "$files"/*.run) moves by report in the generated files"
 recounted 'generated files' $((5 * count)) "$count" "$files"/*.run
-recounted 'generated files with W at least H + D' $((2 * count / 3)) $((count / 15)) $(steady "$files"/*.run)
+recounted 'generated files with W at least H + D' "$count" $((count / 10)) $(steady "$files"/*.run)
 joined "$files"/*.run
 falsely "$files"/*.run
 rm -r "$files"
