@@ -5,19 +5,19 @@ use mathlib.Core.Logic.{◌≢◌, ◌⊎◌, inl, inr}
 use mathlib.Core.List.{List}
 use native.Mathlib.Omega.{arith}
 use lib.ListN.{length}
-use Rattle.limits.specs.Limits.{mostSent}
+use Rattle.limits.specs.Limits.{most_sent}
 use Rattle.node.specs.declared.Node.{Node}
 use Rattle.plans.specs.Plan.{Plan}
 use Rattle.model.specs.Platform.{InFlight, State, Event, crash, message, watch, heartbeat, node_of}
 use Rattle.plans.specs.Plain.{Plain, row_at}
 use Rattle.model.specs.Range.{NotBefore}
 use Rattle.model.proofs.Search.{found-crash, found-message, found_none, found-watch, found-beat}
-use Rattle.store.specs.Store.{planIn, stateIn}
+use Rattle.store.specs.Store.{plan_in, state_in}
 use Rattle.event.specs.Event.{NextIs}
-use Rattle.event.specs.Search.{crashTick}
+use Rattle.event.specs.Search.{crash_tick}
 use Rattle.event.proofs.Readiness.{ready-plain, ready-sound}
 use Rattle.queue.specs.declared.Row.{Row}
-use Rattle.queue.specs.Rows.{places, row_at as queueRow}
+use Rattle.queue.specs.Rows.{places, row_at as queue_row}
 use Rattle.queue.specs.Holds.{Holds, Head, packed}
 use Rattle.course.specs.declared.Progress.{Progress}
 use Rattle.course.specs.declared.Step.{Step}
@@ -31,32 +31,32 @@ use Rattle.course.proofs.Looking.{whole-crash, whole-timer, whole-timers, timer-
 
 -- what a look finds: the end tick, that of the next crash and that of the first message
 pub record Looked (b q : List ℕ) (c : Progress) (end crash due : ℕ) : Type 0 where
-  pub last : end ≡ (planIn b).end
-  pub first : crash ≡ crashTick (planIn b) (stateIn b).done
+  pub last : end ≡ (plan_in b).end
+  pub first : crash ≡ crash_tick (plan_in b) (state_in b).done
   pub message : (flight : List InFlight) → Holds q c.start c.end flight → DueAt q c.start c.end flight (end + 1) due
 
-pub looked : {b q : List ℕ} (c : Progress) {end crash due : ℕ} → end ≡ (planIn b).end → crash ≡ crashTick (planIn b) (stateIn b).done
+pub looked : {b q : List ℕ} (c : Progress) {end crash due : ℕ} → end ≡ (plan_in b).end → crash ≡ crash_tick (plan_in b) (state_in b).done
     → ((flight : List InFlight) → Holds q c.start c.end flight → DueAt q c.start c.end flight (end + 1) due)
     → Looked b q c end crash due
 looked c e f m = record { last = e; first = f; message = m }
 
 -- what a look at the timers finds: node x of n, with a timer that is due at tick t, and the node itself
 pub record TimerFound (b : List ℕ) (t x n : ℕ) (a : Node) : Type 0 where
-  pub timer : TimerAt (planIn b) (stateIn b) t x
-  pub count : n ≡ (planIn b).n
+  pub timer : TimerAt (plan_in b) (state_in b) t x
+  pub count : n ≡ (plan_in b).n
   pub less : x < n
-  pub node : a ≡ node_of (stateIn b) x
+  pub node : a ≡ node_of (state_in b) x
 
-pub timer-found : {b : List ℕ} {t x n : ℕ} {a : Node} → TimerAt (planIn b) (stateIn b) t x → n ≡ (planIn b).n → x < n
-    → a ≡ node_of (stateIn b) x → TimerFound b t x n a
+pub timer-found : {b : List ℕ} {t x n : ℕ} {a : Node} → TimerAt (plan_in b) (state_in b) t x → n ≡ (plan_in b).n → x < n
+    → a ≡ node_of (state_in b) x → TimerFound b t x n a
 timer-found t c l a = record { timer = t; count = c; less = l; node = a }
 
 module _ {b q : List ℕ} {c : Progress} {whole : List ℕ} (k : Underway b q c whole) where
   abbrev p : Plan
-  p = planIn whole
+  p = plan_in whole
 
   abbrev s : State
-  s = stateIn whole
+  s = state_in whole
 
   pl : Plain p
   pl = ready-plain whole k.ready
@@ -100,7 +100,7 @@ module _ {b q : List ℕ} {c : Progress} {whole : List ℕ} (k : Underway b q c 
     unfolding packed
     chosen-message hc hb = record { less = due.0; next = next }
       where
-        due : (c.start < c.end) × ((queueRow q c.start).due ≡ du)
+        due : (c.start < c.end) × ((queue_row q c.start).due ≡ du)
         due = da.here (omega (arith, ca.within, ee))
 
         next : (d : Head q c.start c.end s.flight) → (d.m.due ≡ du) × NextIs whole du (message d.earliest.place)
@@ -156,7 +156,7 @@ module _ {b q : List ℕ} {c : Progress} {whole : List ℕ} (k : Underway b q c 
 
     -- its event, once it is known to be next: what the function that does it asks for, and what that function leaves
     module _ {e : Event} (next : NextIs whole c.bound e) where
-      pub timer-acts : c.end + mostSent ≤ places → Acts b q at e
+      pub timer-acts : c.end + most_sent ≤ places → Acts b q at e
       timer-acts room = record { whole = whole; underway = at-underway; next = next; room = room }
 
       pub timer-steps : (r : Step) (b' q' : List ℕ) → ((w : List ℕ) → Underway b q at w → NextIs w c.bound e → SteppedAs w at r b' q')
@@ -164,7 +164,7 @@ module _ {b q : List ℕ} {c : Progress} {whole : List ℕ} (k : Underway b q c 
       timer-steps r b' q' steps = from_at r b' q' (steps whole at-underway next)
 
   -- none is due
-  pub chosen-later : (bound : ℕ) → (c.bound < bound) × Timers (planIn b) (stateIn b) bound 0
+  pub chosen-later : (bound : ℕ) → (c.bound < bound) × Timers (plan_in b) (state_in b) bound 0
       → SteppedAs whole c (Waits (record { start = c.start; end = c.end; dead = c.dead; bound = bound; x = 0 })) b q
   unfolding SteppedAs
   chosen-later bound f =

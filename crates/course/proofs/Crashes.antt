@@ -6,20 +6,20 @@ use mathlib.Core.List.{List}
 use native.Mathlib.Omega.{arith}
 use native.Mathlib.Decide.{ℕ_discrete}
 use lib.ListN.{length}
-use Rattle.limits.specs.Limits.{mostTick}
+use Rattle.limits.specs.Limits.{most_tick}
 use Rattle.node.specs.declared.Node.{Node}
 use Rattle.model.specs.declared.Deed.{Deed}
-use Rattle.logline.specs.Line.{letterC}
-use Rattle.plans.specs.Plan.{Crash, Plan, planTest}
-use Rattle.model.specs.Platform.{InFlight, State, Outcome, crash, did, alive, node_of, crashedList, apply, left}
+use Rattle.logline.specs.Line.{letter_c}
+use Rattle.plans.specs.Plan.{Crash, Plan, plan_test}
+use Rattle.model.specs.Platform.{InFlight, State, Outcome, crash, did, alive, node_of, crashed_list, apply, left}
 use Rattle.plans.specs.Plain.{Plain, row_at}
 use Rattle.model.specs.Lines.{deed}
 use Rattle.model.proofs.NextEvent.{Chosen, alive-hit, alive-other}
 use Rattle.store.specs.declared.CrashRow.{CrashRow}
-use Rattle.store.specs.Store.{encode, planIn, stateIn}
-use Rattle.store.specs.Inside.{Fits, Sized, withFlight, withTick, crashed, crashRow}
+use Rattle.store.specs.Store.{encode, plan_in, state_in}
+use Rattle.store.specs.Inside.{Fits, Sized, with_flight, with_tick, crashed, crash_row}
 use Rattle.store.proofs.States.{tick-fits, crash-fits}
-use Rattle.event.specs.Event.{NextIs, nextOutcome, storeLeft, entry}
+use Rattle.event.specs.Event.{NextIs, next_outcome, store_left, entry}
 use Rattle.event.proofs.Readiness.{left-ready, left-holds, ready-plain, ready-sound, held-sized}
 use Rattle.event.proofs.Turning.{chosen_of, try-did}
 use Rattle.event.proofs.Doing.{event-tick, crash-place, crash-done}
@@ -29,12 +29,12 @@ use Rattle.course.specs.Apart.{Apart}
 use Rattle.course.specs.Progress.{Underway, SteppedAs}
 use Rattle.course.proofs.Parting.{apart-both, apart-held, apart-plan, apart-done, apart-node}
 
-crash-over : (t : ℕ) (s : State) (ms : List InFlight) → crashed (withTick (withFlight s ms) t) ≡ withFlight (crashed (withTick s t)) ms
-unfolding crashed withTick withFlight
+crash-over : (t : ℕ) (s : State) (ms : List InFlight) → crashed (with_tick (with_flight s ms) t) ≡ with_flight (crashed (with_tick s t)) ms
+unfolding crashed with_tick with_flight
 crash-over t s ms = refl
 
-crash-same : (t : ℕ) (s : State) → (crashed (withTick s t)).flight ≡ s.flight
-unfolding crashed withTick
+crash-same : (t : ℕ) (s : State) → (crashed (with_tick s t)).flight ≡ s.flight
+unfolding crashed with_tick
 crash-same t s = refl
 
 -- who is live after a crash was before it
@@ -49,90 +49,90 @@ still-live p pl done h j v = go (ℕ_discrete j (row_at p done).node)
 
 module _ (b q : List ℕ) (c : Progress) (whole : List ℕ) (k : Underway b q c whole) (t n : ℕ) (next : NextIs whole t (crash n)) where
   abbrev first : Crash
-  first = row_at (planIn whole) (stateIn whole).done
+  first = row_at (plan_in whole) (state_in whole).done
 
-  chosen : ((stateIn whole).done < length (planIn whole).crashes) × ((first.tick ≡ t) × (first.node ≡ n))
+  chosen : ((state_in whole).done < length (plan_in whole).crashes) × ((first.tick ≡ t) × (first.node ≡ n))
   unfolding Chosen
   chosen =
-      let ch = (chosen_of (planIn whole) (stateIn whole) t (crash n) next (ready-plain whole k.ready)).1 in
+      let ch = (chosen_of (plan_in whole) (state_in whole) t (crash n) next (ready-plain whole k.ready)).1 in
       (ch.0, (ch.1, ch.2))
 
-  more : (stateIn whole).done < length (planIn whole).crashes
+  more : (state_in whole).done < length (plan_in whole).crashes
   more = chosen.0
 
   -- the row that the code reads
-  pub crash-more : (stateIn b).done < length (planIn b).crashes
+  pub crash-more : (state_in b).done < length (plan_in b).crashes
   crash-more = rw (apart-plan k.apart, apart-done k.apart) more
 
-  pub crash-row : (row : CrashRow) (i : ℕ) → i ≡ (stateIn b).done → row ≡ crashRow (row_at (planIn b) i) → row.node ≡ n
+  pub crash-row : (row : CrashRow) (i : ℕ) → i ≡ (state_in b).done → row ≡ crash_row (row_at (plan_in b) i) → row.node ≡ n
   crash-row row i ie e =
       ap (λ (r : CrashRow). r.node) e
       ∙ (ap₂ (λ (p : Plan) (j : ℕ). (row_at p j).node) (apart-plan k.apart) (ie ∙ apart-done k.apart) ∙ chosen.1.1)
 
-  pub crash-tick : t ≤ mostTick
+  pub crash-tick : t ≤ most_tick
   crash-tick = event-tick whole k.ready t (crash n) next
 
-  pub crash-here : n < (planIn b).n
+  pub crash-here : n < (plan_in b).n
   crash-here = rw (apart-plan k.apart) (crash-place whole k.ready t n next)
 
-  crash-fit : Fits (planIn whole) (crashed (withTick (stateIn whole) t))
-  unfolding withTick
+  crash-fit : Fits (plan_in whole) (crashed (with_tick (state_in whole) t))
+  unfolding with_tick
   crash-fit =
-      crash-fits (planIn whole) (withTick (stateIn whole) t) (tick-fits (planIn whole) (stateIn whole) k.apart.held.fits t (omega (arith, crash-tick)))
+      crash-fits (plan_in whole) (with_tick (state_in whole) t) (tick-fits (plan_in whole) (state_in whole) k.apart.held.fits t (omega (arith, crash-tick)))
       (omega (arith, more, k.apart.held.fits.counts.crashes))
 
-  did-it : nextOutcome whole ≡ did (entry t (crash n)) (apply (planIn whole) (stateIn whole) t (crash n))
+  did-it : next_outcome whole ≡ did (entry t (crash n)) (apply (plan_in whole) (state_in whole) t (crash n))
   unfolding apply
-  did-it = try-did (planIn whole) (stateIn whole) t (crash n) next (ready-sound whole k.ready).few
+  did-it = try-did (plan_in whole) (state_in whole) t (crash n) next (ready-sound whole k.ready).few
 
-  left_is : encode (planIn whole) (crashed (withTick (stateIn whole) t)) ≡ storeLeft whole
-  unfolding apply withTick crashed left
-  left_is = sym (ap (λ (o : Outcome). encode (planIn whole) (left (stateIn whole) o)) did-it)
+  left_is : encode (plan_in whole) (crashed (with_tick (state_in whole) t)) ≡ store_left whole
+  unfolding apply with_tick crashed left
+  left_is = sym (ap (λ (o : Outcome). encode (plan_in whole) (left (state_in whole) o)) did-it)
 
-  held : (planIn (storeLeft whole) ≡ planIn whole) × (stateIn (storeLeft whole) ≡ left (stateIn whole) (nextOutcome whole))
-  held = left-holds whole (storeLeft whole) k.ready refl
+  held : (plan_in (store_left whole) ≡ plan_in whole) × (state_in (store_left whole) ≡ left (state_in whole) (next_outcome whole))
+  held = left-holds whole (store_left whole) k.ready refl
 
-  state : stateIn (storeLeft whole) ≡ apply (planIn whole) (stateIn whole) t (crash n)
+  state : state_in (store_left whole) ≡ apply (plan_in whole) (state_in whole) t (crash n)
   unfolding left
-  state = held.1 ∙ ap (left (stateIn whole)) did-it
+  state = held.1 ∙ ap (left (state_in whole)) did-it
 
-  done : (stateIn (storeLeft whole)).done ≡ suc (stateIn whole).done
+  done : (state_in (store_left whole)).done ≡ suc (state_in whole).done
   unfolding apply
   done = ap (λ (s : State). s.done) state
 
-  nodes : (j : ℕ) → node_of (stateIn (storeLeft whole)) j ≡ node_of (stateIn whole) j
+  nodes : (j : ℕ) → node_of (state_in (store_left whole)) j ≡ node_of (state_in whole) j
   unfolding apply
   nodes j = ap (λ (s : State). node_of s j) state
 
-  live : (j : ℕ) → alive (planIn (storeLeft whole)) (stateIn (storeLeft whole)).done j ≡ true → alive (planIn whole) (stateIn whole).done j ≡ true
+  live : (j : ℕ) → alive (plan_in (store_left whole)) (state_in (store_left whole)).done j ≡ true → alive (plan_in whole) (state_in whole).done j ≡ true
   live j v =
-      still-live (planIn whole) (ready-plain whole k.ready) (stateIn whole).done more j
+      still-live (plan_in whole) (ready-plain whole k.ready) (state_in whole).done more j
       (ap₂ (λ (p : Plan) (d : ℕ). alive p d j) (sym held.0) (sym done) ∙ v)
 
-  module _ (b' : List ℕ) (e : b' ≡ encode (planIn b) (crashed (withTick (stateIn b) t))) where
-    left-apart : Apart b' q c.start c.end (storeLeft whole)
+  module _ (b' : List ℕ) (e : b' ≡ encode (plan_in b) (crashed (with_tick (state_in b) t))) where
+    left-apart : Apart b' q c.start c.end (store_left whole)
     left-apart =
         subst (Apart b' q c.start c.end) left_is
-        (apart-both (λ s. crashed (withTick s t)) (crash-over t) (crash-same t) k.apart crash-fit b' e)
+        (apart-both (λ s. crashed (with_tick s t)) (crash-over t) (crash-same t) k.apart crash-fit b' e)
 
-    pub crash-crashes : Sized b' × ((planTest (planIn b') ≡ true) × ((stateIn b').done ≤ length (planIn b').crashes))
+    pub crash-crashes : Sized b' × ((plan_test (plan_in b') ≡ true) × ((state_in b').done ≤ length (plan_in b').crashes))
     crash-crashes =
-        let p : planIn b' ≡ planIn whole = apart-plan left-apart ∙ held.0 in
-        let d : (stateIn b').done ≡ suc (stateIn whole).done = apart-done left-apart ∙ done in
-        (held-sized b' (apart-held left-apart), (ap planTest p ∙ k.ready.plan, omega (arith, d, ap (λ (z : Plan). length z.crashes) p, more)))
+        let p : plan_in b' ≡ plan_in whole = apart-plan left-apart ∙ held.0 in
+        let d : (state_in b').done ≡ suc (state_in whole).done = apart-done left-apart ∙ done in
+        (held-sized b' (apart-held left-apart), (ap plan_test p ∙ k.ready.plan, omega (arith, d, ap (λ (z : Plan). length z.crashes) p, more)))
 
-    pub crash-stepped : (dead : ℕ) → dead ≡ crashedList (planIn b') (stateIn b').done → (l : Deed)
-        → l ≡ deed letterC t n n (node_of (stateIn b) n).list false 0
+    pub crash-stepped : (dead : ℕ) → dead ≡ crashed_list (plan_in b') (state_in b').done → (l : Deed)
+        → l ≡ deed letter_c t n n (node_of (state_in b) n).list false 0
         → SteppedAs whole c (Did (record { start = c.start; end = c.end; dead = dead; bound = c.bound; x = 0 }) l) b' q
     unfolding SteppedAs
     crash-stepped dead de l le =
-        let le' : l ≡ deed letterC t n n (node_of (stateIn whole) n).list false 0 =
-        le ∙ ap (λ (m : Node). deed letterC t n n m.list false 0) (apart-node k.apart n) in (
-          (crash-done whole k.ready t n next (storeLeft whole) l le' (sym left_is)).0,
+        let le' : l ≡ deed letter_c t n n (node_of (state_in whole) n).list false 0 =
+        le ∙ ap (λ (m : Node). deed letter_c t n n m.list false 0) (apart-node k.apart n) in (
+          (crash-done whole k.ready t n next (store_left whole) l le' (sym left_is)).0,
           record {
-            ready = left-ready whole (storeLeft whole) k.ready refl;
+            ready = left-ready whole (store_left whole) k.ready refl;
             apart = left-apart;
-            dead = de ∙ ap₂ crashedList (apart-plan left-apart) (apart-done left-apart);
+            dead = de ∙ ap₂ crashed_list (apart-plan left-apart) (apart-done left-apart);
             timers = record {
               watch = λ j v m. rw (nodes j) (k.timers.watch j (live j v) (rw (nodes j) at m));
               heartbeat = λ j v m. rw (nodes j) (k.timers.heartbeat j (live j v) (rw (nodes j) at m));

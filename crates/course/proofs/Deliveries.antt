@@ -5,19 +5,19 @@ use mathlib.Core.Bool.{Bool, not}
 use mathlib.Core.List.{List, []}
 use native.Mathlib.Omega.{arith}
 use lib.ListN.{length}
-use Rattle.limits.specs.Limits.{mostNodes, mostTick, mostInFlight, mostSent}
+use Rattle.limits.specs.Limits.{most_nodes, most_tick, most_in_flight, most_sent}
 use Rattle.ring.specs.Ring.{listed}
 use Rattle.model.specs.declared.Deed.{Deed}
-use Rattle.model.specs.Lines.{messageDeed}
+use Rattle.model.specs.Lines.{message_deed}
 use Rattle.node.specs.declared.Node.{Node}
 use Rattle.node.specs.declared.Turned.{Turned}
 use Rattle.node.specs.Node.{turned}
 use Rattle.plans.specs.Plan.{Plan}
-use Rattle.model.specs.Platform.{InFlight, State, message, messageAt, node_of, without, received, apply}
+use Rattle.model.specs.Platform.{InFlight, State, message, message_at, node_of, without, received, apply}
 use Rattle.model.specs.Range.{FlightRange}
 use Rattle.model.proofs.RangesKept.{at_mem}
-use Rattle.store.specs.Store.{encode, planIn, stateIn}
-use Rattle.store.specs.Inside.{Fits, flying, messageOf, withFlight, withoutMessage}
+use Rattle.store.specs.Store.{encode, plan_in, state_in}
+use Rattle.store.specs.Inside.{Fits, flying, message_of, with_flight, without_message}
 use Rattle.store.specs.declared.Flight.{Flight}
 use Rattle.store.proofs.Store.{plan-encode, state-encode, held-encode}
 use Rattle.store.proofs.States.{take-fits}
@@ -42,8 +42,8 @@ use Rattle.course.proofs.Parting.{apart-plan, apart-state, apart-node}
 use Rattle.course.proofs.Events.{Given, turn-stepped}
 
 module _ (b q : List ℕ) (c : Progress) (t : ℕ) (whole : List ℕ) (k : Underway b q c whole) (dv : Delivers q c t whole) where
-  abbrev head : Head q c.start c.end (stateIn whole).flight
-  head = holds-head q c.start c.end (stateIn whole).flight k.apart.holds dv.less
+  abbrev head : Head q c.start c.end (state_in whole).flight
+  head = holds-head q c.start c.end (state_in whole).flight k.apart.holds dv.less
 
   abbrev i : ℕ
   i = head.earliest.place
@@ -51,78 +51,78 @@ module _ (b q : List ℕ) (c : Progress) (t : ℕ) (whole : List ℕ) (k : Under
   next : NextIs whole t (message i)
   next = (dv.next head).1
 
-  here : messageAt (stateIn whole) i ≡ head.m
+  here : message_at (state_in whole) i ≡ head.m
   here = head.earliest.is
 
-  range : FlightRange (planIn whole) (stateIn whole).last (messageAt (stateIn whole) i)
-  range = (ready-sound whole k.ready).flying (messageAt (stateIn whole) i) (at_mem (stateIn whole).flight i (message-here whole k.ready t i next))
+  range : FlightRange (plan_in whole) (state_in whole).last (message_at (state_in whole) i)
+  range = (ready-sound whole k.ready).flying (message_at (state_in whole) i) (at_mem (state_in whole).flight i (message-here whole k.ready t i next))
 
   module _ (row : Row) (re : row ≡ row_at q c.start) (f : Flight) (fe : f ≡ unpacked row t) where
-    is-flight : f ≡ flying (messageAt (stateIn whole) i)
+    is-flight : f ≡ flying (message_at (state_in whole) i)
     is-flight =
         fe
-        ∙ unpacked-row (messageAt (stateIn whole) i) (planIn whole) (stateIn whole).last (ready-plain whole k.ready).n≤ range row
+        ∙ unpacked-row (message_at (state_in whole) i) (plan_in whole) (state_in whole).last (ready-plain whole k.ready).n≤ range row
         (re ∙ (head.row ∙ ap packed (sym here))) t (ap (λ (m : InFlight). m.due) here ∙ (dv.next head).0)
 
-    pub delivery-place : f.to < (planIn b).n
+    pub delivery-place : f.to < (plan_in b).n
     delivery-place = rw (apart-plan k.apart) (message-place whole k.ready t i next f is-flight)
 
-    pub delivery-sender : f.from < mostNodes
+    pub delivery-sender : f.from < most_nodes
     delivery-sender = message-sender whole k.ready t i next f is-flight
 
-    pub delivery-subject : f.subject < mostNodes
+    pub delivery-subject : f.subject < most_nodes
     delivery-subject = message-subject whole k.ready t i next f is-flight
 
-    pub delivery-tick : t ≤ mostTick
+    pub delivery-tick : t ≤ most_tick
     delivery-tick = event-tick whole k.ready t (message i) next
 
     abbrev mid : List ℕ
-    mid = encode (planIn whole) (withoutMessage (stateIn whole) i)
+    mid = encode (plan_in whole) (without_message (state_in whole) i)
 
-    mid-fits : Fits (planIn whole) (withoutMessage (stateIn whole) i)
-    mid-fits = take-fits (planIn whole) (stateIn whole) k.apart.held.fits i (message-here whole k.ready t i next)
+    mid-fits : Fits (plan_in whole) (without_message (state_in whole) i)
+    mid-fits = take-fits (plan_in whole) (state_in whole) k.apart.held.fits i (message-here whole k.ready t i next)
 
-    mid-plan : planIn mid ≡ planIn whole
-    mid-plan = plan-encode (planIn whole) (withoutMessage (stateIn whole) i) mid-fits
+    mid-plan : plan_in mid ≡ plan_in whole
+    mid-plan = plan-encode (plan_in whole) (without_message (state_in whole) i) mid-fits
 
-    mid-state : stateIn mid ≡ withoutMessage (stateIn whole) i
-    mid-state = state-encode (planIn whole) (withoutMessage (stateIn whole) i) mid-fits
+    mid-state : state_in mid ≡ without_message (state_in whole) i
+    mid-state = state-encode (plan_in whole) (without_message (state_in whole) i) mid-fits
 
-    mid-is : stateIn mid ≡ withFlight (stateIn whole) (without i (stateIn whole).flight)
-    unfolding withoutMessage withFlight
+    mid-is : state_in mid ≡ with_flight (state_in whole) (without i (state_in whole).flight)
+    unfolding without_message with_flight
     mid-is = mid-state
 
-    mid-flight : (stateIn mid).flight ≡ without i (stateIn whole).flight
-    unfolding withFlight
+    mid-flight : (state_in mid).flight ≡ without i (state_in whole).flight
+    unfolding with_flight
     mid-flight = ap (λ (s : State). s.flight) mid-is
 
     mid-apart : Apart b q (c.start + 1) c.end mid
-    unfolding withFlight bare
+    unfolding with_flight bare
     mid-apart =
         let z : suc c.start ≡ c.start + 1 = omega arith in
         record {
-          held = held-encode (planIn whole) (withoutMessage (stateIn whole) i) mid-fits;
-          is = k.apart.is ∙ sym (ap₂ (λ (p : Plan) (s : State). encode p (withFlight s [])) mid-plan mid-is);
-          holds = subst (λ (n : ℕ). Holds q n c.end (stateIn mid).flight) z (subst (Holds q (suc c.start) c.end) (sym mid-flight) head.taken);
+          held = held-encode (plan_in whole) (without_message (state_in whole) i) mid-fits;
+          is = k.apart.is ∙ sym (ap₂ (λ (p : Plan) (s : State). encode p (with_flight s [])) mid-plan mid-is);
+          holds = subst (λ (n : ℕ). Holds q n c.end (state_in mid).flight) z (subst (Holds q (suc c.start) c.end) (sym mid-flight) head.taken);
         }
 
     -- how far the run is without it
     abbrev c₁ : Progress
     c₁ = record { start = c.start + 1; end = c.end; dead = c.dead; bound = c.bound; x = 0 }
 
-    module _ (u : Turned) (ue : u ≡ turned (received (planIn b) (stateIn b) t (messageOf f))) where
-      is : u ≡ turned (received (planIn whole) (stateIn whole) t (messageAt (stateIn whole) i))
-      unfolding received withFlight
+    module _ (u : Turned) (ue : u ≡ turned (received (plan_in b) (state_in b) t (message_of f))) where
+      is : u ≡ turned (received (plan_in whole) (state_in whole) t (message_at (state_in whole) i))
+      unfolding received with_flight
       is =
-          ue ∙ (ap₂ (λ (p : Plan) (s : State). turned (received p s t (messageOf f))) (apart-plan k.apart) (apart-state k.apart)
+          ue ∙ (ap₂ (λ (p : Plan) (s : State). turned (received p s t (message_of f))) (apart-plan k.apart) (apart-state k.apart)
           ∙ turn-of whole k.ready t i next f is-flight)
 
-      turns : length (stateIn mid).flight + u.count ≤ mostInFlight → Turns mid t f.to u
+      turns : length (state_in mid).flight + u.count ≤ most_in_flight → Turns mid t f.to u
       turns h =
           message-turns whole k.ready t i next f is-flight u is
-          (omega (arith, h, ap length mid-flight, length-less i (stateIn whole).flight (message-here whole k.ready t i next))) mid refl
+          (omega (arith, h, ap length mid-flight, length-less i (state_in whole).flight (message-here whole k.ready t i next))) mid refl
 
-      pub delivery-settling : c.end + mostSent ≤ places → Settling b q c₁ t f.to u
+      pub delivery-settling : c.end + most_sent ≤ places → Settling b q c₁ t f.to u
       delivery-settling room = record {
         whole = mid;
         apart = mid-apart;
@@ -132,11 +132,11 @@ module _ (b q : List ℕ) (c : Progress) (t : ℕ) (whole : List ℕ) (k : Under
       }
 
       module _ (ls : Bool) (lse : ls ≡ listed c.dead f.to) (l : Deed)
-          (le : l ≡ messageDeed t (messageOf f) (not ls) (node_of (stateIn b) f.to) u.node u.passed) where
-        deed-is : l ≡ messageDeed t (messageOf f) (not ls) (node_of (stateIn whole) f.to) u.node u.passed
-        deed-is = le ∙ ap (λ (n : Node). messageDeed t (messageOf f) (not ls) n u.node u.passed) (apart-node k.apart f.to)
+          (le : l ≡ message_deed t (message_of f) (not ls) (node_of (state_in b) f.to) u.node u.passed) where
+        deed-is : l ≡ message_deed t (message_of f) (not ls) (node_of (state_in whole) f.to) u.node u.passed
+        deed-is = le ∙ ap (λ (n : Node). message_deed t (message_of f) (not ls) n u.node u.passed) (apart-node k.apart f.to)
 
-        delivery-given : Given whole mid (without i (stateIn whole).flight) t (messageAt (stateIn whole) i).to u l
+        delivery-given : Given whole mid (without i (state_in whole).flight) t (message_at (state_in whole) i).to u l
         unfolding apply
         delivery-given = record {
           plan = mid-plan;
@@ -144,16 +144,16 @@ module _ (b q : List ℕ) (c : Progress) (t : ℕ) (whole : List ℕ) (k : Under
           inside = range.to;
           entry = entry t (message i);
           outcome =
-              turn-did (planIn whole) (stateIn whole) t (message i) next (messageAt (stateIn whole) i).to (without i (stateIn whole).flight) u _ is
+              turn-did (plan_in whole) (state_in whole) t (message i) next (message_at (state_in whole) i).to (without i (state_in whole).flight) u _ is
               refl;
           answer = λ room. (message-done whole k.ready t i next f is-flight u is c.dead ls k.dead lse l deed-is room).0;
           full = λ h.
               message-refused whole k.ready t i next f is-flight u is
-              (omega (arith, h, length-less i (stateIn whole).flight (message-here whole k.ready t i next)));
+              (omega (arith, h, length-less i (state_in whole).flight (message-here whole k.ready t i next)));
         }
 
         pub delivery-stepped : (r : Step) (b' q' : List ℕ) → Settled b q c₁ t f.to u l r b' q' → SteppedAs whole c r b' q'
         delivery-stepped r b' q' h =
-            turn-stepped b q c c₁ whole mid k (without i (stateIn whole).flight) t (messageAt (stateIn whole) i).to u l delivery-given
-            (passed-less (planIn whole) (stateIn whole) c.bound c.x 0 k.timers (omega arith)) refl (omega arith) r b' q'
+            turn-stepped b q c c₁ whole mid k (without i (state_in whole).flight) t (message_at (state_in whole) i).to u l delivery-given
+            (passed-less (plan_in whole) (state_in whole) c.bound c.x 0 k.timers (omega arith)) refl (omega arith) r b' q'
             (subst (λ (y : ℕ). SettledAs b q c₁ t y u l mid r b' q') (ap (λ (g : Flight). g.to) is-flight) (h mid mid-apart turns))

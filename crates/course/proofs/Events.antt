@@ -4,19 +4,19 @@ use mathlib.Core.Path.{◌≡◌, refl, sym, ap, ap₂, subst, ◌∙◌}
 use mathlib.Core.List.{List}
 use native.Mathlib.Omega.{arith}
 use lib.ListN.{length, set}
-use Rattle.limits.specs.Limits.{mostTick, mostInFlight, mostSent}
+use Rattle.limits.specs.Limits.{most_tick, most_in_flight, most_sent}
 use Rattle.node.specs.declared.Node.{Node}
 use Rattle.node.specs.declared.Turned.{Turned}
 use Rattle.node.specs.Node.{Turn, turned}
 use Rattle.model.specs.declared.Deed.{Deed}
 use Rattle.plans.specs.Plan.{Plan}
-use Rattle.model.specs.Platform.{InFlight, State, Event, Entry, Outcome, did, crashedList, node_of, taken, left}
-use Rattle.store.specs.Store.{encode, planIn, stateIn}
-use Rattle.store.specs.Inside.{withFlight}
+use Rattle.model.specs.Platform.{InFlight, State, Event, Entry, Outcome, did, crashed_list, node_of, taken, left}
+use Rattle.store.specs.Store.{encode, plan_in, state_in}
+use Rattle.store.specs.Inside.{with_flight}
 use Rattle.event.specs.declared.Happened.{Happened}
 use Rattle.event.specs.declared.Happened.TheVariants.{Did as done, Refused as overfull}
 use Rattle.event.specs.Acting.{Acting}
-use Rattle.event.specs.Event.{entry, nextOutcome, nextAnswer, storeLeft, turnLeft, turn_of}
+use Rattle.event.specs.Event.{entry, next_outcome, next_answer, store_left, turn_left, turn_of}
 use Rattle.event.proofs.Readiness.{left-ready, left-holds, ready-sound}
 use Rattle.event.proofs.Doing.{Timer, timer-tick, timer-count, timer-turns, timer-refused, timer-did, timer-done}
 use Rattle.queue.specs.Rows.{places}
@@ -34,63 +34,63 @@ use Rattle.course.proofs.Progressing.{timers-turn}
 -- Node x takes the turn u at tick t: `mid` is the whole store as the turn finds it, with the messages `rest` in flight. What a step would
 -- have answered and left is given for both outcomes.
 pub record Given (whole mid : List ℕ) (rest : List InFlight) (t x : ℕ) (u : Turned) (l : Deed) : Type 0 where
-  pub plan : planIn mid ≡ planIn whole
-  pub state : stateIn mid ≡ withFlight (stateIn whole) rest
-  pub inside : x < (planIn whole).n
+  pub plan : plan_in mid ≡ plan_in whole
+  pub state : state_in mid ≡ with_flight (state_in whole) rest
+  pub inside : x < (plan_in whole).n
   pub entry : Entry
-  pub outcome : length rest + u.count ≤ mostInFlight → nextOutcome whole ≡ did entry (taken (planIn whole) (stateIn whole) t x rest (turn_of u))
-  pub answer : length rest + u.count ≤ mostInFlight → done l ≡ nextAnswer whole
-  pub full : mostInFlight < length rest + u.count → ◌≡◌ {A = Happened} overfull (nextAnswer whole) × (whole ≡ storeLeft whole)
+  pub outcome : length rest + u.count ≤ most_in_flight → next_outcome whole ≡ did entry (taken (plan_in whole) (state_in whole) t x rest (turn_of u))
+  pub answer : length rest + u.count ≤ most_in_flight → done l ≡ next_answer whole
+  pub full : most_in_flight < length rest + u.count → ◌≡◌ {A = Happened} overfull (next_answer whole) × (whole ≡ store_left whole)
 
 module _ (b q : List ℕ) (c c₁ : Progress) (whole mid : List ℕ) (k : Underway b q c whole) (rest : List InFlight) (t x : ℕ) (u : Turned) (l : Deed)
-    (g : Given whole mid rest t x u l) (ts : Timers (planIn whole) (stateIn whole) c₁.bound c₁.x) (de : c₁.dead ≡ c.dead)
+    (g : Given whole mid rest t x u l) (ts : Timers (plan_in whole) (state_in whole) c₁.bound c₁.x) (de : c₁.dead ≡ c.dead)
     (h : c₁.x ≤ x) where
-  rest-flight : length (stateIn mid).flight ≡ length rest
-  unfolding withFlight
+  rest-flight : length (state_in mid).flight ≡ length rest
+  unfolding with_flight
   rest-flight = ap (λ (s : State). length s.flight) g.state
 
   abbrev After : State
-  After = taken (planIn whole) (stateIn whole) t x rest (turn_of u)
+  After = taken (plan_in whole) (state_in whole) t x rest (turn_of u)
 
-  mid-left : turnLeft mid t x u ≡ encode (planIn whole) After
-  unfolding taken withFlight
+  mid-left : turn_left mid t x u ≡ encode (plan_in whole) After
+  unfolding taken with_flight
   mid-left = ap₂ (λ (p : Plan) (s : State). encode p (taken p s t x s.flight (turn_of u))) g.plan g.state
 
   -- it is taken
   module _ (d : Progress) (m : Deed) (b' q' : List ℕ) (f : Taken c₁ t x u l mid d m b' q') where
-    did-it : nextOutcome whole ≡ did g.entry After
+    did-it : next_outcome whole ≡ did g.entry After
     did-it = g.outcome (omega (arith, f.room, rest-flight))
 
-    left_is : storeLeft whole ≡ encode (planIn whole) After
+    left_is : store_left whole ≡ encode (plan_in whole) After
     unfolding left
-    left_is = ap (λ (o : Outcome). encode (planIn whole) (left (stateIn whole) o)) did-it
+    left_is = ap (λ (o : Outcome). encode (plan_in whole) (left (state_in whole) o)) did-it
 
-    held : (planIn (storeLeft whole) ≡ planIn whole) × (stateIn (storeLeft whole) ≡ left (stateIn whole) (nextOutcome whole))
-    held = left-holds whole (storeLeft whole) k.ready refl
+    held : (plan_in (store_left whole) ≡ plan_in whole) × (state_in (store_left whole) ≡ left (state_in whole) (next_outcome whole))
+    held = left-holds whole (store_left whole) k.ready refl
 
-    state : stateIn (storeLeft whole) ≡ After
+    state : state_in (store_left whole) ≡ After
     unfolding left
-    state = held.1 ∙ ap (left (stateIn whole)) did-it
+    state = held.1 ∙ ap (left (state_in whole)) did-it
 
-    same-done : (stateIn (storeLeft whole)).done ≡ (stateIn whole).done
+    same-done : (state_in (store_left whole)).done ≡ (state_in whole).done
     unfolding taken
     same-done = ap (λ (s : State). s.done) state
 
-    nodes : (stateIn (storeLeft whole)).nodes ≡ set (stateIn whole).nodes x u.node
+    nodes : (state_in (store_left whole)).nodes ≡ set (state_in whole).nodes x u.node
     unfolding taken turn_of
     nodes = ap (λ (s : State). s.nodes) state
 
-    after-timers : Timers (planIn whole) (stateIn (storeLeft whole)) d.bound d.x
+    after-timers : Timers (plan_in whole) (state_in (store_left whole)) d.bound d.x
     after-timers =
-        timers-turn (planIn whole) (stateIn whole) (stateIn (storeLeft whole)) x u.node same-done nodes
+        timers-turn (plan_in whole) (state_in whole) (state_in (store_left whole)) x u.node same-done nodes
         (rw (ready-sound whole k.ready).nodes g.inside) c₁ d u.count h ts f.later
 
-    turn-underway : Underway b' q' d (storeLeft whole)
+    turn-underway : Underway b' q' d (store_left whole)
     turn-underway = record {
-      ready = left-ready whole (storeLeft whole) k.ready refl;
+      ready = left-ready whole (store_left whole) k.ready refl;
       apart = subst (Apart b' q' d.start d.end) (mid-left ∙ sym left_is) f.apart;
-      dead = f.later.dead ∙ (de ∙ (k.dead ∙ ap₂ crashedList (sym held.0) (sym same-done)));
-      timers = subst (λ (p : Plan). Timers p (stateIn (storeLeft whole)) d.bound d.x) (sym held.0) after-timers;
+      dead = f.later.dead ∙ (de ∙ (k.dead ∙ ap₂ crashed_list (sym held.0) (sym same-done)));
+      timers = subst (λ (p : Plan). Timers p (state_in (store_left whole)) d.bound d.x) (sym held.0) after-timers;
     }
 
   -- or refused
@@ -108,32 +108,32 @@ module _ (b q : List ℕ) (c c₁ : Progress) (whole mid : List ℕ) (k : Underw
 
 -- ---- a timer's turn
 
-same-flight : (s : State) → s ≡ withFlight s s.flight
-unfolding withFlight
+same-flight : (s : State) → s ≡ with_flight s s.flight
+unfolding with_flight
 same-flight s = refl
 
 module _ {b q : List ℕ} {c : Progress} {whole : List ℕ} (k : Underway b q c whole) {e : Event} {turn : Plan → Node → Turn}
     {tells : Node → Node → ℕ → Deed} (d : Timer whole c.bound c.x e turn tells) where
   -- what is asked for where the run's store is read for the turn
-  pub timer-asks : Acting b × ((c.bound ≤ mostTick) × (c.x < (planIn b).n))
+  pub timer-asks : Acting b × ((c.bound ≤ most_tick) × (c.x < (plan_in b).n))
   timer-asks = (apart-acting k.apart k.ready, (timer-tick d, rw (apart-plan k.apart) d.place))
 
   -- the run's store gives the turn u
-  module _ {u : Turned} (ue : u ≡ turned (turn (planIn b) (node_of (stateIn b) c.x))) where
-    turn_is : u ≡ turned (turn (planIn whole) (node_of (stateIn whole) c.x))
+  module _ {u : Turned} (ue : u ≡ turned (turn (plan_in b) (node_of (state_in b) c.x))) where
+    turn_is : u ≡ turned (turn (plan_in whole) (node_of (state_in whole) c.x))
     turn_is = ue ∙ ap₂ (λ (p : Plan) (n : Node). turned (turn p n)) (apart-plan k.apart) (apart-node k.apart c.x)
 
-    pub timer-settling : c.end + mostSent ≤ places → Settling b q c c.bound c.x u
+    pub timer-settling : c.end + most_sent ≤ places → Settling b q c c.bound c.x u
     timer-settling room = record { whole = whole; apart = k.apart; few = timer-count d turn_is; turns = timer-turns d turn_is; room = room }
 
-    module _ {l : Deed} (le : l ≡ tells (node_of (stateIn b) c.x) u.node u.passed) where
-      deed-is : l ≡ tells (node_of (stateIn whole) c.x) u.node u.passed
+    module _ {l : Deed} (le : l ≡ tells (node_of (state_in b) c.x) u.node u.passed) where
+      deed-is : l ≡ tells (node_of (state_in whole) c.x) u.node u.passed
       deed-is = le ∙ ap (λ (n : Node). tells n u.node u.passed) (apart-node k.apart c.x)
 
-      timer-given : Given whole whole (stateIn whole).flight c.bound c.x u l
+      timer-given : Given whole whole (state_in whole).flight c.bound c.x u l
       timer-given = record {
         plan = refl;
-        state = same-flight (stateIn whole);
+        state = same-flight (state_in whole);
         inside = d.place;
         entry = entry c.bound e;
         outcome = timer-did d turn_is;
@@ -143,5 +143,5 @@ module _ {b q : List ℕ} {c : Progress} {whole : List ℕ} (k : Underway b q c 
 
       pub timer-stepped : (r : Step) (b' q' : List ℕ) → Settled b q c c.bound c.x u l r b' q' → SteppedAs whole c r b' q'
       timer-stepped r b' q' s =
-          turn-stepped b q c c whole whole k (stateIn whole).flight c.bound c.x u l timer-given k.timers refl (omega arith) r b' q'
+          turn-stepped b q c c whole whole k (state_in whole).flight c.bound c.x u l timer-given k.timers refl (omega arith) r b' q'
           (s whole k.apart (timer-turns d turn_is))

@@ -13,15 +13,15 @@ use Rattle.node.specs.Node.{alone}
 use Rattle.node.specs.declared.Node.{Node}
 use Rattle.ring.specs.Ring.{listed}
 use Rattle.plans.specs.Plan.{Plan}
-use Rattle.model.specs.Platform.{InFlight, State, alive, node_of, crashedList}
+use Rattle.model.specs.Platform.{InFlight, State, alive, node_of, crashed_list}
 use Rattle.plans.specs.Plain.{row_at, Plain}
-use Rattle.store.specs.Store.{planIn, stateIn}
-use Rattle.store.specs.Inside.{withFlight}
-use Rattle.event.specs.Search.{crashTick, timerTick}
+use Rattle.store.specs.Store.{plan_in, state_in}
+use Rattle.store.specs.Inside.{with_flight}
+use Rattle.event.specs.Search.{crash_tick, timer_tick}
 use Rattle.event.proofs.Searching.{crashes-over, crash-first, live_of, dead-of, timer-none, timer-sooner, timer-later}
 use Rattle.queue.specs.declared.Row.{Row}
-use Rattle.queue.specs.Rows.{row_at as queueRow}
-use Rattle.queue.specs.Order.{insertBefore, ordered, Every, From, Rising}
+use Rattle.queue.specs.Rows.{row_at as queue_row}
+use Rattle.queue.specs.Order.{insert_before, ordered, Every, From, Rising}
 use Rattle.queue.specs.Holds.{Holds, Head, packed, due}
 use Rattle.queue.proofs.Orders.{rising-ordered}
 use Rattle.queue.proofs.Queues.{holds-none, holds-head}
@@ -32,7 +32,7 @@ use Rattle.course.proofs.Parting.{apart-plan, apart-state, apart-done}
 -- ---- crashes
 
 -- what the search for the first one that is not done finds
-pub crash-at : (p : Plan) → Plain p → (s : State) (r : ℕ) → r ≡ crashTick p s.done → CrashAt p s r
+pub crash-at : (p : Plan) → Plain p → (s : State) (r : ℕ) → r ≡ crash_tick p s.done → CrashAt p s r
 crash-at p pl s r e = go (dec_lt s.done (length p.crashes))
   where
     go : Dec (s.done < length p.crashes) → CrashAt p s r
@@ -54,47 +54,47 @@ crash-at p pl s r e = go (dec_lt s.done (length p.crashes))
 -- ---- what is found in a run's store holds of the whole one
 
 module _ (p : Plan) (s : State) (ms : List InFlight) where
-  timers-any : (t x : ℕ) → Timers p (withFlight s ms) t x → Timers p s t x
-  unfolding withFlight
+  timers-any : (t x : ℕ) → Timers p (with_flight s ms) t x → Timers p s t x
+  unfolding with_flight
   timers-any t x h = record { watch = h.watch; heartbeat = h.heartbeat; passed = h.passed }
 
-  timers-none : (t x : ℕ) → Timers p s t x → Timers p (withFlight s ms) t x
-  unfolding withFlight
+  timers-none : (t x : ℕ) → Timers p s t x → Timers p (with_flight s ms) t x
+  unfolding with_flight
   timers-none t x h = record { watch = h.watch; heartbeat = h.heartbeat; passed = h.passed }
 
-  timer-any : (t r : ℕ) → TimerAt p (withFlight s ms) t r → TimerAt p s t r
-  unfolding withFlight
+  timer-any : (t r : ℕ) → TimerAt p (with_flight s ms) t r → TimerAt p s t r
+  unfolding with_flight
   timer-any t r h = record { timers = timers-any t r h.timers; within = h.within; here = h.here }
 
 module _ {b q whole : List ℕ} {start end : ℕ} (s : Apart b q start end whole) where
-  pub whole-crash : Plain (planIn whole) → (r : ℕ) → r ≡ crashTick (planIn b) (stateIn b).done → CrashAt (planIn whole) (stateIn whole) r
-  whole-crash pl r e = crash-at (planIn whole) pl (stateIn whole) r (e ∙ ap₂ crashTick (apart-plan s) (apart-done s))
+  pub whole-crash : Plain (plan_in whole) → (r : ℕ) → r ≡ crash_tick (plan_in b) (state_in b).done → CrashAt (plan_in whole) (state_in whole) r
+  whole-crash pl r e = crash-at (plan_in whole) pl (state_in whole) r (e ∙ ap₂ crash_tick (apart-plan s) (apart-done s))
 
-  pub whole-timers : (t x : ℕ) → Timers (planIn b) (stateIn b) t x → Timers (planIn whole) (stateIn whole) t x
-  whole-timers t x h = timers-any (planIn whole) (stateIn whole) [] t x (rw (apart-plan s, apart-state s) at h)
+  pub whole-timers : (t x : ℕ) → Timers (plan_in b) (state_in b) t x → Timers (plan_in whole) (state_in whole) t x
+  whole-timers t x h = timers-any (plan_in whole) (state_in whole) [] t x (rw (apart-plan s, apart-state s) at h)
 
-  pub whole-timer : (t r : ℕ) → TimerAt (planIn b) (stateIn b) t r → TimerAt (planIn whole) (stateIn whole) t r
-  whole-timer t r h = timer-any (planIn whole) (stateIn whole) [] t r (rw (apart-plan s, apart-state s) at h)
+  pub whole-timer : (t r : ℕ) → TimerAt (plan_in b) (state_in b) t r → TimerAt (plan_in whole) (state_in whole) t r
+  whole-timer t r h = timer-any (plan_in whole) (state_in whole) [] t r (rw (apart-plan s, apart-state s) at h)
 
-  pub timer-less : (x n : ℕ) → n ≡ (planIn b).n → x < n → x < (planIn whole).n
+  pub timer-less : (x n : ℕ) → n ≡ (plan_in b).n → x < n → x < (plan_in whole).n
   timer-less x n e h = omega (arith, ap (λ (p : Plan). p.n) (apart-plan s), e, h)
 
   -- and a run's store has what a look asks for
-  pub apart-dead : (dead : ℕ) → dead ≡ crashedList (planIn whole) (stateIn whole).done → dead ≡ crashedList (planIn b) (stateIn b).done
-  apart-dead dead e = e ∙ sym (ap₂ crashedList (apart-plan s) (apart-done s))
+  pub apart-dead : (dead : ℕ) → dead ≡ crashed_list (plan_in whole) (state_in whole).done → dead ≡ crashed_list (plan_in b) (state_in b).done
+  apart-dead dead e = e ∙ sym (ap₂ crashed_list (apart-plan s) (apart-done s))
 
-  pub apart-timers : (t x : ℕ) → Timers (planIn whole) (stateIn whole) t x → Timers (planIn b) (stateIn b) t x
-  apart-timers t x h = rw (apart-plan s, apart-state s) (timers-none (planIn whole) (stateIn whole) [] t x h)
+  pub apart-timers : (t x : ℕ) → Timers (plan_in whole) (state_in whole) t x → Timers (plan_in b) (state_in b) t x
+  apart-timers t x h = rw (apart-plan s, apart-state s) (timers-none (plan_in whole) (state_in whole) [] t x h)
 
 -- ---- messages
 
-from-inserted : (k : ℕ) (m : InFlight) (l : List InFlight) → From due k (insertBefore due m l) → (k ≤ m.due) × From due k l
-unfolding Every insertBefore
+from-inserted : (k : ℕ) (m : InFlight) (l : List InFlight) → From due k (insert_before due m l) → (k ≤ m.due) × From due k l
+unfolding Every insert_before
 from-inserted k m [] f = (f.0, tt)
 from-inserted k m (x ∷ xs) f = go (leb (due m) (due x)) f (from-inserted k m xs)
   where
-    go : (b : Bool) → From due k (cond b (m ∷ (x ∷ xs)) (x ∷ insertBefore due m xs))
-        → (From due k (insertBefore due m xs) → (k ≤ m.due) × From due k xs) → (k ≤ m.due) × From due k (x ∷ xs)
+    go : (b : Bool) → From due k (cond b (m ∷ (x ∷ xs)) (x ∷ insert_before due m xs))
+        → (From due k (insert_before due m xs) → (k ≤ m.due) × From due k xs) → (k ≤ m.due) × From due k (x ∷ xs)
     go true g ih = (g.0, g.1)
     go false g ih = let r = ih g.1 in (r.0, (g.0, r.1))
 
@@ -129,7 +129,7 @@ module _ (q : List ℕ) (start end : ℕ) (flight : List InFlight) (h : Holds q 
         here = λ k. absurd (omega arith);
       }
 
-  module _ (l : start < end) (row : Row) (re : row ≡ queueRow q start) where
+  module _ (l : start < end) (row : Row) (re : row ≡ queue_row q start) where
     first-least : (g : InFlight) → Memᴰ g flight → row.due ≤ g.due
     unfolding packed
     first-least g m =
@@ -165,7 +165,7 @@ module _ (p : Plan) (s : State) (t : ℕ) where
   timer-nowhere i n h e l = record { timers = passed-less i n h l; within = omega arith; here = λ k. absurd (omega arith) }
 
 -- node i as the code looks at it: l is whether it is listed among the dead
-module _ (p : Plan) (pl : Plain p) (s : State) (dead : ℕ) (de : dead ≡ crashedList p s.done) (i : ℕ) (l : Bool) (le : l ≡ listed dead i) where
+module _ (p : Plan) (pl : Plain p) (s : State) (dead : ℕ) (de : dead ≡ crashed_list p s.done) (i : ℕ) (l : Bool) (le : l ≡ listed dead i) where
   is-dead : l ≡ true → alive p s.done i ≡ false
   is-dead h = dead-of p pl s.done i (ap (λ (d : ℕ). listed d i) (sym de) ∙ (sym le ∙ h))
 
@@ -207,26 +207,26 @@ module _ (p : Plan) (pl : Plain p) (s : State) (dead : ℕ) (de : dead ≡ crash
 
 -- ---- the earliest timer
 
-pub timer-le : (t v : ℕ) → timerTick t v ≤ t
+pub timer-le : (t v : ℕ) → timer_tick t v ≤ t
 timer-le t v = go (ℕ_discrete v 0) (dec_lt (v - 1) t)
   where
-    go : Dec (v ≡ 0) → Dec (v - 1 < t) → timerTick t v ≤ t
+    go : Dec (v ≡ 0) → Dec (v - 1 < t) → timer_tick t v ≤ t
     go (yes e) d = omega (arith, timer-none t v e)
     go (no n) (yes h) = omega (arith, timer-sooner t v (v - 1) n refl h)
     go (no n) (no h) = omega (arith, timer-later t v (v - 1) n refl (omega arith))
 
-pub timer-under : (t v : ℕ) → v ≢ 0 → timerTick t v < v
+pub timer-under : (t v : ℕ) → v ≢ 0 → timer_tick t v < v
 timer-under t v n = go (dec_lt (v - 1) t) (ℕ_discrete v 0)
   where
-    go : Dec (v - 1 < t) → Dec (v ≡ 0) → timerTick t v < v
+    go : Dec (v - 1 < t) → Dec (v ≡ 0) → timer_tick t v < v
     go d (yes e) = absurd (n e)
     go (yes h) (no z) = omega (arith, timer-sooner t v (v - 1) n refl h)
     go (no h) (no z) = omega (arith, timer-later t v (v - 1) n refl (omega arith))
 
-timer-above : (t l v : ℕ) → t < l → (v ≢ 0 → suc t < v) → t < timerTick l v
+timer-above : (t l v : ℕ) → t < l → (v ≢ 0 → suc t < v) → t < timer_tick l v
 timer-above t l v h f = go (ℕ_discrete v 0) (dec_lt (v - 1) l)
   where
-    go : Dec (v ≡ 0) → Dec (v - 1 < l) → t < timerTick l v
+    go : Dec (v ≡ 0) → Dec (v - 1 < l) → t < timer_tick l v
     go (yes e) d = omega (arith, timer-none l v e)
     go (no n) (yes k) = omega (arith, timer-sooner l v (v - 1) n refl k, f n)
     go (no n) (no k) = omega (arith, timer-later l v (v - 1) n refl (omega arith))
@@ -236,7 +236,7 @@ module _
     (pl : Plain p)
     (s : State)
     (dead : ℕ)
-    (de : dead ≡ crashedList p s.done)
+    (de : dead ≡ crashed_list p s.done)
     (i : ℕ)
     (l : Bool)
     (le : l ≡ listed dead i)
@@ -249,8 +249,8 @@ module _
     above = λ t k f. k;
   }
 
-  module _ (h : l ≡ false) (a : Node) (ae : a ≡ node_of s i) (w z : ℕ) (we : w ≡ timerTick least a.watch)
-      (ze : z ≡ timerTick w a.heartbeat) where
+  module _ (h : l ≡ false) (a : Node) (ae : a ≡ node_of s i) (w z : ℕ) (we : w ≡ timer_tick least a.watch)
+      (ze : z ≡ timer_tick w a.heartbeat) where
     abbrev x : ℕ
     x = (node_of s i).watch
 
@@ -260,11 +260,11 @@ module _
     live : alive p s.done i ≡ true
     live = is_live p pl s dead de i l le h
 
-    xe : w ≡ timerTick least x
-    xe = we ∙ ap (λ (m : Node). timerTick least m.watch) ae
+    xe : w ≡ timer_tick least x
+    xe = we ∙ ap (λ (m : Node). timer_tick least m.watch) ae
 
-    ye : z ≡ timerTick w y
-    ye = ze ∙ ap (λ (m : Node). timerTick w m.heartbeat) ae
+    ye : z ≡ timer_tick w y
+    ye = ze ∙ ap (λ (m : Node). timer_tick w m.heartbeat) ae
 
     pub sooner-live : SoonerOf p s i least z
     sooner-live = record {

@@ -9,14 +9,14 @@ use Rattle.node.specs.declared.Node.{Node}
 use Rattle.node.specs.declared.Message.{Message}
 use Rattle.node.specs.declared.Turned.{Turned}
 use Rattle.node.specs.Node.{alone}
-use Rattle.limits.specs.Limits.{mostSent}
-use Rattle.plans.specs.Plan.{Plan, planTest}
+use Rattle.limits.specs.Limits.{most_sent}
+use Rattle.plans.specs.Plan.{Plan, plan_test}
 use Rattle.model.specs.Platform.{InFlight, State, node_of}
-use Rattle.store.specs.Store.{encode, planIn, stateIn}
-use Rattle.store.specs.Inside.{SmallNode, Fits, Held, withFlight, withTick, withNode, numberTaken}
+use Rattle.store.specs.Store.{encode, plan_in, state_in}
+use Rattle.store.specs.Inside.{SmallNode, Fits, Held, with_flight, with_tick, with_node, number_taken}
 use Rattle.store.proofs.Store.{plan-encode, state-encode, held-encode}
 use Rattle.store.proofs.States.{tick-fits, node-fits}
-use Rattle.event.specs.Event.{Turns, sending, sendsLeft, turnLeft}
+use Rattle.event.specs.Event.{Turns, sending, sends_left, turn_left}
 use Rattle.event.specs.Ready.{Ready}
 use Rattle.event.specs.Acting.{Acting, stamped, joined}
 use Rattle.event.proofs.Readiness.{ready-acting}
@@ -34,25 +34,25 @@ module _ {b q whole : List ℕ} {start end : ℕ} (s : Apart b q start end whole
   pub apart-held : Held b
   apart-held = rw s.is (bare-held whole s.held)
 
-  pub apart-plan : planIn b ≡ planIn whole
-  apart-plan = ap planIn s.is ∙ bare-plan whole s.held
+  pub apart-plan : plan_in b ≡ plan_in whole
+  apart-plan = ap plan_in s.is ∙ bare-plan whole s.held
 
-  pub apart-state : stateIn b ≡ withFlight (stateIn whole) []
-  apart-state = ap stateIn s.is ∙ bare-state whole s.held
+  pub apart-state : state_in b ≡ with_flight (state_in whole) []
+  apart-state = ap state_in s.is ∙ bare-state whole s.held
 
-  pub apart-done : (stateIn b).done ≡ (stateIn whole).done
-  unfolding withFlight
+  pub apart-done : (state_in b).done ≡ (state_in whole).done
+  unfolding with_flight
   apart-done = ap (λ (z : State). z.done) apart-state
 
-  apart_next : (stateIn b).next ≡ (stateIn whole).next
-  unfolding withFlight
+  apart_next : (state_in b).next ≡ (state_in whole).next
+  unfolding with_flight
   apart_next = ap (λ (z : State). z.next) apart-state
 
-  apart-nodes : (stateIn b).nodes ≡ (stateIn whole).nodes
-  unfolding withFlight
+  apart-nodes : (state_in b).nodes ≡ (state_in whole).nodes
+  unfolding with_flight
   apart-nodes = ap (λ (z : State). z.nodes) apart-state
 
-  pub apart-node : (i : ℕ) → node_of (stateIn b) i ≡ node_of (stateIn whole) i
+  pub apart-node : (i : ℕ) → node_of (state_in b) i ≡ node_of (state_in whole) i
   apart-node i = ap (λ (l : List Node). get_or l i (alone i 0 0)) apart-nodes
 
   pub apart-acting : Ready whole → Acting b
@@ -60,7 +60,7 @@ module _ {b q whole : List ℕ} {start end : ℕ} (s : Apart b q start end whole
       let a : Acting whole = ready-acting whole r in
       record {
         held = apart-held;
-        plan = ap planTest apart-plan ∙ a.plan;
+        plan = ap plan_test apart-plan ∙ a.plan;
         done = rw (apart-done, apart-plan) a.done;
         emitter = λ j h. rw (apart-node j, apart-plan) (a.emitter j (rw apart-plan at h));
       }
@@ -69,25 +69,25 @@ module _ {b q whole : List ℕ} {start end : ℕ} (s : Apart b q start end whole
 
 module _
     (f : State → State)
-    (over : (s : State) (ms : List InFlight) → f (withFlight s ms) ≡ withFlight (f s) ms)
+    (over : (s : State) (ms : List InFlight) → f (with_flight s ms) ≡ with_flight (f s) ms)
     (same : (s : State) → (f s).flight ≡ s.flight)
     {b q whole : List ℕ}
     {start end : ℕ}
     (s : Apart b q start end whole)
-    (fits : Fits (planIn whole) (f (stateIn whole))) where
+    (fits : Fits (plan_in whole) (f (state_in whole))) where
   abbrev changed : List ℕ
-  changed = encode (planIn whole) (f (stateIn whole))
+  changed = encode (plan_in whole) (f (state_in whole))
 
-  flight-same : (stateIn changed).flight ≡ (stateIn whole).flight
-  flight-same = ap (λ (z : State). z.flight) (state-encode (planIn whole) (f (stateIn whole)) fits) ∙ same (stateIn whole)
+  flight-same : (state_in changed).flight ≡ (state_in whole).flight
+  flight-same = ap (λ (z : State). z.flight) (state-encode (plan_in whole) (f (state_in whole)) fits) ∙ same (state_in whole)
 
-  pub apart-both : (b' : List ℕ) → b' ≡ encode (planIn b) (f (stateIn b)) → Apart b' q start end changed
+  pub apart-both : (b' : List ℕ) → b' ≡ encode (plan_in b) (f (state_in b)) → Apart b' q start end changed
   apart-both b' e = record {
-    held = held-encode (planIn whole) (f (stateIn whole)) fits;
+    held = held-encode (plan_in whole) (f (state_in whole)) fits;
     is =
         e
         ∙ (ap₂ (λ (p : Plan) (z : State). encode p (f z)) (apart-plan s) (apart-state s)
-        ∙ (ap (encode (planIn whole)) (over (stateIn whole) []) ∙ sym (bare-encode (planIn whole) (f (stateIn whole)) fits)));
+        ∙ (ap (encode (plan_in whole)) (over (state_in whole) []) ∙ sym (bare-encode (plan_in whole) (f (state_in whole)) fits)));
     holds = subst (Holds q start end) (sym flight-same) s.holds;
   }
 
@@ -95,16 +95,16 @@ module _
 
 module _ (whole : List ℕ) (t x : ℕ) (u : Turned) where
   -- the whole store's state when the first i messages are sent, and the store itself
-  abbrev stateAt : ℕ → State
-  stateAt i = sending (planIn whole) (stateIn whole) t x (take i u.sent)
+  abbrev state_at : ℕ → State
+  state_at i = sending (plan_in whole) (state_in whole) t x (take i u.sent)
 
-  abbrev storeAt : ℕ → List ℕ
-  storeAt i = encode (planIn whole) (stateAt i)
+  abbrev store_at : ℕ → List ℕ
+  store_at i = encode (plan_in whole) (state_at i)
 
   -- the first i messages are sent
   pub record Sent (start end i : ℕ) (b q : List ℕ) : Type 0 where
-    pub fits : Fits (planIn whole) (stateAt i)
-    pub apart : Apart b q start (end + i) (storeAt i)
+    pub fits : Fits (plan_in whole) (state_at i)
+    pub apart : Apart b q start (end + i) (store_at i)
 
   pub sent-starts : (start end : ℕ) (b q : List ℕ) → Apart b q start end whole → Sent start end 0 b q
   sent-starts start end b q s =
@@ -114,109 +114,109 @@ module _ (whole : List ℕ) (t x : ℕ) (u : Turned) where
 
   -- all are sent
   pub sent-all : (start end i : ℕ) (b q : List ℕ) → Sent start end i b q → i ≡ u.count
-      → Apart b q start (end + u.count) (sendsLeft whole t x u)
-  sent-all start end i b q s e = subst (λ (k : ℕ). Apart b q start (end + k) (storeAt k)) e s.apart
+      → Apart b q start (end + u.count) (sends_left whole t x u)
+  sent-all start end i b q s e = subst (λ (k : ℕ). Apart b q start (end + k) (store_at k)) e s.apart
 
   module _ (r : Turns whole t x u) (start end i : ℕ) (b q : List ℕ) (s : Sent start end i b q) where
-    going : Sending whole t x u.sent i (storeAt i)
+    going : Sending whole t x u.sent i (store_at i)
     going = record { is = refl; fits = s.fits }
 
-    pub sent-plan : planTest (planIn b) ≡ true
-    sent-plan = ap planTest (apart-plan s.apart) ∙ sending-test whole t x u r i (storeAt i) going
+    pub sent-plan : plan_test (plan_in b) ≡ true
+    sent-plan = ap plan_test (apart-plan s.apart) ∙ sending-test whole t x u r i (store_at i) going
 
     module _ (less : i < u.count) where
-      pub sent-number : (stateIn b).next + 1 < 256 ^ 8
-      sent-number = rw (apart_next s.apart) (sending-number whole t x u r i (storeAt i) going less)
+      pub sent-number : (state_in b).next + 1 < 256 ^ 8
+      sent-number = rw (apart_next s.apart) (sending-number whole t x u r i (store_at i) going less)
 
-      pub sent-open : end + mostSent ≤ places → Open q 0 start (end + i)
-      sent-open room = holds-open q start (end + i) (stateIn (storeAt i)).flight s.apart.holds (omega (arith, r.few))
+      pub sent-open : end + most_sent ≤ places → Open q 0 start (end + i)
+      sent-open room = holds-open q start (end + i) (state_in (store_at i)).flight s.apart.holds (omega (arith, r.few))
 
       -- message m, read from the turn's messages, is stamped, and its row is put into the queue
       module _
           (z m : Message)
           (is : m ≡ get_or u.sent i z)
           (f : InFlight)
-          (fe : f ≡ stamped (planIn b) (stateIn b).next t x m) where
+          (fe : f ≡ stamped (plan_in b) (state_in b).next t x m) where
         abbrev M : InFlight
-        M = stamped (planIn whole) (stateAt i).next t x m
+        M = stamped (plan_in whole) (state_at i).next t x m
 
-        plan-is : planIn b ≡ planIn whole
-        plan-is = apart-plan s.apart ∙ plan-encode (planIn whole) (stateAt i) s.fits
+        plan-is : plan_in b ≡ plan_in whole
+        plan-is = apart-plan s.apart ∙ plan-encode (plan_in whole) (state_at i) s.fits
 
-        whole_is : stateIn (storeAt i) ≡ stateAt i
-        whole_is = state-encode (planIn whole) (stateAt i) s.fits
+        whole_is : state_in (store_at i) ≡ state_at i
+        whole_is = state-encode (plan_in whole) (state_at i) s.fits
 
-        state-is : stateIn b ≡ withFlight (stateAt i) []
-        state-is = apart-state s.apart ∙ ap (λ (y : State). withFlight y []) whole_is
+        state-is : state_in b ≡ with_flight (state_at i) []
+        state-is = apart-state s.apart ∙ ap (λ (y : State). with_flight y []) whole_is
 
         stamp-is : f ≡ M
-        unfolding withFlight
+        unfolding with_flight
         stamp-is = fe ∙ ap₂ (λ (p : Plan) (y : State). stamped p y.next t x m) plan-is state-is
 
-        more : joined (planIn whole) (stateAt i) t x m ≡ stateAt (i + 1)
+        more : joined (plan_in whole) (state_at i) t x m ≡ state_at (i + 1)
         more =
-            ap (joined (planIn whole) (stateAt i) t x) is
-            ∙ sym (sending-more (planIn whole) t x (stateIn whole) u.sent i z (omega (arith, r.few, r.full)))
+            ap (joined (plan_in whole) (state_at i) t x) is
+            ∙ sym (sending-more (plan_in whole) t x (state_in whole) u.sent i z (omega (arith, r.few, r.full)))
 
-        more-fits : Fits (planIn whole) (stateAt (i + 1))
-        more-fits = (sending-next whole t x u r i (storeAt i) going less _ refl z m is _ refl _ refl).fits
+        more-fits : Fits (plan_in whole) (state_at (i + 1))
+        more-fits = (sending-next whole t x u r i (store_at i) going less _ refl z m is _ refl _ refl).fits
 
         -- the number is taken in the store, and the message joins those of the whole one
-        taken-bare : numberTaken (withFlight (stateAt i) []) ≡ withFlight (joined (planIn whole) (stateAt i) t x m) []
-        unfolding numberTaken withFlight joined
+        taken-bare : number_taken (with_flight (state_at i) []) ≡ with_flight (joined (plan_in whole) (state_at i) t x m) []
+        unfolding number_taken with_flight joined
         taken-bare = refl
 
-        more-flight : (stateIn (storeAt i)).flight ++ (M ∷ []) ≡ (stateIn (storeAt (i + 1))).flight
-        unfolding numberTaken withFlight joined
+        more-flight : (state_in (store_at i)).flight ++ (M ∷ []) ≡ (state_in (store_at (i + 1))).flight
+        unfolding number_taken with_flight joined
         more-flight =
             ap (λ (y : State). y.flight ++ (M ∷ [])) whole_is
-            ∙ ap (λ (y : State). y.flight) (more ∙ sym (state-encode (planIn whole) (stateAt (i + 1)) more-fits))
+            ∙ ap (λ (y : State). y.flight) (more ∙ sym (state-encode (plan_in whole) (state_at (i + 1)) more-fits))
 
         module _
             (row : Row)
             (re : row ≡ packed f)
-            (room : end + mostSent ≤ places)
+            (room : end + most_sent ≤ places)
             (b' q' : List ℕ)
-            (e : b' ≡ encode (planIn b) (numberTaken (stateIn b)))
+            (e : b' ≡ encode (plan_in b) (number_taken (state_in b)))
             (pl : Placed q 0 start (end + i) row q') where
           placed : Placed q 0 start (end + i) (packed M) q'
           placed = subst (λ (y : Row). Placed q 0 start (end + i) y q') (re ∙ ap packed stamp-is) pl
 
-          sent-apart : Apart b' q' start (suc (end + i)) (storeAt (i + 1))
+          sent-apart : Apart b' q' start (suc (end + i)) (store_at (i + 1))
           sent-apart = record {
-            held = held-encode (planIn whole) (stateAt (i + 1)) more-fits;
+            held = held-encode (plan_in whole) (state_at (i + 1)) more-fits;
             is =
                 e
-                ∙ (ap₂ (λ (p : Plan) (y : State). encode p (numberTaken y)) plan-is state-is
-                ∙ (ap (encode (planIn whole)) (taken-bare ∙ ap (λ (y : State). withFlight y []) more)
-                ∙ sym (bare-encode (planIn whole) (stateAt (i + 1)) more-fits)));
+                ∙ (ap₂ (λ (p : Plan) (y : State). encode p (number_taken y)) plan-is state-is
+                ∙ (ap (encode (plan_in whole)) (taken-bare ∙ ap (λ (y : State). with_flight y []) more)
+                ∙ sym (bare-encode (plan_in whole) (state_at (i + 1)) more-fits)));
             holds =
                 subst (Holds q' start (suc (end + i))) more-flight
-                (holds-push q q' start (end + i) (stateIn (storeAt i)).flight M s.apart.holds (omega (arith, r.few)) placed);
+                (holds-push q q' start (end + i) (state_in (store_at i)).flight M s.apart.holds (omega (arith, r.few)) placed);
           }
 
           pub sent-turn : Sent start end (i + 1) b' q'
           sent-turn =
               let y : suc (end + i) ≡ end + (i + 1) = omega arith in
-              record { fits = more-fits; apart = subst (λ (k : ℕ). Apart b' q' start k (storeAt (i + 1))) y sent-apart }
+              record { fits = more-fits; apart = subst (λ (k : ℕ). Apart b' q' start k (store_at (i + 1))) y sent-apart }
 
 -- ---- a whole turn: the tick and the node, then the messages
 
 module _ (t x : ℕ) (a : Node) where
   abbrev moved : State → State
-  moved s = withNode (withTick s t) x a
+  moved s = with_node (with_tick s t) x a
 
-  moved-over : (s : State) (ms : List InFlight) → moved (withFlight s ms) ≡ withFlight (moved s) ms
-  unfolding withTick withNode withFlight
+  moved-over : (s : State) (ms : List InFlight) → moved (with_flight s ms) ≡ with_flight (moved s) ms
+  unfolding with_tick with_node with_flight
   moved-over s ms = refl
 
   moved_same : (s : State) → (moved s).flight ≡ s.flight
-  unfolding withTick withNode
+  unfolding with_tick with_node
   moved_same s = refl
 
   moved-fits : (p : Plan) (s : State) → Fits p s → t < 256 ^ 4 → x < length s.nodes → SmallNode a → Fits p (moved s)
-  unfolding withTick
-  moved-fits p s f h l k = node-fits p (withTick s t) (tick-fits p s f t h) x a l k
+  unfolding with_tick
+  moved-fits p s f h l k = node-fits p (with_tick s t) (tick-fits p s f t h) x a l k
 
 module _
     (b q : List ℕ)
@@ -225,16 +225,16 @@ module _
     (whole : List ℕ)
     (s : Apart b q start end whole)
     (r : Turns whole t x u) where
-  pub turn-place : x < (planIn b).n
+  pub turn-place : x < (plan_in b).n
   turn-place = rw (apart-plan s) r.place
 
-  module _ (d : List ℕ) (k : d ≡ encode (planIn b) (moved t x u.node (stateIn b))) where
+  module _ (d : List ℕ) (k : d ≡ encode (plan_in b) (moved t x u.node (state_in b))) where
     abbrev Moved : List ℕ
-    Moved = encode (planIn whole) (moved t x u.node (stateIn whole))
+    Moved = encode (plan_in whole) (moved t x u.node (state_in whole))
 
-    turn-fits : Fits (planIn whole) (moved t x u.node (stateIn whole))
+    turn-fits : Fits (plan_in whole) (moved t x u.node (state_in whole))
     turn-fits =
-        moved-fits t x u.node (planIn whole) (stateIn whole) s.held.fits (omega (arith, r.tick)) (rw s.held.fits.nodes r.place)
+        moved-fits t x u.node (plan_in whole) (state_in whole) s.held.fits (omega (arith, r.tick)) (rw s.held.fits.nodes r.place)
         r.node
 
     pub turn_moved : Apart d q start end Moved
@@ -243,7 +243,7 @@ module _
     pub turn-turns : Turns Moved t x u
     turn-turns = moved-turns whole t x u r Moved refl
 
-    pub turn-over : (b' q' : List ℕ) → Sends d q start end t x u b' q' → Apart b' q' start (end + u.count) (turnLeft whole t x u)
+    pub turn-over : (b' q' : List ℕ) → Sends d q start end t x u b' q' → Apart b' q' start (end + u.count) (turn_left whole t x u)
     turn-over b' q' h =
-        subst (Apart b' q' start (end + u.count)) (turn-taken whole t x u r Moved refl (sendsLeft Moved t x u) refl)
+        subst (Apart b' q' start (end + u.count)) (turn-taken whole t x u r Moved refl (sends_left Moved t x u) refl)
         (h Moved turn_moved turn-turns)

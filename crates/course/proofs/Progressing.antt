@@ -12,8 +12,8 @@ use Rattle.node.specs.declared.Node.{Node}
 use Rattle.node.specs.Node.{alone}
 use Rattle.plans.specs.Plan.{Plan}
 use Rattle.model.specs.Platform.{State, alive, node_of}
-use Rattle.store.specs.Store.{stateIn}
-use Rattle.event.specs.Search.{timerTick}
+use Rattle.store.specs.Store.{state_in}
+use Rattle.event.specs.Search.{timer_tick}
 use Rattle.queue.proofs.Queues.{holds-count}
 use Rattle.course.specs.declared.Progress.{Progress}
 use Rattle.course.specs.Apart.{Apart}
@@ -23,7 +23,7 @@ use Rattle.course.proofs.Looking.{timer-le, timer-under}
 
 -- ---- how far the run is after a turn
 
-module _ (c : Progress) (count : ℕ) (a : Node) (w b : ℕ) (we : w ≡ timerTick c.bound a.watch) (be : b ≡ timerTick w a.heartbeat) where
+module _ (c : Progress) (count : ℕ) (a : Node) (w b : ℕ) (we : w ≡ timer_tick c.bound a.watch) (be : b ≡ timer_tick w a.heartbeat) where
   low : b ≤ c.bound
   low = omega (arith, we, be, timer-le c.bound a.watch, timer-le w a.heartbeat)
 
@@ -60,8 +60,8 @@ pub later-apart : (b q : List ℕ) (c d : Progress) (count : ℕ) (a : Node) (wh
 later-apart b q c d count a whole l s =
     subst (λ (k : ℕ). Apart b q k d.end whole) (sym l.start) (subst (λ (k : ℕ). Apart b q c.start k whole) (sym l.end) s)
 
-pub apart-count : (b q : List ℕ) (start end : ℕ) (whole : List ℕ) → Apart b q start end whole → length (stateIn whole).flight ≡ end - start
-apart-count b q start end whole s = holds-count q start end (stateIn whole).flight s.holds
+pub apart-count : (b q : List ℕ) (start end : ℕ) (whole : List ℕ) → Apart b q start end whole → length (state_in whole).flight ≡ end - start
+apart-count b q start end whole s = holds-count q start end (state_in whole).flight s.holds
 
 -- ---- timers after a turn of node y
 

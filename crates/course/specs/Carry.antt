@@ -1,12 +1,12 @@
 -- Messages as rows, on their way out of a store and back. Assumes nothing.
 use Rattle.std.specs.Prelude.{List, map, ◌≡◌, ℕ, ◌≤◌, length}
 use Rattle.model.specs.Platform.{InFlight}
-use Rattle.store.specs.Store.{stateIn}
+use Rattle.store.specs.Store.{state_in}
 use Rattle.store.specs.declared.Flight.{Flight}
 use Rattle.event.specs.Ready.{Ready}
 use Rattle.queue.specs.declared.Row.{Row}
 use Rattle.queue.specs.Rows.{places, size, rows}
-use Rattle.queue.specs.Holds.{packed, kindIn, fromIn, toIn, subjectIn}
+use Rattle.queue.specs.Holds.{packed, kind_in, from_in, to_in, subject_in}
 use Rattle.course.specs.Apart.{bare}
 
 -- a row as a message that is due at tick t
@@ -14,10 +14,10 @@ unfoldable pub unpacked : Row → ℕ → Flight
 unpacked r t = record {
   number = r.number;
   due = t;
-  kind = kindIn r.word;
-  from = fromIn r.word;
-  to = toIn r.word;
-  subject = subjectIn r.word;
+  kind = kind_in r.word;
+  from = from_in r.word;
+  to = to_in r.word;
+  subject = subject_in r.word;
   list = r.list;
 }
 
@@ -31,4 +31,4 @@ pub record Listed (q : List ℕ) (n : ℕ) (flight : List InFlight) : Type 0 whe
 pub record Emptied (b q : List ℕ) (n : ℕ) (whole : List ℕ) : Type 0 where
   pub ready : Ready whole
   pub is : b ≡ bare whole
-  pub listed : Listed q n (stateIn whole).flight
+  pub listed : Listed q n (state_in whole).flight

@@ -4,7 +4,7 @@ use mathlib.Core.List.{List, Memᴰ}
 use Rattle.plans.specs.Plan.{Plan}
 use Rattle.model.specs.Platform.{InFlight, State, alive, node_of}
 use Rattle.plans.specs.Plain.{row_at}
-use Rattle.queue.specs.Rows.{row_at as queueRow}
+use Rattle.queue.specs.Rows.{row_at as queue_row}
 
 -- r is the tick of the first crash that is not done, or the one after the end tick
 pub record CrashAt (p : Plan) (s : State) (r : ℕ) : Type 0 where
@@ -16,7 +16,7 @@ pub record CrashAt (p : Plan) (s : State) (r : ℕ) : Type 0 where
 pub record DueAt (q : List ℕ) (start end : ℕ) (flight : List InFlight) (never r : ℕ) : Type 0 where
   pub within : r ≤ never
   pub all : (g : InFlight) → Memᴰ g flight → r ≤ g.due
-  pub here : r < never → (start < end) × ((queueRow q start).due ≡ r)
+  pub here : r < never → (start < end) × ((queue_row q start).due ≡ r)
 
 -- ---- timers: a timer is 0, or one more than its tick
 

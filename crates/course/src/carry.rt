@@ -1,8 +1,8 @@
 // The messages in flight taken out of a store into a queue, and put back.
 ghost use Rattle.std.specs.Prelude.{List, ◌≡◌, ℕ, length};
 ghost use Rattle.model.specs.Platform.{InFlight};
-ghost use Rattle.store.specs.Store.{stateIn};
-ghost use Rattle.store.specs.Inside.{Held, messageOf};
+ghost use Rattle.store.specs.Store.{state_in};
+ghost use Rattle.store.specs.Inside.{Held, message_of};
 ghost use Rattle.event.specs.Ready.{Ready};
 ghost use Rattle.queue.specs.Order.{Climbing};
 ghost use Rattle.queue.specs.Rows.{size};
@@ -15,7 +15,7 @@ use store::{Flight, messages};
 
 // A message as a row.
 pub fn pack(m: Flight) -> Row
-    ensures { result ≡ packed (messageOf m) }
+    ensures { result ≡ packed (message_of m) }
 {
     let word = queue::word_of(m.kind, m.from, m.to, m.subject);
     Row {
@@ -49,7 +49,7 @@ pub fn unpack(r: Row, t: u32) -> Flight
 fn list(b: &[u8], q: &mut [u64]) -> usize
     requires held { Held b.now }
     requires q_len { length q.old ≡ size }
-    ensures { Listed q.new result (stateIn b.now).flight }
+    ensures { Listed q.new result (state_in b.now).flight }
 {
     let n = messages::message_count(b);
     let mut i: usize = 0;

@@ -1,7 +1,7 @@
 // A look for the next message and the next timer. Of the store it asks for the plan, the crashes done and the nodes only.
 ghost use Rattle.std.specs.Prelude.{List, ◌≡◌, ◌≤◌, ◌<◌};
-ghost use Rattle.model.specs.Platform.{InFlight, crashedList};
-ghost use Rattle.store.specs.Store.{planIn, stateIn};
+ghost use Rattle.model.specs.Platform.{InFlight, crashed_list};
+ghost use Rattle.store.specs.Store.{plan_in, state_in};
 ghost use Rattle.event.specs.Acting.{Acting};
 ghost use Rattle.queue.specs.Holds.{Holds};
 ghost use Rattle.course.specs.Look.{DueAt, Timers, DueNow, TimerAt, SoonerOf};
@@ -27,10 +27,10 @@ pub fn message_tick(q: &[u64], start: usize, end: usize, never: u32) -> u32
 // Whether a timer of node i is due at tick t, where it is live.
 fn is_due(b: &[u8], dead: u64, t: u32, i: usize) -> bool
     requires acting { Acting b.now }
-    requires dead_value { dead ≡ crashedList (planIn b.now) (stateIn b.now).done }
-    requires t_bound { t ≤ (planIn b.now).end }
-    requires i_bound { i < (planIn b.now).n }
-    ensures { DueNow (planIn b.now) (stateIn b.now) t i result }
+    requires dead_value { dead ≡ crashed_list (plan_in b.now) (state_in b.now).done }
+    requires t_bound { t ≤ (plan_in b.now).end }
+    requires i_bound { i < (plan_in b.now).n }
+    ensures { DueNow (plan_in b.now) (state_in b.now) t i result }
 {
     if ring::is_listed(dead, i as u8) {
         return false;
@@ -48,10 +48,10 @@ fn is_due(b: &[u8], dead: u64, t: u32, i: usize) -> bool
 // The first node from x on with a timer that is due at tick t, or how many nodes there are.
 pub fn timer_node(b: &[u8], dead: u64, t: u32, x: usize) -> usize
     requires acting { Acting b.now }
-    requires dead_value { dead ≡ crashedList (planIn b.now) (stateIn b.now).done }
-    requires t_bound { t ≤ (planIn b.now).end }
-    requires timers { Timers (planIn b.now) (stateIn b.now) t x }
-    ensures { TimerAt (planIn b.now) (stateIn b.now) t result }
+    requires dead_value { dead ≡ crashed_list (plan_in b.now) (state_in b.now).done }
+    requires t_bound { t ≤ (plan_in b.now).end }
+    requires timers { Timers (plan_in b.now) (state_in b.now) t x }
+    ensures { TimerAt (plan_in b.now) (state_in b.now) t result }
 {
     let n = plan::node_count(b);
     let mut i = x;
@@ -67,9 +67,9 @@ pub fn timer_node(b: &[u8], dead: u64, t: u32, x: usize) -> usize
 // The earliest of `least` and the ticks of node i's timers, where it is live.
 fn sooner_of(b: &[u8], dead: u64, i: usize, least: u32) -> u32
     requires acting { Acting b.now }
-    requires dead_value { dead ≡ crashedList (planIn b.now) (stateIn b.now).done }
-    requires i_bound { i < (planIn b.now).n }
-    ensures { SoonerOf (planIn b.now) (stateIn b.now) i least result }
+    requires dead_value { dead ≡ crashed_list (plan_in b.now) (state_in b.now).done }
+    requires i_bound { i < (plan_in b.now).n }
+    ensures { SoonerOf (plan_in b.now) (state_in b.now) i least result }
 {
     if ring::is_listed(dead, i as u8) {
         return least;
@@ -82,10 +82,10 @@ fn sooner_of(b: &[u8], dead: u64, i: usize, least: u32) -> u32
 // A tick after t, up to the one after the end, before which no timer is due, where none is up to t.
 pub fn least_timer(b: &[u8], dead: u64, t: u32) -> u32
     requires acting { Acting b.now }
-    requires dead_value { dead ≡ crashedList (planIn b.now) (stateIn b.now).done }
-    requires t_bound { t ≤ (planIn b.now).end }
-    requires timers { Timers (planIn b.now) (stateIn b.now) t (planIn b.now).n }
-    ensures { (t < result) × Timers (planIn b.now) (stateIn b.now) result 0 }
+    requires dead_value { dead ≡ crashed_list (plan_in b.now) (state_in b.now).done }
+    requires t_bound { t ≤ (plan_in b.now).end }
+    requires timers { Timers (plan_in b.now) (state_in b.now) t (plan_in b.now).n }
+    ensures { (t < result) × Timers (plan_in b.now) (state_in b.now) result 0 }
 {
     let n = plan::node_count(b);
     let mut least = plan::end_tick(b) + 1;

@@ -1,7 +1,7 @@
 // A turn taken or refused, and how far the run is after it.
 ghost use Rattle.std.specs.Prelude.{◌+◌, ◌≤◌};
 ghost use Rattle.queue.specs.Rows.{places};
-ghost use Rattle.limits.specs.Limits.{mostSent};
+ghost use Rattle.limits.specs.Limits.{most_sent};
 ghost use Rattle.course.specs.Progress.{Settling, Settled, Later};
 
 use crate::{Progress, Step, turn};
@@ -12,7 +12,7 @@ use store::layout;
 
 // How far the run is after a turn that sent `count` messages and left node a.
 fn later(c: Progress, count: usize, a: Node) -> Progress
-    requires { (c.end + mostSent ≤ places) × (count ≤ mostSent) }
+    requires { (c.end + most_sent ≤ places) × (count ≤ most_sent) }
     ensures { Later c result count a }
 {
     let watch = search::earlier_timer(c.bound, a.watch);

@@ -1,6 +1,6 @@
 // One step of a run: an event, or a later tick for the timers.
 ghost use Rattle.std.specs.Prelude.{List, ℕ, ◌+◌, ◌≤◌};
-ghost use Rattle.limits.specs.Limits.{mostSent};
+ghost use Rattle.limits.specs.Limits.{most_sent};
 ghost use Rattle.queue.specs.Rows.{places};
 ghost use Rattle.course.specs.Progress.{Underway, Going, Stepped, SteppedAs};
 ghost use Rattle.course.specs.Choose.{Quiet, Waiting};
@@ -70,7 +70,7 @@ pub fn step(b: &mut [u8], q: &mut [u64], c: Progress) -> Step
 pub fn made_room(q: &mut [u64], c: Progress) -> Progress
     requires { (b whole : List ℕ) × Underway b q.old c whole }
     ensures { (b whole : List ℕ) → Underway b q.old c whole
-        → Underway b q.new result whole × (result.end + mostSent ≤ places) }
+        → Underway b q.new result whole × (result.end + most_sent ≤ places) }
 {
     let start = c.start;
     let end = c.end;

@@ -7,38 +7,38 @@ use Prim.Native.Nat.{ℕ, ◌+◌, ◌≤◌, ◌<◌}
 use native.Mathlib.Omega.{arith}
 use borrow.Author.Tests.{eq-eqb}
 use lib.ListN.{length, get_or}
-use Rattle.plans.specs.Plan.{Plan, planTest}
-use Rattle.runfile.specs.File.{accepted, fileOf}
+use Rattle.plans.specs.Plan.{Plan, plan_test}
+use Rattle.runfile.specs.File.{accepted, file_of}
 use Rattle.runfile.proofs.RoundTrip.{accepted-plan}
-use Rattle.model.specs.Platform.{State, start, firstEvents, after}
+use Rattle.model.specs.Platform.{State, start, first_events, after}
 use Rattle.model.specs.Range.{EndsInE}
 use Rattle.model.specs.Claims.{CrashedAre}
 use Rattle.plans.proofs.Facts.{plan-plain}
 use Rattle.model.proofs.Theorems.{crashed, logarithm, safety, settling, joining, completing}
-use Rattle.limits.specs.Limits.{storeSize}
-use Rattle.store.specs.Store.{encode, planIn, stateIn, storeInRange}
+use Rattle.limits.specs.Limits.{store_size}
+use Rattle.store.specs.Store.{encode, plan_in, state_in, store_in_range}
 use Rattle.platform.specs.declared.Opened.TheVariants.{Ready}
-use Rattle.platform.specs.Calls.{AfterOpen, openPlan, openAnswer, openFile}
-use Rattle.platform.specs.CallLists.{Call, storeAfterAll, NoneAnswers, eventsOf}
+use Rattle.platform.specs.Calls.{AfterOpen, open_plan, open_answer, open_file}
+use Rattle.platform.specs.CallLists.{Call, store_after_all, NoneAnswers, events_of}
 use Rattle.platform.proofs.Stores.{plan-of, state-of, in-range}
 use Rattle.platform.proofs.CallLists.{after_small, after_holds, none-seven, opened-at, events-done}
-use Rattle.dispatcher.specs.PartCalls.{PartCall, storesAfterAll, callsOn, NoCallAnswers, LentCall, AllAround, storeAfterAllLent, lentCalls}
+use Rattle.dispatcher.specs.PartCalls.{PartCall, stores_after_all, calls_on, NoCallAnswers, LentCall, AllAround, store_after_all_lent, lent_calls}
 use Rattle.dispatcher.proofs.PartCalls.{Led, AllLed, calls_at, calls-not-seven}
 use Rattle.dispatcher.proofs.Among.{all-lent-leave}
 use Rattle.demands.specs.Demands.{store_of, AfterCallsE, AfterCalls, JustOpened, AllOpened, Demand3}
 
 -- an accepted file, and a lent store of its length
-module _ (file store : List ℕ) (p : Plan) (ok : fileOf file ≡ accepted p) (size : length store ≡ storeSize) where
-  abbrev pub good : planTest p ≡ true
+module _ (file store : List ℕ) (p : Plan) (ok : file_of file ≡ accepted p) (size : length store ≡ store_size) where
+  abbrev pub good : plan_test p ≡ true
   good = accepted-plan file p ok
 
-  pub opened : openFile file store ≡ record { answer = Ready; store = encode p (start p) }
-  unfolding openFile openAnswer openPlan
-  opened = rw (ok, eq-eqb (length store) storeSize size) refl
+  pub opened : open_file file store ≡ record { answer = Ready; store = encode p (start p) }
+  unfolding open_file open_answer open_plan
+  opened = rw (ok, eq-eqb (length store) store_size size) refl
 
   -- the store after any calls
-  pub called : (cs : List Call) → store_of file store cs ≡ encode p (after p (eventsOf p cs))
-  called cs = ap (λ (a : AfterOpen). storeAfterAll cs a.store) opened ∙ events-done p good cs
+  pub called : (cs : List Call) → store_of file store cs ≡ encode p (after p (events_of p cs))
+  called cs = ap (λ (a : AfterOpen). store_after_all cs a.store) opened ∙ events-done p good cs
 
   -- where the run ends in E
   ends-after : (e : ℕ) → p.h + p.d ≤ p.w → AfterCallsE p (after p e)
@@ -53,18 +53,18 @@ module _ (file store : List ℕ) (p : Plan) (ok : fileOf file ≡ accepted p) (s
 
   pub left_after : (cs : List Call) → AfterCalls p cs (store_of file store cs)
   left_after cs =
-      let e : ℕ = eventsOf p cs in
+      let e : ℕ = events_of p cs in
       let holds = after_holds p good e in
-      let state : stateIn (store_of file store cs) ≡ after p e = ap stateIn (called cs) ∙ state-of p (after p e) holds in
+      let state : state_in (store_of file store cs) ≡ after p e = ap state_in (called cs) ∙ state-of p (after p e) holds in
       record {
         events = called cs;
-        plan = ap planIn (called cs) ∙ plan-of p (after p e) holds;
-        crashed = subst (CrashedAre p (firstEvents p e)) (sym state) (crashed p (plan-plain p good) e);
+        plan = ap plan_in (called cs) ∙ plan-of p (after p e) holds;
+        crashed = subst (CrashedAre p (first_events p e)) (sym state) (crashed p (plan-plain p good) e);
         ending = λ long. subst (AfterCallsE p) (sym state) (ends-after e (omega (arith, long)));
-        in_range = ap storeInRange (called cs) ∙ in-range p (after p e) holds (after_small p good e);
+        in_range = ap store_in_range (called cs) ∙ in-range p (after p e) holds (after_small p good e);
       }
 
-  pub no_seven : (cs : List Call) → NoneAnswers 7 cs (openFile file store).store
+  pub no_seven : (cs : List Call) → NoneAnswers 7 cs (open_file file store).store
   no_seven cs =
       subst (λ (a : AfterOpen). NoneAnswers 7 cs a.store) (sym opened)
       (subst (λ (s : State). NoneAnswers 7 cs (encode p s)) (sym (opened-at p good)) (none-seven p good cs 0))
@@ -74,7 +74,7 @@ module _ (file store : List ℕ) (p : Plan) (ok : fileOf file ≡ accepted p) (s
 -- a store just opened is one that its plan leads to, with no event done
 opened-led : (p : Plan) (b : List ℕ) → JustOpened p b → Led p b
 opened-led p b o =
-    let ok : planTest p ≡ true = good o.file o.lent p o.taken o.size in
+    let ok : plan_test p ≡ true = good o.file o.lent p o.taken o.size in
     record {
       good = ok;
       e = 0;
@@ -86,44 +86,44 @@ module _ (bs : List (List ℕ)) (plans : ℕ → Plan) (all : AllOpened plans bs
   all-led i h = opened-led (plans i) (get_or bs i []) (all i h)
 
   -- what the calls leave of a store is what the steps and runs leave that they come to for it
-  pub same-of-each : (i : ℕ) → i < length bs → get_or (storesAfterAll cs bs) i [] ≡ storeAfterAll (callsOn i cs bs) (get_or bs i [])
+  pub same-of-each : (i : ℕ) → i < length bs → get_or (stores_after_all cs bs) i [] ≡ store_after_all (calls_on i cs bs) (get_or bs i [])
   same-of-each i h = calls_at plans cs bs all-led i h
 
   -- so all holds of it that demand 3 says of steps and runs on one store
-  pub left-of-each : (i : ℕ) → i < length bs → AfterCalls (plans i) (callsOn i cs bs) (get_or (storesAfterAll cs bs) i [])
+  pub left-of-each : (i : ℕ) → i < length bs → AfterCalls (plans i) (calls_on i cs bs) (get_or (stores_after_all cs bs) i [])
   left-of-each i h =
       let o : JustOpened (plans i) (get_or bs i []) = all i h in
-      subst (AfterCalls (plans i) (callsOn i cs bs)) (sym (same-of-each i h ∙ ap (storeAfterAll (callsOn i cs bs)) o.opened))
-      (left_after o.file o.lent (plans i) o.taken o.size (callsOn i cs bs))
+      subst (AfterCalls (plans i) (calls_on i cs bs)) (sym (same-of-each i h ∙ ap (store_after_all (calls_on i cs bs)) o.opened))
+      (left_after o.file o.lent (plans i) o.taken o.size (calls_on i cs bs))
 
   pub parts-no-seven : NoCallAnswers 7 cs bs
   parts-no-seven = calls-not-seven plans cs bs all-led
 
 -- ---- one store, whatever stands around it
 
-module _ (file store : List ℕ) (p : Plan) (ok : fileOf file ≡ accepted p) (size : length store ≡ storeSize) where
-  pub just-opened : JustOpened p (openFile file store).store
+module _ (file store : List ℕ) (p : Plan) (ok : file_of file ≡ accepted p) (size : length store ≡ store_size) where
+  pub just-opened : JustOpened p (open_file file store).store
   just-opened = record { file = file; lent = store; taken = ok; size = size; opened = refl }
 
   module _ (cs : List LentCall) (around : AllAround cs) where
     abbrev b : List ℕ
-    b = (openFile file store).store
+    b = (open_file file store).store
 
     -- what the calls leave of it is what the steps and runs leave that they come to
-    pub same-among : storeAfterAllLent cs b ≡ store_of file store (lentCalls cs b)
+    pub same-among : store_after_all_lent cs b ≡ store_of file store (lent_calls cs b)
     same-among = all-lent-leave p cs b (opened-led p b just-opened) around
 
-    pub left-among : AfterCalls p (lentCalls cs b) (storeAfterAllLent cs b)
-    left-among = subst (AfterCalls p (lentCalls cs b)) (sym same-among) (left_after file store p ok size (lentCalls cs b))
+    pub left-among : AfterCalls p (lent_calls cs b) (store_after_all_lent cs b)
+    left-among = subst (AfterCalls p (lent_calls cs b)) (sym same-among) (left_after file store p ok size (lent_calls cs b))
 
 pub any-calls : Demand3
 any-calls = record {
   logarithm = logarithm;
   opens = λ file store p ok size. ap (λ (a : AfterOpen). a.answer) (opened file store p ok size);
-  justOpened = just-opened;
+  just_opened = just-opened;
   left = left_after;
-  noneSeven = no_seven;
+  none_seven = no_seven;
   parts = λ bs plans all cs i h. (same-of-each bs plans all cs i h, left-of-each bs plans all cs i h);
-  partsNoneSeven = parts-no-seven;
+  parts_none_seven = parts-no-seven;
   among = λ file store p ok size cs around. (same-among file store p ok size cs around, left-among file store p ok size cs around);
 }

@@ -9,40 +9,40 @@ use Prim.Native.Nat.{ℕ, ◌≤◌}
 use native.Mathlib.Omega.{arith}
 use lib.ListN.{length, replicate}
 use Rattle.fields.specs.Fields.{bytes, value, field_at, zeros}
-use Rattle.ring.specs.Ring.{keep, numbers, among, eachOnce, listed, listing, unlisting, merging, part_of, unlisted, passing, round, place, ahead}
-use Rattle.ring.specs.Ring.{firstUnlisted, back, next, count, powers, jumps, targets}
+use Rattle.ring.specs.Ring.{keep, numbers, among, each_once, listed, listing, unlisting, merging, part_of, unlisted, passing, round, place, ahead}
+use Rattle.ring.specs.Ring.{first_unlisted, back, next, count, powers, jumps, targets}
 use Rattle.node.specs.declared.Node.{Node}
-use Rattle.node.specs.Node.{reports, opening, learnt, onHeartbeat, onObserver, onReport, onHeartbeatDue, onMessage, leaving}
-use Rattle.node.specs.Range.{nodeTest, apart, liveTest}
-use Rattle.host.specs.Record.{numbersBytes, neighboursBytes, ticksBytes, markBytes, encode, decode, openable, in_range, sound}
-use Rattle.limits.specs.Limits.{recordSize, partSize, storeSize}
-use Rattle.limits.specs.Refusals.{badRecord, accepted as taken}
-use Rattle.host.specs.Call.{answer, tickTaken, timersAnswer}
-use Rattle.plans.specs.Plan.{Plan, within, startRanges, rising, hits, noneTwice, crashOrder, delayOrder, fewDelays, every, crashTest}
-use Rattle.plans.specs.Plan.{ringOrder, order_of, ringTest, delayTest, planTest}
-use Rattle.runfile.specs.Text.{planText}
-use Rattle.runfile.specs.File.{accepted, fileOf}
+use Rattle.node.specs.Node.{reports, opening, learnt, on_heartbeat, on_observer, on_report, on_heartbeat_due, on_message, leaving}
+use Rattle.node.specs.Range.{node_test, apart, live_test}
+use Rattle.host.specs.Record.{numbers_bytes, neighbours_bytes, ticks_bytes, mark_bytes, encode, decode, openable, in_range, sound}
+use Rattle.limits.specs.Limits.{record_size, part_size, store_size}
+use Rattle.limits.specs.Refusals.{bad_record, accepted as taken}
+use Rattle.host.specs.Call.{answer, tick_taken, timers_answer}
+use Rattle.plans.specs.Plan.{Plan, within, start_ranges, rising, hits, none_twice, crash_order, delay_order, few_delays, every, crash_test}
+use Rattle.plans.specs.Plan.{ring_order, order_of, ring_test, delay_test, plan_test}
+use Rattle.runfile.specs.Text.{plan_text}
+use Rattle.runfile.specs.File.{accepted, file_of}
 use Rattle.runfile.proofs.RoundTrip.{read_back}
-use Rattle.model.specs.Platform.{heartbeat, alive, start, crashEntries, messageEntries, timerEntry, timerEntries, pending, earlier, first}
-use Rattle.model.specs.Platform.{up_to, nextEvent, delayIn, delayOf, numbered, node_of, taken as turned, without, received, apply, fits, tried, try}
+use Rattle.model.specs.Platform.{heartbeat, alive, start, crash_entries, message_entries, timer_entry, timer_entries, pending, earlier, first}
+use Rattle.model.specs.Platform.{up_to, next_event, delay_in, delay_of, numbered, node_of, taken as turned, without, received, apply, fits, tried, try}
 use Rattle.model.specs.Platform.{left, steps, after}
-use Rattle.store.specs.Store.{stateIn}
+use Rattle.store.specs.Store.{state_in}
 use Rattle.platform.specs.CallLists.{Call}
 use Rattle.demands.specs.Demands.{store_of, AfterCallsE}
-use Rattle.demands.specs.Nodes.{recordOf, callTo, recordAfter, tickOr, ticked, lastTick}
+use Rattle.demands.specs.Nodes.{record_of, call_to, record_after, tick_or, ticked, last_tick}
 use Rattle.demands.proofs.Nodes.{rehearsed}
 use Rattle.demands.proofs.Demand3.{any-calls}
 
 unfoldable pub two : Plan
 two = record { n = 2; h = 1; w = 2; d = 1; end = 20; ring = []; crashes = []; delays = [] }
 
-pub is-accepted : fileOf (planText two) ≡ accepted two
-unfolding two planTest startRanges within ringTest crashTest every crashOrder rising noneTwice eachOnce
-    delayTest delayOrder fewDelays
+pub is-accepted : file_of (plan_text two) ≡ accepted two
+unfolding two plan_test start_ranges within ring_test crash_test every crash_order rising none_twice each_once
+    delay_test delay_order few_delays
 is-accepted = read_back two refl
 
 in-number-order : order_of two ≡ numbers 0 two.n
-unfolding two order_of ringOrder
+unfolding two order_of ring_order
 in-number-order = refl
 
 -- node 0 after eight events
@@ -50,36 +50,36 @@ unfoldable pub node : Node
 node = record { emitter = 1; observer = 1; watch = 6; heartbeat = 4; list = 0; mark = 0 }
 
 pub ninth : (node_of (after two 8) 0 ≡ node)
-    × (nextEvent two (after two 8) ≡ some (record { tick = 3; event = heartbeat 0 }))
-    × (lastTick two 0 8 ≡ 3)
-unfolding two node keep numbers listed listing unlisting merging unlisted passing round place ahead firstUnlisted back next count powers jumps targets
-    reports opening learnt onHeartbeat onObserver onReport onHeartbeatDue leaving onMessage ringOrder order_of hits among alive start crashEntries
-    messageEntries timerEntry timerEntries pending earlier first up_to nextEvent delayIn delayOf numbered turned without received apply fits tried try
-    left steps after callTo tickOr ticked lastTick
+    × (next_event two (after two 8) ≡ some (record { tick = 3; event = heartbeat 0 }))
+    × (last_tick two 0 8 ≡ 3)
+unfolding two node keep numbers listed listing unlisting merging unlisted passing round place ahead first_unlisted back next count powers jumps targets
+    reports opening learnt on_heartbeat on_observer on_report on_heartbeat_due leaving on_message ring_order order_of hits among alive start crash_entries
+    message_entries timer_entry timer_entries pending earlier first up_to next_event delay_in delay_of numbered turned without received apply fits tried try
+    left steps after call_to tick_or ticked last_tick
 ninth = (refl, refl, refl)
 
-out_of_range : timersAnswer (encode (recordOf two 0 0 node)) 3 (replicate partSize 0) ≡ badRecord
-unfolding two node recordOf bytes value field_at zeros numbersBytes neighboursBytes ticksBytes markBytes encode decode
-    openable nodeTest apart liveTest in_range sound answer timersAnswer listed
-out_of_range = refl
+out-of-range : timers_answer (encode (record_of two 0 0 node)) 3 (replicate part_size 0) ≡ bad_record
+unfolding two node record_of bytes value field_at zeros numbers_bytes neighbours_bytes ticks_bytes mark_bytes encode decode
+    openable node_test apart live_test in_range sound answer timers_answer listed
+out-of-range = refl
 
-pub early-tick-refused : timersAnswer (encode (recordOf two 0 0 (node_of (after two 8) 0))) 3 (replicate partSize 0) ≡ badRecord
-early-tick-refused = ap (λ (n : Node). timersAnswer (encode (recordOf two 0 0 n)) 3 (replicate partSize 0)) ninth.0 ∙ out_of_range
+pub early-tick-refused : timers_answer (encode (record_of two 0 0 (node_of (after two 8) 0))) 3 (replicate part_size 0) ≡ bad_record
+early-tick-refused = ap (λ (n : Node). timers_answer (encode (record_of two 0 0 n)) 3 (replicate part_size 0)) ninth.0 ∙ out-of-range
 
 -- the record that has followed the run
-pub followed-so : (bytes : List ℕ) → length bytes ≡ recordSize → (parts : ℕ → List ℕ) → ((i : ℕ) → partSize ≤ length (parts i))
-    → recordAfter two 0 bytes parts 8 ≡ encode (recordOf two 0 3 node)
+pub followed-so : (bytes : List ℕ) → length bytes ≡ record_size → (parts : ℕ → List ℕ) → ((i : ℕ) → part_size ≤ length (parts i))
+    → record_after two 0 bytes parts 8 ≡ encode (record_of two 0 3 node)
 unfolding two
 followed-so bytes size parts long =
-    rw (← ninth.0, ← ninth.2) (((rehearsed (planText two) two is-accepted in-number-order).run 0 (omega arith) bytes size parts long).holds 8)
+    rw (← ninth.0, ← ninth.2) (((rehearsed (plan_text two) two is-accepted in-number-order).run 0 (omega arith) bytes size parts long).holds 8)
 
 -- and the call of the ninth event takes it
-pub late-tick-taken : timersAnswer (encode (recordOf two 0 3 node)) 3 (replicate partSize 0) ≡ taken
-unfolding two node recordOf bytes value field_at zeros numbersBytes neighboursBytes ticksBytes markBytes encode decode
-    openable nodeTest apart liveTest in_range sound answer tickTaken timersAnswer listed part_of
+pub late-tick-taken : timers_answer (encode (record_of two 0 3 node)) 3 (replicate part_size 0) ≡ taken
+unfolding two node record_of bytes value field_at zeros numbers_bytes neighbours_bytes ticks_bytes mark_bytes encode decode
+    openable node_test apart live_test in_range sound answer tick_taken timers_answer listed part_of
 late-tick-taken = refl
 
 -- W is just H + D: no live node is listed after any calls on its store, nor does any other claim of an E run fail
-pub just_enough : (store : List ℕ) → length store ≡ storeSize → (cs : List Call) → AfterCallsE two (stateIn (store_of (planText two) store cs))
+pub just_enough : (store : List ℕ) → length store ≡ store_size → (cs : List Call) → AfterCallsE two (state_in (store_of (plan_text two) store cs))
 unfolding two
-just_enough store size cs = (any-calls.left (planText two) store two is-accepted size cs).ending (omega arith)
+just_enough store size cs = (any-calls.left (plan_text two) store two is-accepted size cs).ending (omega arith)

@@ -8,11 +8,11 @@ use native.Mathlib.Omega.{arith}
 use borrow.Author.Tests.{le-leb, lt-leb, eq-eqb, ne_eqb}
 use lib.Dec.{leb}
 use lib.ListN.{length}
-use Rattle.limits.specs.Limits.{storeSize, mostStores, mostTurn}
-use Rattle.limits.specs.Refusals.{badStore, badPart, badTurn}
+use Rattle.limits.specs.Limits.{store_size, most_stores, most_turn}
+use Rattle.limits.specs.Refusals.{bad_store, bad_part, bad_turn}
 use Rattle.plans.specs.Plan.{within}
 use Rattle.dispatcher.specs.declared.Dispatched.{Dispatched}
-use Rattle.dispatcher.specs.Dispatch.{storesIn, turnsOf, standingsAfter, given, partAfter, gave, refused, allInRange, partInRange}
+use Rattle.dispatcher.specs.Dispatch.{stores_in, turns_of, standings_after, given, part_after, gave, refused, all_in_range, part_in_range}
 use Rattle.dispatcher.specs.Dispatch.{AfterDispatch, dispatch}
 use Rattle.dispatcher.specs.Tally.{Whole}
 
@@ -46,38 +46,38 @@ module _ (part : List ℕ) (each turns : ℕ) where
   is e f g = (f ∙ ap (λ (d : AfterDispatch). d.answer) (sym e), g ∙ ap (λ (d : AfterDispatch). d.part) (sym e))
 
   -- 14
-  pub bad-part : within 1 (mostStores * storeSize) (length part) ≡ false → {a : Dispatched} → a ≡ refused badPart → Is a part
+  pub bad-part : within 1 (most_stores * store_size) (length part) ≡ false → {a : Dispatched} → a ≡ refused bad_part → Is a part
   unfolding dispatch
   bad-part h e = is (rw h refl) e refl
 
-  module _ (size : within 1 (mostStores * storeSize) (length part) ≡ true) where
+  module _ (size : within 1 (most_stores * store_size) (length part) ≡ true) where
     -- 15
-    pub bad-turn : within 1 mostTurn each ≡ false → {a : Dispatched} → a ≡ refused badTurn → Is a part
+    pub bad-turn : within 1 most_turn each ≡ false → {a : Dispatched} → a ≡ refused bad_turn → Is a part
     unfolding dispatch
     bad-turn h e = is (rw (size, h) refl) e refl
 
-    module _ (turn : within 1 mostTurn each ≡ true) where
+    module _ (turn : within 1 most_turn each ≡ true) where
       -- 7
-      bad-store : partInRange part ≡ false → {a : Dispatched} → a ≡ refused badStore → Is a part
+      bad-store : part_in_range part ≡ false → {a : Dispatched} → a ≡ refused bad_store → Is a part
       unfolding dispatch
       bad-store h e = is (rw (size, turn, h) refl) e refl
 
-      pub not-whole : length part % storeSize ≢ 0 → {a : Dispatched} → a ≡ refused badStore → Is a part
-      unfolding partInRange
-      not-whole h e = bad-store (rw (ne_eqb (length part % storeSize) 0 h) refl) e
+      pub not-whole : length part % store_size ≢ 0 → {a : Dispatched} → a ≡ refused bad_store → Is a part
+      unfolding part_in_range
+      not-whole h e = bad-store (rw (ne_eqb (length part % store_size) 0 h) refl) e
 
-      module _ (even : length part % storeSize ≡ 0) where
-        pub one-bad : allInRange (storesIn part) ≡ false → {a : Dispatched} → a ≡ refused badStore → Is a part
-        unfolding partInRange
-        one-bad h e = bad-store (rw (eq-eqb (length part % storeSize) 0 even, h) refl) e
+      module _ (even : length part % store_size ≡ 0) where
+        pub one-bad : all_in_range (stores_in part) ≡ false → {a : Dispatched} → a ≡ refused bad_store → Is a part
+        unfolding part_in_range
+        one-bad h e = bad-store (rw (eq-eqb (length part % store_size) 0 even, h) refl) e
 
-        pub all-good : allInRange (storesIn part) ≡ true → {a : Dispatched} {left : List ℕ}
-            → (a ≡ given (length (turnsOf part each turns)) (standingsAfter part each turns)) × (left ≡ partAfter (standingsAfter part each turns))
+        pub all-good : all_in_range (stores_in part) ≡ true → {a : Dispatched} {left : List ℕ}
+            → (a ≡ given (length (turns_of part each turns)) (standings_after part each turns)) × (left ≡ part_after (standings_after part each turns))
             → Is a left
-        unfolding dispatch partInRange gave
-        all-good h u = is (rw (size, turn, eq-eqb (length part % storeSize) 0 even, h) refl) u.0 u.1
+        unfolding dispatch part_in_range gave
+        all-good h u = is (rw (size, turn, eq-eqb (length part % store_size) 0 even, h) refl) u.0 u.1
 
 -- a part of whole stores
-pub whole_part : (part : List ℕ) → 1 ≤ length part → length part ≤ mostStores * storeSize → length part % storeSize ≡ 0
-    → Whole (length part / storeSize) part
+pub whole_part : (part : List ℕ) → 1 ≤ length part → length part ≤ most_stores * store_size → length part % store_size ≡ 0
+    → Whole (length part / store_size) part
 whole_part part low high even = record { size = omega arith; some = omega arith; most = omega arith }

@@ -8,34 +8,34 @@ use Prim.Native.Nat.{ℕ, zero, suc, ◌+◌, ◌*◌, ◌-◌, ◌^◌, ◌≤�
 use native.Mathlib.Nat.{zero-add}
 use native.Mathlib.Omega.{arith}
 use lib.ListN.{length, get_or, set, take, drop, replicate, length-append, length-map, get_or-map, length-replicate, replicate-append-replicate}
-use Rattle.limits.specs.Limits.{storeSize, mostStores}
+use Rattle.limits.specs.Limits.{store_size, most_stores}
 use Rattle.limits.specs.Refusals.{accepted}
 use Rattle.ring.specs.Ring.{numbers, round}
 use Rattle.event.specs.Ready.{Ready}
 use Rattle.platform.specs.declared.Ran.{Ran}
-use Rattle.platform.specs.Calls.{AfterRun, runNext, eventsDone}
+use Rattle.platform.specs.Calls.{AfterRun, run_next, events_done}
 use Rattle.dispatcher.specs.declared.Dispatched.{Dispatched}
 use Rattle.dispatcher.specs.declared.tally.Tally.{Tally}
 use Rattle.dispatcher.specs.declared.tally.Index.{Index}
 use Rattle.dispatcher.specs.declared.tally.Index.TheVariants.{At, Nowhere}
-use Rattle.dispatcher.specs.Dispatch.{pieces, joined, storesIn, Standing, fresh, eventLeft, canGo, after_turn, standingAt, turn_of, afterTurns}
-use Rattle.dispatcher.specs.Dispatch.{firstMarked, nextAble, turnsFrom, standings, turnsOf, standingsAfter, forEight, bits, given, partAfter}
+use Rattle.dispatcher.specs.Dispatch.{pieces, joined, stores_in, Standing, fresh, event_left, can_go, after_turn, standing_at, turn_of, after_turns}
+use Rattle.dispatcher.specs.Dispatch.{first_marked, next_able, turns_from, standings, turns_of, standings_after, for_eight, bits, given, part_after}
 use Rattle.dispatcher.specs.Tally.{index_of, tallied, answer_of, Whole, AllReady}
-use Rattle.dispatcher.specs.Claims.{turnsAt}
+use Rattle.dispatcher.specs.Claims.{turns_at}
 use Rattle.dispatcher.proofs.Pieces.{piece-at, pieces-joined, replaced, replaced-pieces, length-replaced}
 use Rattle.dispatcher.proofs.Parts.{cut, stores-count, lent-piece}
 use Rattle.dispatcher.proofs.Marks.{index-some, index-none, eight-at, eight-set, eight-marked, eight-bits}
 use Rattle.dispatcher.proofs.Round.{turns-length, turns_then, turns-none, next-able, turns-some}
-use Rattle.dispatcher.proofs.Alone.{alone, at_first, goes_on, after-turns, alone-ready, alone-few}
+use Rattle.dispatcher.proofs.Alone.{alone, at_first, goes-on, after-turns, alone-ready, alone-few}
 use Rattle.dispatcher.proofs.Alone.{turn_stopped, turn-able}
 
 -- ---- the tally
 
 -- it tells how the stores stand
 pub record Tells (t : Tally) (xs : List Standing) : Type 0 where
-  pub able : t.able ≡ forEight false (map canGo xs)
-  pub stopped : t.stopped ≡ forEight false (map (λ (x : Standing). x.stopped) xs)
-  pub events : t.events ≡ forEight 0 (map (λ (x : Standing). x.events) xs)
+  pub able : t.able ≡ for_eight false (map can_go xs)
+  pub stopped : t.stopped ≡ for_eight false (map (λ (x : Standing). x.stopped) xs)
+  pub events : t.events ≡ for_eight 0 (map (λ (x : Standing). x.events) xs)
 
 map-set : {A : Type 0} (f : Standing → A) (xs : List Standing) (i : ℕ) (x : Standing) → map f (set xs i x) ≡ set (map f xs) i (f x)
 map-set f [] i x = refl
@@ -43,37 +43,37 @@ map-set f (y ∷ xs) zero x = refl
 map-set f (y ∷ xs) (suc i) x = ap (λ l. f y ∷ l) (map-set f xs i x)
 
 -- an element of a mapped list
-pub map_at : {A : Type 0} (z : A) (f : Standing → A) (xs : List Standing) (i : ℕ) → i < length xs → get_or (map f xs) i z ≡ f (standingAt xs i)
+pub map_at : {A : Type 0} (z : A) (f : Standing → A) (xs : List Standing) (i : ℕ) → i < length xs → get_or (map f xs) i z ≡ f (standing_at xs i)
 map_at z f [] i h = absurd (omega arith)
 map_at z f (x ∷ xs) zero h = refl
 map_at z f (x ∷ xs) (suc i) h = map_at z f xs i (omega arith)
 
 -- what is told of a store is told anew after its turn
-module _ {A : Type 0} (z : A) (f : Standing → A) (xs : List Standing) (i : ℕ) (h : i < length xs) (l : List A) (e : l ≡ forEight z (map f xs)) where
-  pub told_at : get_or l i z ≡ f (standingAt xs i)
+module _ {A : Type 0} (z : A) (f : Standing → A) (xs : List Standing) (i : ℕ) (h : i < length xs) (l : List A) (e : l ≡ for_eight z (map f xs)) where
+  pub told_at : get_or l i z ≡ f (standing_at xs i)
   told_at = ap (λ (m : List A). get_or m i z) e ∙ eight-at z (map f xs) i ∙ map_at z f xs i h
 
-  pub told-anew : (x : Standing) {y : A} → y ≡ f x → set l i y ≡ forEight z (map f (set xs i x))
+  pub told-anew : (x : Standing) {y : A} → y ≡ f x → set l i y ≡ for_eight z (map f (set xs i x))
   told-anew x {y} same =
       let inside : i < length (map f xs) = rw (length-map xs f) h in
-      rw (same, e) (sym (ap (forEight z) (map-set f xs i x) ∙ eight-set z (map f xs) i (f x) inside))
+      rw (same, e) (sym (ap (for_eight z) (map-set f xs i x) ∙ eight-set z (map f xs) i (f x) inside))
 
-module _ (each : ℕ) (xs : List Standing) (i : ℕ) (h : i < length xs) (ready : Ready (standingAt xs i).store) {t : Tally} (w : Tells t xs) where
+module _ (each : ℕ) (xs : List Standing) (i : ℕ) (h : i < length xs) (ready : Ready (standing_at xs i).store) {t : Tally} (w : Tells t xs) where
   abbrev stood : Standing
-  stood = standingAt xs i
+  stood = standing_at xs i
 
   -- a turn, by its run's answer
   abbrev a : Ran
-  a = (runNext stood.store each).answer
+  a = (run_next stood.store each).answer
 
   pub tells-turn : Tells (tallied t i a) (turn_of each i xs)
   unfolding tallied turn_of after_turn
   tells-turn =
       let now : Standing = after_turn each stood in
-      let sum : get_or t.events i 0 + eventsDone a ≡ now.events =
-      ap (λ (k : ℕ). k + eventsDone a) (told_at 0 (λ (x : Standing). x.events) xs i h t.events w.events) in
+      let sum : get_or t.events i 0 + events_done a ≡ now.events =
+      ap (λ (k : ℕ). k + events_done a) (told_at 0 (λ (x : Standing). x.events) xs i h t.events w.events) in
       record {
-        able = told-anew false canGo xs i h t.able w.able now (sym (turn-able each stood ready));
+        able = told-anew false can_go xs i h t.able w.able now (sym (turn-able each stood ready));
         stopped = told-anew false (λ (x : Standing). x.stopped) xs i h t.stopped w.stopped now (sym (turn_stopped each stood ready));
         events = told-anew 0 (λ (x : Standing). x.events) xs i h t.events w.events now sum;
       }
@@ -85,11 +85,11 @@ unfolding fresh
 fresh-stores [] = refl
 fresh-stores (b ∷ bs) = ap (λ (l : List (List ℕ)). b ∷ l) (fresh-stores bs)
 
-fresh-able : (bs : List (List ℕ)) → map canGo (map fresh bs) ≡ map eventLeft bs
-unfolding fresh canGo
+fresh-able : (bs : List (List ℕ)) → map can_go (map fresh bs) ≡ map event_left bs
+unfolding fresh can_go
 fresh-able [] = refl
 fresh-able (b ∷ bs) =
-    ap (λ (l : List Bool). canGo (fresh b) ∷ l) (fresh-able bs) ∙ ap (λ (c : Bool). c ∷ map eventLeft bs) (not_stopped (eventLeft b))
+    ap (λ (l : List Bool). can_go (fresh b) ∷ l) (fresh-able bs) ∙ ap (λ (c : Bool). c ∷ map event_left bs) (not_stopped (event_left b))
   where
     not_stopped : (c : Bool) → (c && not false) ≡ c
     not_stopped true = refl
@@ -106,36 +106,36 @@ fresh-events [] = refl
 fresh-events (b ∷ bs) = ap (λ (l : List ℕ). 0 ∷ l) (fresh-events bs)
 
 -- the same for all of eight
-eight-same : {A : Type 0} (z : A) (k : ℕ) → k ≤ mostStores → forEight z (replicate k z) ≡ replicate mostStores z
-unfolding forEight
+eight-same : {A : Type 0} (z : A) (k : ℕ) → k ≤ most_stores → for_eight z (replicate k z) ≡ replicate most_stores z
+unfolding for_eight
 eight-same z k h =
-    let rest : k + (mostStores - k) ≡ mostStores = omega arith in
-    rw (length-replicate k z) (replicate-append-replicate k (mostStores - k) z ∙ ap (λ (m : ℕ). replicate m z) rest)
+    let rest : k + (most_stores - k) ≡ most_stores = omega arith in
+    rw (length-replicate k z) (replicate-append-replicate k (most_stores - k) z ∙ ap (λ (m : ℕ). replicate m z) rest)
 
 -- ---- the turns of a call
 
 -- no store's turn, and a store's turn, whatever the number of turns is
-turns-end : (each k at : ℕ) (xs : List Standing) → nextAble xs at ≡ none → turnsFrom each k at xs ≡ []
-unfolding turnsFrom
+turns-end : (each k at : ℕ) (xs : List Standing) → next_able xs at ≡ none → turns_from each k at xs ≡ []
+unfolding turns_from
 turns-end each zero at xs e = refl
 turns-end each (suc k) at xs e = turns-none each k at xs e
 
-turns_next : (each k at : ℕ) (xs : List Standing) (i : ℕ) → 0 < k → nextAble xs at ≡ some i
-    → turnsFrom each k at xs ≡ i ∷ turnsFrom each (k - 1) (i + 1) (turn_of each i xs)
+turns_next : (each k at : ℕ) (xs : List Standing) (i : ℕ) → 0 < k → next_able xs at ≡ some i
+    → turns_from each k at xs ≡ i ∷ turns_from each (k - 1) (i + 1) (turn_of each i xs)
 turns_next each zero at xs i h e = absurd (omega arith)
 turns_next each (suc k) at xs i h e =
     let one_less : suc k - 1 ≡ k = omega arith in
     let next : i + 1 ≡ suc i = omega arith in
     turns-some each k at xs i e ∙ rw (one_less, next) refl
 
-module _ (part : List ℕ) (n : ℕ) (whole : Whole n part) (ready : AllReady (storesIn part)) (each turns : ℕ) (long : 1 ≤ each) where
+module _ (part : List ℕ) (n : ℕ) (whole : Whole n part) (ready : AllReady (stores_in part)) (each turns : ℕ) (long : 1 ≤ each) where
   pub standings-count : length (standings part) ≡ n
   unfolding standings
-  standings-count = length-map (storesIn part) fresh ∙ stores-count n part whole
+  standings-count = length-map (stores_in part) fresh ∙ stores-count n part whole
 
   -- how the stores stand after some turns
   abbrev pub stand : List ℕ → List Standing
-  stand is = afterTurns each is (standings part)
+  stand is = after_turns each is (standings part)
 
   pub stand-count : (is : List ℕ) → length (stand is) ≡ n
   stand-count is = turns-length each is (standings part) ∙ standings-count
@@ -143,24 +143,24 @@ module _ (part : List ℕ) (n : ℕ) (whole : Whole n part) (ready : AllReady (s
   module _ (i : ℕ) (h : i < n) where
     -- the store at index i, as it was lent
     abbrev pub first : List ℕ
-    first = get_or (storesIn part) i []
+    first = get_or (stores_in part) i []
 
     first-ready : Ready first
     first-ready = ready i (rw (stores-count n part whole) h)
 
     -- it stands as after one run of it by itself
-    pub stands : (is : List ℕ) → standingAt (stand is) i ≡ alone first (turnsAt i is * each)
+    pub stands : (is : List ℕ) → standing_at (stand is) i ≡ alone first (turns_at i is * each)
     unfolding standings
     stands is =
         after-turns each long first first-ready i is (standings part) 0 (rw standings-count h)
-        (get_or-map fresh (storesIn part) i [] ∙ at_first first first-ready) ∙ ap (alone first) (zero-add (turnsAt i is * each))
+        (get_or-map fresh (stores_in part) i [] ∙ at_first first first-ready) ∙ ap (alone first) (zero-add (turns_at i is * each))
 
-    pub stand-ready : (is : List ℕ) → Ready (standingAt (stand is) i).store
-    stand-ready is = subst (λ (x : Standing). Ready x.store) (sym (stands is)) (alone-ready first first-ready (turnsAt i is * each))
+    pub stand-ready : (is : List ℕ) → Ready (standing_at (stand is) i).store
+    stand-ready is = subst (λ (x : Standing). Ready x.store) (sym (stands is)) (alone-ready first first-ready (turns_at i is * each))
 
     -- after one turn more
-    stand-next : (is : List ℕ) → after_turn each (standingAt (stand is) i) ≡ alone first (turnsAt i is * each + each)
-    stand-next is = ap (after_turn each) (stands is) ∙ goes_on first first-ready (turnsAt i is * each) each long
+    stand-next : (is : List ℕ) → after_turn each (standing_at (stand is) i) ≡ alone first (turns_at i is * each + each)
+    stand-next is = ap (after_turn each) (stands is) ∙ goes-on first first-ready (turns_at i is * each) each long
 
   -- an answer, number by number
   answered : {k m : ℕ} {es fs : List ℕ} {c d : ℕ} → k ≡ m → es ≡ fs → c ≡ d
@@ -171,29 +171,29 @@ module _ (part : List ℕ) (n : ℕ) (whole : Whole n part) (ready : AllReady (s
   -- so far: the turns given, and how the stores stand after them
   pub record Gives (left at : ℕ) (b : List ℕ) (t : Tally) : Type 0 where
     pub past : List ℕ
-    pub order : turnsOf part each turns ≡ past ++ turnsFrom each left at (stand past)
+    pub order : turns_of part each turns ≡ past ++ turns_from each left at (stand past)
     pub count : length past + left ≡ turns
     pub place : at ≤ n
     pub tells : Tells t (stand past)
-    pub stores : pieces storeSize n b ≡ map (λ (x : Standing). x.store) (stand past)
-    pub size : length b ≡ n * storeSize
+    pub stores : pieces store_size n b ≡ map (λ (x : Standing). x.store) (stand past)
+    pub size : length b ≡ n * store_size
 
   -- before the first turn
-  pub gives-first : (t : Tally) → t.able ≡ forEight false (map eventLeft (storesIn part)) → t.stopped ≡ replicate mostStores false
-      → t.events ≡ replicate mostStores 0 → Gives turns 0 part t
-  unfolding turnsOf afterTurns standings
+  pub gives-first : (t : Tally) → t.able ≡ for_eight false (map event_left (stores_in part)) → t.stopped ≡ replicate most_stores false
+      → t.events ≡ replicate most_stores 0 → Gives turns 0 part t
+  unfolding turns_of after_turns standings
   gives-first t able stopped events =
-      let bs : List (List ℕ) = storesIn part in
-      let few : length bs ≤ mostStores = rw (stores-count n part whole) whole.most in
+      let bs : List (List ℕ) = stores_in part in
+      let few : length bs ≤ most_stores = rw (stores-count n part whole) whole.most in
       record {
         past = [];
         order = refl;
         count = omega arith;
         place = omega arith;
         tells = record {
-          able = able ∙ ap (forEight false) (sym (fresh-able bs));
-          stopped = stopped ∙ sym (ap (forEight false) (fresh-stopped bs) ∙ eight-same false (length bs) few);
-          events = events ∙ sym (ap (forEight 0) (fresh-events bs) ∙ eight-same 0 (length bs) few);
+          able = able ∙ ap (for_eight false) (sym (fresh-able bs));
+          stopped = stopped ∙ sym (ap (for_eight false) (fresh-stopped bs) ∙ eight-same false (length bs) few);
+          events = events ∙ sym (ap (for_eight 0) (fresh-events bs) ∙ eight-same 0 (length bs) few);
         };
         stores = sym (cut n part whole) ∙ sym (fresh-stores bs);
         size = whole.size;
@@ -204,41 +204,41 @@ module _ (part : List ℕ) (n : ℕ) (whole : Whole n part) (ready : AllReady (s
     xs = stand w.past
 
     -- whose turn it is, by the code's marks
-    pub next-index : firstMarked t.able (round (numbers 0 n) at) ≡ nextAble xs at
-    unfolding nextAble
+    pub next-index : first_marked t.able (round (numbers 0 n) at) ≡ next_able xs at
+    unfolding next_able
     next-index =
-        rw (w.tells.able, eight-marked (map canGo xs) (round (numbers 0 n) at))
-        (ap (λ (k : ℕ). firstMarked (map canGo xs) (round (numbers 0 k) at)) (sym (stand-count w.past)))
+        rw (w.tells.able, eight-marked (map can_go xs) (round (numbers 0 n) at))
+        (ap (λ (k : ℕ). first_marked (map can_go xs) (round (numbers 0 k) at)) (sym (stand-count w.past)))
 
     -- no turn is left to give
-    pub used-up : left ≤ 0 → turnsFrom each left at xs ≡ []
-    unfolding turnsFrom
+    pub used-up : left ≤ 0 → turns_from each left at xs ≡ []
+    unfolding turns_from
     used-up h = let none_left : left ≡ 0 = omega arith in rw none_left refl
 
-    pub none-able : nextAble xs at ≡ none → turnsFrom each left at xs ≡ []
+    pub none-able : next_able xs at ≡ none → turns_from each left at xs ≡ []
     none-able e = turns-end each left at xs e
 
     -- what the call then answers and leaves
-    module _ (all : turnsFrom each left at xs ≡ []) where
-      past_all : turnsOf part each turns ≡ w.past
+    module _ (all : turns_from each left at xs ≡ []) where
+      past_all : turns_of part each turns ≡ w.past
       past_all = w.order ∙ ap (λ (is : List ℕ). w.past ++ is) all ∙ append-nil w.past
 
-      pub gave-answer : answer_of t (turns - left) ≡ given (length (turnsOf part each turns)) (standingsAfter part each turns)
-      unfolding answer_of given standingsAfter
+      pub gave-answer : answer_of t (turns - left) ≡ given (length (turns_of part each turns)) (standings_after part each turns)
+      unfolding answer_of given standings_after
       gave-answer =
           let few : turns - left ≡ length w.past = omega (arith, w.count) in
           let stops : bits t.stopped ≡ bits (map (λ (x : Standing). x.stopped) xs) = ap bits w.tells.stopped ∙ eight-bits _ in
           answered few w.tells.events stops ∙ ap (λ (is : List ℕ). given (length is) (stand is)) (sym past_all)
 
-      pub gave-part : b ≡ partAfter (standingsAfter part each turns)
-      unfolding partAfter standingsAfter
+      pub gave-part : b ≡ part_after (standings_after part each turns)
+      unfolding part_after standings_after
       gave-part =
-          sym (pieces-joined storeSize n b w.size) ∙ ap joined w.stores
+          sym (pieces-joined store_size n b w.size) ∙ ap joined w.stores
           ∙ ap (λ (is : List ℕ). joined (map (λ (x : Standing). x.store) (stand is))) (sym past_all)
 
     -- the next turn is of store i
-    module _ (more : 0 < left) (i : ℕ) (e : nextAble xs at ≡ some i) where
-      here : (i < length xs) × (canGo (standingAt xs i) ≡ true)
+    module _ (more : 0 < left) (i : ℕ) (e : next_able xs at ≡ some i) where
+      here : (i < length xs) × (can_go (standing_at xs i) ≡ true)
       here = next-able xs at i e
 
       pub inside : i < n
@@ -246,61 +246,61 @@ module _ (part : List ℕ) (n : ℕ) (whole : Whole n part) (ready : AllReady (s
 
       -- its bytes are lent to the run
       abbrev piece : List ℕ
-      piece = take storeSize (drop (i * storeSize) b)
+      piece = take store_size (drop (i * store_size) b)
 
-      pub piece_is : piece ≡ (standingAt xs i).store
+      pub piece_is : piece ≡ (standing_at xs i).store
       piece_is =
-          sym (piece-at storeSize n i b inside) ∙ ap (λ (bs : List (List ℕ)). get_or bs i []) w.stores
+          sym (piece-at store_size n i b inside) ∙ ap (λ (bs : List (List ℕ)). get_or bs i []) w.stores
           ∙ map_at [] (λ (x : Standing). x.store) xs i here.0
 
       pub piece-ready : Ready piece
       piece-ready = rw piece_is (stand-ready i inside w.past)
 
       abbrev ran-there : AfterRun
-      ran-there = runNext piece each
+      ran-there = run_next piece each
 
-      pub events-fit : get_or t.events i 0 + eventsDone ran-there.answer < 2 ^ 64
+      pub events-fit : get_or t.events i 0 + events_done ran-there.answer < 2 ^ 64
       unfolding after_turn
       events-fit =
-          let sum : (after_turn each (standingAt xs i)).events < 2 ^ 64 =
+          let sum : (after_turn each (standing_at xs i)).events < 2 ^ 64 =
           subst (λ (x : Standing). x.events < 2 ^ 64) (sym (stand-next i inside w.past))
-          (alone-few (first i inside) (first-ready i inside) (turnsAt i w.past * each + each)) in
+          (alone-few (first i inside) (first-ready i inside) (turns_at i w.past * each + each)) in
           rw (told_at 0 (λ (x : Standing). x.events) xs i here.0 t.events w.tells.events, piece_is) sum
 
-      pub goes-round : Gives (left - 1) (i + 1) (replaced storeSize i ran-there.store b) (tallied t i ran-there.answer)
+      pub goes-round : Gives (left - 1) (i + 1) (replaced store_size i ran-there.store b) (tallied t i ran-there.answer)
       unfolding after_turn turn_of
       goes-round =
-          let rest : List ℕ = turnsFrom each (left - 1) (i + 1) (turn_of each i xs) in
+          let rest : List ℕ = turns_from each (left - 1) (i + 1) (turn_of each i xs) in
           let later : stand (w.past ++ (i ∷ [])) ≡ turn_of each i xs = turns_then each i w.past (standings part) in
-          let fits : length ran-there.store ≡ storeSize = (alone-ready piece piece-ready each).held.size in
+          let fits : length ran-there.store ≡ store_size = (alone-ready piece piece-ready each).held.size in
           record {
             past = w.past ++ (i ∷ []);
             order =
                 w.order ∙ ap (λ (is : List ℕ). w.past ++ is) (turns_next each left at xs i more e) ∙ sym (append_assoc w.past (i ∷ []) rest)
-                ∙ ap (λ (ys : List Standing). (w.past ++ (i ∷ [])) ++ turnsFrom each (left - 1) (i + 1) ys) (sym later);
+                ∙ ap (λ (ys : List Standing). (w.past ++ (i ∷ [])) ++ turns_from each (left - 1) (i + 1) ys) (sym later);
             count = rw (length-append w.past (i ∷ [])) (omega (arith, w.count));
             place = omega (arith, inside);
             tells = rw later (rw piece_is (tells-turn each xs i here.0 (stand-ready i inside w.past) w.tells));
             stores =
-                replaced-pieces storeSize ran-there.store fits n i b w.size inside
+                replaced-pieces store_size ran-there.store fits n i b w.size inside
                 ∙ ap (λ (bs : List (List ℕ)). set bs i ran-there.store) w.stores
-                ∙ ap (λ (c : List ℕ). set (map (λ (x : Standing). x.store) xs) i (runNext c each).store) piece_is
-                ∙ sym (map-set (λ (x : Standing). x.store) xs i (after_turn each (standingAt xs i)))
+                ∙ ap (λ (c : List ℕ). set (map (λ (x : Standing). x.store) xs) i (run_next c each).store) piece_is
+                ∙ sym (map-set (λ (x : Standing). x.store) xs i (after_turn each (standing_at xs i)))
                 ∙ ap (map (λ (x : Standing). x.store)) (sym later);
-            size = length-replaced storeSize ran-there.store fits n i b w.size inside ∙ w.size;
+            size = length-replaced store_size ran-there.store fits n i b w.size inside ∙ w.size;
           }
 
 -- ---- what the code knows at each turn
 
 pub record Turning (part : List ℕ) (n each turns left at : ℕ) (b : List ℕ) (t : Tally) : Type 0 where
   pub whole : Whole n part
-  pub ready : AllReady (storesIn part)
+  pub ready : AllReady (stores_in part)
   pub long : 1 ≤ each
   pub gives : Gives part n whole ready each turns long left at b t
 
-pub turning-first : (part : List ℕ) (n each turns : ℕ) (able : List Bool) → Whole n part → AllReady (storesIn part) → 1 ≤ each
-    → able ≡ forEight false (map eventLeft (storesIn part))
-    → Turning part n each turns turns 0 part (record { able = able; stopped = replicate mostStores false; events = replicate mostStores 0 })
+pub turning-first : (part : List ℕ) (n each turns : ℕ) (able : List Bool) → Whole n part → AllReady (stores_in part) → 1 ≤ each
+    → able ≡ for_eight false (map event_left (stores_in part))
+    → Turning part n each turns turns 0 part (record { able = able; stopped = replicate most_stores false; events = replicate most_stores 0 })
 turning-first part n each turns able whole ready long e = record {
   whole = whole;
   ready = ready;
@@ -309,7 +309,7 @@ turning-first part n each turns able whole ready long e = record {
 }
 
 module _ {part : List ℕ} {n each turns left at : ℕ} {b : List ℕ} {t : Tally} (w : Turning part n each turns left at b t) where
-  pub turning-place : (at ≤ n) × (n ≤ mostStores)
+  pub turning-place : (at ≤ n) × (n ≤ most_stores)
   turning-place = (w.gives.place, w.whole.most)
 
   pub turning-size : length b ≡ length part
@@ -317,9 +317,9 @@ module _ {part : List ℕ} {n each turns left at : ℕ} {b : List ℕ} {t : Tall
 
   -- the call ends, with this answer and these stores
   abbrev Ends : Dispatched → Type 0
-  Ends a = (a ≡ given (length (turnsOf part each turns)) (standingsAfter part each turns)) × (b ≡ partAfter (standingsAfter part each turns))
+  Ends a = (a ≡ given (length (turns_of part each turns)) (standings_after part each turns)) × (b ≡ part_after (standings_after part each turns))
 
-  ended : turnsFrom each left at (stand part n w.whole w.ready each turns w.long w.gives.past) ≡ [] → Ends (answer_of t (turns - left))
+  ended : turns_from each left at (stand part n w.whole w.ready each turns w.long w.gives.past) ≡ [] → Ends (answer_of t (turns - left))
   ended all = (
     gave-answer part n w.whole w.ready each turns w.long left at b t w.gives all,
     gave-part part n w.whole w.ready each turns w.long left at b t w.gives all,
@@ -332,9 +332,9 @@ module _ {part : List ℕ} {n each turns left at : ℕ} {b : List ℕ} {t : Tall
       (e ∙ ap (answer_of t) (sym all) ∙ u.0, u.1)
 
   -- whose turn the code finds
-  module _ {r : Index} (e : r ≡ index_of (firstMarked t.able (round (numbers 0 n) at))) where
+  module _ {r : Index} (e : r ≡ index_of (first_marked t.able (round (numbers 0 n) at))) where
     abbrev found : Option ℕ
-    found = firstMarked t.able (round (numbers 0 n) at)
+    found = first_marked t.able (round (numbers 0 n) at)
 
     pub ends-none : r ≡ Nowhere → {a : Dispatched} → a ≡ answer_of t (turns - left) → Ends a
     ends-none f g =
@@ -343,7 +343,7 @@ module _ {part : List ℕ} {n each turns left at : ℕ} {b : List ℕ} {t : Tall
         (g ∙ u.0, u.1)
 
     module _ (more : 0 < left) {i : ℕ} (f : r ≡ At i) where
-      its : nextAble (stand part n w.whole w.ready each turns w.long w.gives.past) at ≡ some i
+      its : next_able (stand part n w.whole w.ready each turns w.long w.gives.past) at ≡ some i
       its = sym (next-index part n w.whole w.ready each turns w.long left at b t w.gives) ∙ index-some found (sym f ∙ e)
 
       pub turn_inside : i < n
@@ -351,22 +351,22 @@ module _ {part : List ℕ} {n each turns left at : ℕ} {b : List ℕ} {t : Tall
 
       -- the bytes that are lent to its run
       abbrev pub lent : List ℕ
-      lent = take ((i * storeSize + storeSize) - i * storeSize) (drop (i * storeSize) b)
+      lent = take ((i * store_size + store_size) - i * store_size) (drop (i * store_size) b)
 
       pub turn-ready : Ready lent
       turn-ready =
           subst Ready (sym (lent-piece b i)) (piece-ready part n w.whole w.ready each turns w.long left at b t w.gives more i its)
 
-      pub turn-fits : {a : Ran} → a ≡ (runNext lent each).answer → get_or t.events i 0 + eventsDone a < 2 ^ 64
+      pub turn-fits : {a : Ran} → a ≡ (run_next lent each).answer → get_or t.events i 0 + events_done a < 2 ^ 64
       turn-fits g =
           rw (g, lent-piece b i) (events-fit part n w.whole w.ready each turns w.long left at b t w.gives more i its)
 
-      pub turning-on : {a : Ran} {back : List ℕ} {t' : Tally} → a ≡ (runNext lent each).answer → back ≡ (runNext lent each).store
+      pub turning-on : {a : Ran} {back : List ℕ} {t' : Tally} → a ≡ (run_next lent each).answer → back ≡ (run_next lent each).store
           → t' ≡ tallied t i a
           → Turning part n each turns (left - 1) (i + 1)
-          (take (i * storeSize) b ++ (back ++ drop ((i * storeSize + storeSize) - i * storeSize) (drop (i * storeSize) b))) t'
+          (take (i * store_size) b ++ (back ++ drop ((i * store_size + store_size) - i * store_size) (drop (i * store_size) b))) t'
       turning-on g k h =
-          let size : (i * storeSize + storeSize) - i * storeSize ≡ storeSize = omega arith in
+          let size : (i * store_size + store_size) - i * store_size ≡ store_size = omega arith in
           record {
             whole = w.whole;
             ready = w.ready;

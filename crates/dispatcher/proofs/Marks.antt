@@ -9,13 +9,13 @@ use native.Mathlib.Omega.{arith}
 use lib.Dec.{eqb, lit<}
 use lib.ListN.{length, get_or, set, drop, replicate, length-append, length-replicate, length-set, length-drop}
 use lib.Seq.{append_snoc, set-append_seam, set-append_left, drop-length, drop-cons}
-use Rattle.limits.specs.Limits.{mostStores}
+use Rattle.limits.specs.Limits.{most_stores}
 use Rattle.ring.specs.Ring.{numbers, round, listed}
 use Rattle.ring.proofs.Rows.{take-numbers}
 use Rattle.ring.proofs.Lists.{listed-none, listed-half, listed-last}
 use Rattle.dispatcher.specs.declared.tally.Index.{Index}
 use Rattle.dispatcher.specs.declared.tally.Index.TheVariants.{At, Nowhere}
-use Rattle.dispatcher.specs.Dispatch.{firstMarked, forEight, bits}
+use Rattle.dispatcher.specs.Dispatch.{first_marked, for_eight, bits}
 use Rattle.dispatcher.specs.Tally.{index_of}
 
 -- ---- the first marked index
@@ -23,15 +23,15 @@ use Rattle.dispatcher.specs.Tally.{index_of}
 module _ (marks : List Bool) where
   -- of the indexes from i on and below `to`
   abbrev pub from : ℕ → ℕ → Option ℕ
-  from i to = firstMarked marks (numbers i (to - i))
+  from i to = first_marked marks (numbers i (to - i))
 
   more : (i to : ℕ) → i < to → from i to ≡ cond (get_or marks i false) (some i) (from (i + 1) to)
-  unfolding firstMarked numbers
+  unfolding first_marked numbers
   more i to h =
       let one : to - i ≡ suc (to - (i + 1)) = omega arith in
       let next : suc i ≡ i + 1 = omega arith in
-      ap (λ (k : ℕ). firstMarked marks (numbers i k)) one
-      ∙ ap (λ (k : ℕ). cond (get_or marks i false) (some i) (firstMarked marks (numbers k (to - (i + 1))))) next
+      ap (λ (k : ℕ). first_marked marks (numbers i k)) one
+      ∙ ap (λ (k : ℕ). cond (get_or marks i false) (some i) (first_marked marks (numbers k (to - (i + 1))))) next
 
   pub marked-here : (i to : ℕ) → i < to → get_or marks i false ≡ true → from i to ≡ some i
   marked-here i to h e = more i to h ∙ rw e refl
@@ -40,7 +40,7 @@ module _ (marks : List Bool) where
   marked-later i to h e = more i to h ∙ rw e refl
 
   pub marked-nowhere : (i to : ℕ) → to ≤ i → from i to ≡ none
-  unfolding firstMarked numbers
+  unfolding first_marked numbers
   marked-nowhere i to h = let none_left : to - i ≡ 0 = omega arith in rw none_left refl
 
 -- the first, or else the second
@@ -49,13 +49,13 @@ or_else none o = o
 or_else (some i) o = some i
 
 -- of two lists of indexes, one after the other
-first-append : (marks : List Bool) (is js : List ℕ) → firstMarked marks (is ++ js) ≡ or_else (firstMarked marks is) (firstMarked marks js)
-unfolding firstMarked
+first-append : (marks : List Bool) (is js : List ℕ) → first_marked marks (is ++ js) ≡ or_else (first_marked marks is) (first_marked marks js)
+unfolding first_marked
 first-append marks [] js = refl
 first-append marks (i ∷ is) js = ap (cond (get_or marks i false) (some i)) (first-append marks is js) ∙ go (get_or marks i false)
   where
-    go : (b : Bool) → cond b (some i) (or_else (firstMarked marks is) (firstMarked marks js))
-        ≡ or_else (cond b (some i) (firstMarked marks is)) (firstMarked marks js)
+    go : (b : Bool) → cond b (some i) (or_else (first_marked marks is) (first_marked marks js))
+        ≡ or_else (cond b (some i) (first_marked marks is)) (first_marked marks js)
     go true = refl
     go false = refl
 
@@ -88,17 +88,17 @@ index-none (some j) q = let z : ◌≡◌ {A = ℕ} 0 1 = cc q in absurd (omega 
 
 -- what a search from an index on, and then from 0, finds
 module _ (marks : List Bool) (n at : ℕ) (h : at ≤ n) where
-  round-first : firstMarked marks (round (numbers 0 n) at) ≡ or_else (from marks at n) (from marks 0 at)
+  round-first : first_marked marks (round (numbers 0 n) at) ≡ or_else (from marks at n) (from marks 0 at)
   round-first = rw (round-numbers n at h) (first-append marks (numbers at (n - at)) (numbers 0 (at - 0)))
 
-  pub found-later : {r : Index} {i : ℕ} → r ≡ index_of (from marks at n) → r ≡ At i → At i ≡ index_of (firstMarked marks (round (numbers 0 n) at))
+  pub found-later : {r : Index} {i : ℕ} → r ≡ index_of (from marks at n) → r ≡ At i → At i ≡ index_of (first_marked marks (round (numbers 0 n) at))
   unfolding index_of
   found-later e f =
       let here = index-some (from marks at n) (sym f ∙ e) in
       sym (ap index_of (round-first ∙ ap (λ (o : Option ℕ). or_else o (from marks 0 at)) here))
 
   pub found-earlier : {r : Index} → r ≡ index_of (from marks at n) → r ≡ Nowhere
-      → index_of (from marks 0 at) ≡ index_of (firstMarked marks (round (numbers 0 n) at))
+      → index_of (from marks 0 at) ≡ index_of (first_marked marks (round (numbers 0 n) at))
   found-earlier e f =
       let nowhere = index-none (from marks at n) (sym f ∙ e) in
       sym (ap index_of (round-first ∙ ap (λ (o : Option ℕ). or_else o (from marks 0 at)) nowhere))
@@ -113,29 +113,29 @@ module _ {A : Type 0} (z : A) where
   padded (x ∷ l) k zero = refl
   padded (x ∷ l) k (suc i) = padded l k i
 
-  pub eight-at : (l : List A) (i : ℕ) → get_or (forEight z l) i z ≡ get_or l i z
-  unfolding forEight
-  eight-at l i = padded l (mostStores - length l) i
+  pub eight-at : (l : List A) (i : ℕ) → get_or (for_eight z l) i z ≡ get_or l i z
+  unfolding for_eight
+  eight-at l i = padded l (most_stores - length l) i
 
-  pub eight-length : (l : List A) → length l ≤ mostStores → length (forEight z l) ≡ mostStores
-  unfolding forEight
-  eight-length l h = length-append l (replicate (mostStores - length l) z) ∙ rw (length-replicate (mostStores - length l) z) (omega arith)
+  pub eight-length : (l : List A) → length l ≤ most_stores → length (for_eight z l) ≡ most_stores
+  unfolding for_eight
+  eight-length l h = length-append l (replicate (most_stores - length l) z) ∙ rw (length-replicate (most_stores - length l) z) (omega arith)
 
-  pub eight-set : (l : List A) (i : ℕ) (x : A) → i < length l → forEight z (set l i x) ≡ set (forEight z l) i x
-  unfolding forEight
-  eight-set l i x h = rw (length-set l i x) (sym (set-append_left l (replicate (mostStores - length l) z) i x h))
+  pub eight-set : (l : List A) (i : ℕ) (x : A) → i < length l → for_eight z (set l i x) ≡ set (for_eight z l) i x
+  unfolding for_eight
+  eight-set l i x h = rw (length-set l i x) (sym (set-append_left l (replicate (most_stores - length l) z) i x h))
 
   -- one store more
-  pub eight-next : (l : List A) (x : A) → length l < mostStores → set (forEight z l) (length l) x ≡ forEight z (l ++ (x ∷ []))
-  unfolding forEight
+  pub eight-next : (l : List A) (x : A) → length l < most_stores → set (for_eight z l) (length l) x ≡ for_eight z (l ++ (x ∷ []))
+  unfolding for_eight
   eight-next l x h =
-      let k : ℕ = mostStores - length (l ++ (x ∷ [])) in
-      let one : mostStores - length l ≡ suc k = rw (length-append l (x ∷ [])) (omega arith) in
+      let k : ℕ = most_stores - length (l ++ (x ∷ [])) in
+      let one : most_stores - length l ≡ suc k = rw (length-append l (x ∷ [])) (omega arith) in
       ap (λ (m : ℕ). set (l ++ replicate m z) (length l) x) one ∙ set-append_seam l z (replicate k z) x ∙ sym (append_snoc l x (replicate k z))
 
 -- marks of eight stores mark what those of the stores mark
-pub eight-marked : (marks : List Bool) (is : List ℕ) → firstMarked (forEight false marks) is ≡ firstMarked marks is
-unfolding firstMarked
+pub eight-marked : (marks : List Bool) (is : List ℕ) → first_marked (for_eight false marks) is ≡ first_marked marks is
+unfolding first_marked
 eight-marked marks [] = refl
 eight-marked marks (i ∷ is) = rw (eight-at false marks i, eight-marked marks is)
 
@@ -151,9 +151,9 @@ unfolding bits
 bits-padded [] k = no_bits k
 bits-padded (b ∷ l) k = rw (bits-padded l k)
 
-pub eight-bits : (l : List Bool) → bits (forEight false l) ≡ bits l
-unfolding forEight
-eight-bits l = bits-padded l (mostStores - length l)
+pub eight-bits : (l : List Bool) → bits (for_eight false l) ≡ bits l
+unfolding for_eight
+eight-bits l = bits-padded l (most_stores - length l)
 
 -- the bit at an index is its mark
 pub bit_at : (l : List Bool) (i : ℕ) → listed (bits l) i ≡ get_or l i false
@@ -183,11 +183,11 @@ bits-few (b ∷ l) = go b (bits-few l)
 
 -- so far: those from index i on
 pub record BitsFrom (l : List Bool) (sum i : ℕ) : Type 0 where
-  pub size : length l ≡ mostStores
-  pub within : i ≤ mostStores
+  pub size : length l ≡ most_stores
+  pub within : i ≤ most_stores
   pub sums : sum ≡ bits (drop i l)
 
-pub bits_none : (l : List Bool) → length l ≡ mostStores → BitsFrom l 0 mostStores
+pub bits_none : (l : List Bool) → length l ≡ most_stores → BitsFrom l 0 most_stores
 unfolding bits
 bits_none l size =
     record { size = size; within = omega arith; sums = sym (ap (λ (k : ℕ). bits (drop k l)) (sym size) ∙ ap bits (drop-length l)) }

@@ -2,13 +2,13 @@
 -- A call that is refused leaves what it was lent. Assumes nothing.
 use Rattle.std.specs.Prelude.{Bool, true, false, cond, not, ◌&&◌, List, [], ◌∷◌, ◌++◌, map, ℕ, zero, suc, ◌+◌, ◌*◌, ◌-◌, ◌/◌, ◌%◌, eqb, length, get_or, take, drop, set, replicate}
 use Rattle.std.proofs.Math.Option.{Option, none, some}
-use Rattle.limits.specs.Limits.{storeSize, mostStores, mostTurn}
-use Rattle.limits.specs.Refusals.{accepted, badStore, tooMany, badPart, badTurn}
+use Rattle.limits.specs.Limits.{store_size, most_stores, most_turn}
+use Rattle.limits.specs.Refusals.{accepted, bad_store, too_many, bad_part, bad_turn}
 use Rattle.ring.specs.Ring.{numbers, round}
 use Rattle.plans.specs.Plan.{within}
-use Rattle.model.specs.Platform.{Entry, nextEvent}
-use Rattle.store.specs.Store.{planIn, stateIn, storeInRange}
-use Rattle.platform.specs.Calls.{AfterRun, runNext, runRefusal, eventsDone}
+use Rattle.model.specs.Platform.{Entry, next_event}
+use Rattle.store.specs.Store.{plan_in, state_in, store_in_range}
+use Rattle.platform.specs.Calls.{AfterRun, run_next, run_refusal, events_done}
 use Rattle.dispatcher.specs.declared.Dispatched.{Dispatched}
 
 -- ---- the stores: 'lent one after another in one part'
@@ -23,8 +23,8 @@ unfoldable pub joined : {A : Type 0} → List (List A) → List A
 joined [] = []
 joined (l ∷ ls) = l ++ joined ls
 
-unfoldable pub storesIn : List ℕ → List (List ℕ)
-storesIn part = pieces storeSize (length part / storeSize) part
+unfoldable pub stores_in : List ℕ → List (List ℕ)
+stores_in part = pieces store_size (length part / store_size) part
 
 -- ---- how a store stands in a call: its bytes, the events that its turns did, and whether it is stopped
 
@@ -37,73 +37,73 @@ pub record Standing : Type 0 where
 unfoldable pub fresh : List ℕ → Standing
 fresh store = record { store = store; events = 0; stopped = false }
 
-unfoldable pub isLeft : Option Entry → Bool
-isLeft none = false
-isLeft (some e) = true
+unfoldable pub is_left : Option Entry → Bool
+is_left none = false
+is_left (some e) = true
 
 -- a store is done where it has no event left up to its end tick
-unfoldable pub eventLeft : List ℕ → Bool
-eventLeft store = isLeft (nextEvent (planIn store) (stateIn store))
+unfoldable pub event_left : List ℕ → Bool
+event_left store = is_left (next_event (plan_in store) (state_in store))
 
 -- it can go on: it has an event left, and is not stopped
-unfoldable pub canGo : Standing → Bool
-canGo x = eventLeft x.store && not x.stopped
+unfoldable pub can_go : Standing → Bool
+can_go x = event_left x.store && not x.stopped
 
 -- ---- turns
 
 -- a turn is a run of so many events: 'A store that refuses by 8 has used its turn, is marked stopped in the answer'
 unfoldable pub after_turn : ℕ → Standing → Standing
-after_turn turnLength x =
-    let r : AfterRun = runNext x.store turnLength in
-    record { store = r.store; events = x.events + eventsDone r.answer; stopped = eqb (runRefusal r.answer) tooMany }
+after_turn turn_length x =
+    let r : AfterRun = run_next x.store turn_length in
+    record { store = r.store; events = x.events + events_done r.answer; stopped = eqb (run_refusal r.answer) too_many }
 
 -- the store at an index; there is none beyond the last
-abbrev pub standingAt : List Standing → ℕ → Standing
-standingAt xs i = get_or xs i (fresh [])
+abbrev pub standing_at : List Standing → ℕ → Standing
+standing_at xs i = get_or xs i (fresh [])
 
 -- the store at index i has a turn
 unfoldable pub turn_of : ℕ → ℕ → List Standing → List Standing
-turn_of turnLength i xs = set xs i (after_turn turnLength (standingAt xs i))
+turn_of turn_length i xs = set xs i (after_turn turn_length (standing_at xs i))
 
 -- the stores at these indexes have a turn, one after another
-unfoldable pub afterTurns : ℕ → List ℕ → List Standing → List Standing
-afterTurns turnLength [] xs = xs
-afterTurns turnLength (i ∷ is) xs = afterTurns turnLength is (turn_of turnLength i xs)
+unfoldable pub after_turns : ℕ → List ℕ → List Standing → List Standing
+after_turns turn_length [] xs = xs
+after_turns turn_length (i ∷ is) xs = after_turns turn_length is (turn_of turn_length i xs)
 
 -- ---- whose turn it is: 'Stores go round by index, skipping those that are done', and 'skipped for the rest of the call' those that are stopped
 
 -- the first of these indexes that is marked
-unfoldable pub firstMarked : List Bool → List ℕ → Option ℕ
-firstMarked marks [] = none
-firstMarked marks (i ∷ is) = cond (get_or marks i false) (some i) (firstMarked marks is)
+unfoldable pub first_marked : List Bool → List ℕ → Option ℕ
+first_marked marks [] = none
+first_marked marks (i ∷ is) = cond (get_or marks i false) (some i) (first_marked marks is)
 
 -- the next store that can go on, where the round stands at an index: from there on to the last, then from 0
-unfoldable pub nextAble : List Standing → ℕ → Option ℕ
-nextAble xs at = firstMarked (map canGo xs) (round (numbers 0 (length xs)) at)
+unfoldable pub next_able : List Standing → ℕ → Option ℕ
+next_able xs at = first_marked (map can_go xs) (round (numbers 0 (length xs)) at)
 
 -- the turns that a call gives, each by the index of its store: 'a stated number of turns, fewer once no store can go on'
-unfoldable pub turnsFrom : ℕ → ℕ → ℕ → List Standing → List ℕ
-turnsFrom turnLength zero at xs = []
-turnsFrom turnLength (suc turns) at xs =
-    elim (nextAble xs at) [ none ↦ [] | some i ↦ i ∷ turnsFrom turnLength turns (suc i) (turn_of turnLength i xs) ]
+unfoldable pub turns_from : ℕ → ℕ → ℕ → List Standing → List ℕ
+turns_from turn_length zero at xs = []
+turns_from turn_length (suc turns) at xs =
+    elim (next_able xs at) [ none ↦ [] | some i ↦ i ∷ turns_from turn_length turns (suc i) (turn_of turn_length i xs) ]
 
 -- ---- a call
 
 -- how the stores stand before the first turn
 unfoldable pub standings : List ℕ → List Standing
-standings part = map fresh (storesIn part)
+standings part = map fresh (stores_in part)
 
 -- 'A call starts at index 0'
-unfoldable pub turnsOf : List ℕ → ℕ → ℕ → List ℕ
-turnsOf part turnLength turns = turnsFrom turnLength turns 0 (standings part)
+unfoldable pub turns_of : List ℕ → ℕ → ℕ → List ℕ
+turns_of part turn_length turns = turns_from turn_length turns 0 (standings part)
 
 -- how they stand after the last turn
-unfoldable pub standingsAfter : List ℕ → ℕ → ℕ → List Standing
-standingsAfter part turnLength turns = afterTurns turnLength (turnsOf part turnLength turns) (standings part)
+unfoldable pub standings_after : List ℕ → ℕ → ℕ → List Standing
+standings_after part turn_length turns = after_turns turn_length (turns_of part turn_length turns) (standings part)
 
 -- for each of eight stores; z where there is no such store
-unfoldable pub forEight : {A : Type 0} → A → List A → List A
-forEight z l = l ++ replicate (mostStores - length l) z
+unfoldable pub for_eight : {A : Type 0} → A → List A → List A
+for_eight z l = l ++ replicate (most_stores - length l) z
 
 -- marks as the bits of a number, the first as bit 0
 unfoldable pub bits : List Bool → ℕ
@@ -119,40 +119,40 @@ unfoldable pub given : ℕ → List Standing → Dispatched
 given turns xs = record {
   number = accepted;
   turns = turns;
-  events = forEight 0 (map (λ (x : Standing). x.events) xs);
+  events = for_eight 0 (map (λ (x : Standing). x.events) xs);
   stopped = bits (map (λ (x : Standing). x.stopped) xs);
 }
 
 -- the stores, one after another again
-unfoldable pub partAfter : List Standing → List ℕ
-partAfter xs = joined (map (λ (x : Standing). x.store) xs)
+unfoldable pub part_after : List Standing → List ℕ
+part_after xs = joined (map (λ (x : Standing). x.store) xs)
 
 unfoldable pub gave : List ℕ → ℕ → ℕ → AfterDispatch
-gave part turnLength turns =
-    let xs : List Standing = standingsAfter part turnLength turns in
-    record { answer = given (length (turnsOf part turnLength turns)) xs; part = partAfter xs }
+gave part turn_length turns =
+    let xs : List Standing = standings_after part turn_length turns in
+    record { answer = given (length (turns_of part turn_length turns)) xs; part = part_after xs }
 
 -- a refused call gives no turn
 unfoldable pub refused : ℕ → Dispatched
-refused number = record { number = number; turns = 0; events = forEight 0 []; stopped = 0 }
+refused number = record { number = number; turns = 0; events = for_eight 0 []; stopped = 0 }
 
-abbrev pub turnedDown : ℕ → List ℕ → AfterDispatch
-turnedDown number part = record { answer = refused number; part = part }
+abbrev pub turned_down : ℕ → List ℕ → AfterDispatch
+turned_down number part = record { answer = refused number; part = part }
 
 -- every store of a part is in range
-unfoldable pub allInRange : List (List ℕ) → Bool
-allInRange [] = true
-allInRange (store ∷ stores) = storeInRange store && allInRange stores
+unfoldable pub all_in_range : List (List ℕ) → Bool
+all_in_range [] = true
+all_in_range (store ∷ stores) = store_in_range store && all_in_range stores
 
 -- 7 is given 'for a part that isn't whole stores or for any store in it'
-unfoldable pub partInRange : List ℕ → Bool
-partInRange part = eqb (length part % storeSize) 0 && allInRange (storesIn part)
+unfoldable pub part_in_range : List ℕ → Bool
+part_in_range part = eqb (length part % store_size) 0 && all_in_range (stores_in part)
 
 -- 14, then 15, 'both before any store is read', then 7, which 'refuses the whole call'
 unfoldable pub dispatch : List ℕ → ℕ → ℕ → AfterDispatch
-dispatch part turnLength turns =
-    cond (within 1 (mostStores * storeSize) (length part))
-    (cond (within 1 mostTurn turnLength)
-    (cond (partInRange part) (gave part turnLength turns) (turnedDown badStore part))
-    (turnedDown badTurn part))
-    (turnedDown badPart part)
+dispatch part turn_length turns =
+    cond (within 1 (most_stores * store_size) (length part))
+    (cond (within 1 most_turn turn_length)
+    (cond (part_in_range part) (gave part turn_length turns) (turned_down bad_store part))
+    (turned_down bad_turn part))
+    (turned_down bad_part part)

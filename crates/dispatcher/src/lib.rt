@@ -3,7 +3,7 @@ mod tally; // tally.rt: whose turn it is, and what the turns of a call came to
 mod turns; // turns.rt: the turns of a call, on stores that are ready for them
 
 ghost use Rattle.std.specs.Prelude.{◌≡◌};
-ghost use Rattle.dispatcher.specs.Dispatch.{storesIn, refused, allInRange, dispatch};
+ghost use Rattle.dispatcher.specs.Dispatch.{stores_in, refused, all_in_range, dispatch};
 ghost use Rattle.dispatcher.specs.Tally.{Whole};
 
 use limits::{BAD_PART, BAD_STORE, BAD_TURN, MOST_STORES, MOST_TURN, STORE_SIZE};
@@ -33,7 +33,7 @@ fn refused(number: u64) -> Dispatched
 // Number 7's test of every store of a part.
 fn all_in_range(part: &[u8], n: usize) -> bool
     requires { Whole n part.now }
-    ensures { result ≡ allInRange (storesIn part.now) }
+    ensures { result ≡ all_in_range (stores_in part.now) }
 {
     let mut i = 0;
     while i < n {

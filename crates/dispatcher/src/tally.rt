@@ -1,9 +1,9 @@
 // Whose turn it is, and what the turns of a call came to.
 ghost use Rattle.std.specs.Prelude.{◌≡◌, ◌-◌, ◌^◌, ◌+◌, ◌≤◌, ◌<◌, get_or};
 ghost use Rattle.ring.specs.Ring.{numbers, round};
-ghost use Rattle.platform.specs.Calls.{eventsDone};
-ghost use Rattle.dispatcher.specs.Dispatch.{firstMarked, bits};
-ghost use Rattle.dispatcher.specs.Tally.{index_of, goesOn, isStopped, tallied, answer_of};
+ghost use Rattle.platform.specs.Calls.{events_done};
+ghost use Rattle.dispatcher.specs.Dispatch.{first_marked, bits};
+ghost use Rattle.dispatcher.specs.Tally.{index_of, goes_on, is_stopped, tallied, answer_of};
 
 use crate::Dispatched;
 use limits::{ACCEPTED, MOST_STORES};
@@ -27,7 +27,7 @@ pub enum Index {
 // The first index from one on and below another that is marked.
 fn first_marked(marks: [bool; 8], from: usize, to: usize) -> Index
     requires { (from ≤ to) × (to ≤ 8) }
-    ensures { result ≡ index_of (firstMarked marks (numbers from (to - from))) }
+    ensures { result ≡ index_of (first_marked marks (numbers from (to - from))) }
 {
     let mut i = from;
     while i < to {
@@ -42,7 +42,7 @@ fn first_marked(marks: [bool; 8], from: usize, to: usize) -> Index
 // The first of n indexes that is marked, from `at` on and then from 0 on.
 pub fn next_marked(marks: [bool; 8], n: usize, at: usize) -> Index
     requires { (at ≤ n) × (n ≤ 8) }
-    ensures { result ≡ index_of (firstMarked marks (round (numbers 0 n) at)) }
+    ensures { result ≡ index_of (first_marked marks (round (numbers 0 n) at)) }
 {
     let later = first_marked(marks, at, n);
     match later {
@@ -53,7 +53,7 @@ pub fn next_marked(marks: [bool; 8], n: usize, at: usize) -> Index
 
 // Whether the store of a turn goes on: its turn is spent, and another event remains.
 fn goes_on(ran: Ran) -> bool
-    ensures { result ≡ goesOn ran }
+    ensures { result ≡ goes_on ran }
 {
     match ran {
         Ran::Spent(_) => true,
@@ -64,7 +64,7 @@ fn goes_on(ran: Ran) -> bool
 
 // Whether it is stopped: an event of its turn was refused.
 fn is_stopped(ran: Ran) -> bool
-    ensures { result ≡ isStopped ran }
+    ensures { result ≡ is_stopped ran }
 {
     match ran {
         Ran::Refused(_, _) => true,
@@ -74,7 +74,7 @@ fn is_stopped(ran: Ran) -> bool
 
 // The events that its turn did.
 fn events_done(ran: Ran) -> u64
-    ensures { result ≡ eventsDone ran }
+    ensures { result ≡ events_done ran }
 {
     match ran {
         Ran::Spent(n) => n,
@@ -86,7 +86,7 @@ fn events_done(ran: Ran) -> u64
 // The tally after a turn of the store at an index.
 pub fn tallied(t: Tally, i: usize, ran: Ran) -> Tally
     requires i_bound { i < 8 }
-    requires ran_bound { get_or t.events i 0 + eventsDone ran < 2 ^ 64 }
+    requires ran_bound { get_or t.events i 0 + events_done ran < 2 ^ 64 }
     ensures { result ≡ tallied t i ran }
 {
     let mut able = t.able;

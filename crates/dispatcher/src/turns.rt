@@ -1,8 +1,8 @@
 // The turns of a call, on stores that are ready for them.
 ghost use Rattle.std.specs.Prelude.{◌≡◌, false, map, ◌*◌, ◌≤◌, ◌<◌, length};
 ghost use Rattle.event.specs.Ready.{Ready};
-ghost use Rattle.dispatcher.specs.Dispatch.{storesIn, eventLeft, forEight};
-ghost use Rattle.dispatcher.specs.Dispatch.{turnsOf, standingsAfter, given, partAfter};
+ghost use Rattle.dispatcher.specs.Dispatch.{stores_in, event_left, for_eight};
+ghost use Rattle.dispatcher.specs.Dispatch.{turns_of, standings_after, given, part_after};
 ghost use Rattle.dispatcher.specs.Tally.{Whole, AllReady};
 
 use crate::tally::{Index, Tally};
@@ -14,7 +14,7 @@ use platform::advance;
 // Whether an event is left up to the end tick.
 fn event_left(store: &[u8]) -> bool
     requires { Ready store.now }
-    ensures { result ≡ eventLeft store.now }
+    ensures { result ≡ event_left store.now }
 {
     match search::next_event(store) {
         Next::Nothing => false,
@@ -24,8 +24,8 @@ fn event_left(store: &[u8]) -> bool
 
 // Which stores have an event left.
 fn able_at_first(part: &[u8], n: usize) -> [bool; 8]
-    requires { Whole n part.now × AllReady (storesIn part.now) }
-    ensures { result ≡ forEight false (map eventLeft (storesIn part.now)) }
+    requires { Whole n part.now × AllReady (stores_in part.now) }
+    ensures { result ≡ for_eight false (map event_left (stores_in part.now)) }
 {
     let mut able = [false; 8];
     let mut i = 0;
@@ -40,10 +40,10 @@ fn able_at_first(part: &[u8], n: usize) -> [bool; 8]
 
 // Gives the turns of a call.
 pub fn give(part: &mut [u8], n: usize, each: u64, turns: u64) -> Dispatched
-    requires whole { Whole n part.old × AllReady (storesIn part.old) }
+    requires whole { Whole n part.old × AllReady (stores_in part.old) }
     requires le_each { 1 ≤ each }
-    ensures value { result ≡ given (length (turnsOf part.old each turns)) (standingsAfter part.old each turns) }
-    ensures part_after { part.new ≡ partAfter (standingsAfter part.old each turns) }
+    ensures value { result ≡ given (length (turns_of part.old each turns)) (standings_after part.old each turns) }
+    ensures part_after { part.new ≡ part_after (standings_after part.old each turns) }
 {
     let able = able_at_first(part, n);
     let mut t = Tally {

@@ -6,17 +6,17 @@ use mathlib.Core.Bool.{Bool, true, false, cond}
 use mathlib.Core.List.{List}
 use native.Mathlib.Omega.{arith}
 use lib.ListN.{length}
-use Rattle.limits.specs.Limits.{mostNodes, mostTick}
+use Rattle.limits.specs.Limits.{most_nodes, most_tick}
 use Rattle.ring.specs.Ring.{listed}
 use Rattle.node.specs.declared.Node.{Node}
-use Rattle.node.specs.Node.{Turn, silent, turned, onMessage}
-use Rattle.plans.specs.Plan.{Plan, planTest, order_of}
-use Rattle.model.specs.Platform.{InFlight, State, crashedList, delayOf, node_of, received}
+use Rattle.node.specs.Node.{Turn, silent, turned, on_message}
+use Rattle.plans.specs.Plan.{Plan, plan_test, order_of}
+use Rattle.model.specs.Platform.{InFlight, State, crashed_list, delay_of, node_of, received}
 use Rattle.plans.specs.Plain.{Plain}
 use Rattle.plans.proofs.Facts.{plan-plain}
 use Rattle.model.proofs.RangesKept.{delay-ok}
-use Rattle.store.specs.Store.{encode, planIn, stateIn}
-use Rattle.store.specs.Inside.{Fits, Held, withTick}
+use Rattle.store.specs.Store.{encode, plan_in, state_in}
+use Rattle.store.specs.Inside.{Fits, Held, with_tick}
 use Rattle.store.proofs.Store.{plan-encode, state-encode, held-encode}
 use Rattle.store.proofs.States.{tick-fits}
 use Rattle.event.specs.Acting.{Acting}
@@ -27,33 +27,33 @@ use Rattle.event.proofs.Searching.{dead-of, live_of}
 -- ---- the ring's order, as lent by the store
 
 -- it has one node at least, and 64 at most
-pub order-sized : (b : List ℕ) → Acting b → {order : List ℕ} → order ≡ order_of (planIn b) → (1 ≤ length order) × (length order ≤ mostNodes)
+pub order-sized : (b : List ℕ) → Acting b → {order : List ℕ} → order ≡ order_of (plan_in b) → (1 ≤ length order) × (length order ≤ most_nodes)
 order-sized b a {order} e =
-    let pl : Plain (planIn b) = acting-plain b a in
-    let size : length order ≡ (planIn b).n = ap length e ∙ pl.order.size in
+    let pl : Plain (plan_in b) = acting-plain b a in
+    let size : length order ≡ (plan_in b).n = ap length e ∙ pl.order.size in
     (omega (arith, size, pl.n≥), omega (arith, size, pl.n≤))
 
 -- ---- the tick of an event, and one change after it
 
-module _ (b : List ℕ) (h : Held b) (t : ℕ) (l : t ≤ mostTick) (c : List ℕ) (e : c ≡ encode (planIn b) (withTick (stateIn b) t)) where
-  ticked : Fits (planIn b) (withTick (stateIn b) t)
-  ticked = tick-fits (planIn b) (stateIn b) h.fits t (omega arith)
+module _ (b : List ℕ) (h : Held b) (t : ℕ) (l : t ≤ most_tick) (c : List ℕ) (e : c ≡ encode (plan_in b) (with_tick (state_in b) t)) where
+  ticked : Fits (plan_in b) (with_tick (state_in b) t)
+  ticked = tick-fits (plan_in b) (state_in b) h.fits t (omega arith)
 
   pub ticked-held : Held c
-  ticked-held = rw e (held-encode (planIn b) (withTick (stateIn b) t) ticked)
+  ticked-held = rw e (held-encode (plan_in b) (with_tick (state_in b) t) ticked)
 
-  pub ticked-plan : planIn c ≡ planIn b
-  ticked-plan = ap planIn e ∙ plan-encode (planIn b) (withTick (stateIn b) t) ticked
+  pub ticked-plan : plan_in c ≡ plan_in b
+  ticked-plan = ap plan_in e ∙ plan-encode (plan_in b) (with_tick (state_in b) t) ticked
 
-  pub ticked-then : (f : State → State) (b' : List ℕ) → b' ≡ encode (planIn c) (f (stateIn c)) → b' ≡ encode (planIn b) (f (withTick (stateIn b) t))
+  pub ticked-then : (f : State → State) (b' : List ℕ) → b' ≡ encode (plan_in c) (f (state_in c)) → b' ≡ encode (plan_in b) (f (with_tick (state_in b) t))
   ticked-then f b' q =
-      q ∙ ap₂ (λ (p : Plan) (s : State). encode p (f s)) ticked-plan (ap stateIn e ∙ state-encode (planIn b) (withTick (stateIn b) t) ticked)
+      q ∙ ap₂ (λ (p : Plan) (s : State). encode p (f s)) ticked-plan (ap state_in e ∙ state-encode (plan_in b) (with_tick (state_in b) t) ticked)
 
 -- ---- a message's delay
 
-pub delay-few : (b : List ℕ) → Held b → planTest (planIn b) ≡ true → (number : ℕ) → delayOf (planIn b) number ≤ 255
+pub delay-few : (b : List ℕ) → Held b → plan_test (plan_in b) ≡ true → (number : ℕ) → delay_of (plan_in b) number ≤ 255
 delay-few b h good number =
-    omega (arith, (delay-ok (planIn b) (plan-plain (planIn b) good) number).1, (ranges (planIn b) good).d-high)
+    omega (arith, (delay-ok (plan_in b) (plan-plain (plan_in b) good) number).1, (ranges (plan_in b) good).d-high)
 
 -- ---- a message's turn of its receiver
 
@@ -64,27 +64,27 @@ module _
     (m : InFlight)
     (dead : ℕ)
     (l : Bool)
-    (de : dead ≡ crashedList (planIn b) (stateIn b).done)
+    (de : dead ≡ crashed_list (plan_in b) (state_in b).done)
     (le : l ≡ listed dead m.to) where
-  abbrev turnWhere : Bool → Turn
-  turnWhere c =
-      cond c (onMessage (order_of (planIn b)) (planIn b).w t m.to m.kind m.from m.subject m.list (node_of (stateIn b) m.to))
-      (silent (node_of (stateIn b) m.to))
+  abbrev turn_where : Bool → Turn
+  turn_where c =
+      cond c (on_message (order_of (plan_in b)) (plan_in b).w t m.to m.kind m.from m.subject m.list (node_of (state_in b) m.to))
+      (silent (node_of (state_in b) m.to))
 
-  listed-is : listed (crashedList (planIn b) (stateIn b).done) m.to ≡ l
+  listed-is : listed (crashed_list (plan_in b) (state_in b).done) m.to ≡ l
   listed-is = sym (le ∙ ap (λ (d : ℕ). listed d m.to) de)
 
-  pub turn-dropped : l ≡ true → (n : Node) → n ≡ node_of (stateIn b) m.to → turned (silent n) ≡ turned (received (planIn b) (stateIn b) t m)
+  pub turn-dropped : l ≡ true → (n : Node) → n ≡ node_of (state_in b) m.to → turned (silent n) ≡ turned (received (plan_in b) (state_in b) t m)
   unfolding received
   turn-dropped h n ne =
-      ap turned (ap silent ne ∙ sym (ap turnWhere (dead-of (planIn b) (acting-plain b a) (stateIn b).done m.to (listed-is ∙ h))))
+      ap turned (ap silent ne ∙ sym (ap turn_where (dead-of (plan_in b) (acting-plain b a) (state_in b).done m.to (listed-is ∙ h))))
 
-  pub turn-delivered : l ≡ false → (n : Node) → n ≡ node_of (stateIn b) m.to → (order : List ℕ) → order ≡ order_of (planIn b) → (w : ℕ)
-      → w ≡ (planIn b).w
-      → turned (onMessage order w t m.to m.kind m.from m.subject m.list n) ≡ turned (received (planIn b) (stateIn b) t m)
+  pub turn-delivered : l ≡ false → (n : Node) → n ≡ node_of (state_in b) m.to → (order : List ℕ) → order ≡ order_of (plan_in b) → (w : ℕ)
+      → w ≡ (plan_in b).w
+      → turned (on_message order w t m.to m.kind m.from m.subject m.list n) ≡ turned (received (plan_in b) (state_in b) t m)
   unfolding received
   turn-delivered h n ne order oe w we =
       ap turned
-      (ap₂ (λ (o : List ℕ) (v : ℕ). onMessage o v t m.to m.kind m.from m.subject m.list n) oe we
-      ∙ (ap (onMessage (order_of (planIn b)) (planIn b).w t m.to m.kind m.from m.subject m.list) ne
-      ∙ sym (ap turnWhere (live_of (planIn b) (acting-plain b a) (stateIn b).done m.to (listed-is ∙ h)))))
+      (ap₂ (λ (o : List ℕ) (v : ℕ). on_message o v t m.to m.kind m.from m.subject m.list n) oe we
+      ∙ (ap (on_message (order_of (plan_in b)) (plan_in b).w t m.to m.kind m.from m.subject m.list) ne
+      ∙ sym (ap turn_where (live_of (plan_in b) (acting-plain b a) (state_in b).done m.to (listed-is ∙ h)))))

@@ -18,16 +18,16 @@ use Rattle.ring.specs.Ring.{listed, unlisted, count, numbers}
 use Rattle.node.specs.declared.Node.{Node}
 use Rattle.node.specs.Node.{alone}
 use Rattle.plans.specs.Plan.{Crash, Plan}
-use Rattle.model.specs.Platform.{InFlight, State, Event, Entry, crash, message, watch, heartbeat, alive, survivors, crashedList, crashEntries}
-use Rattle.model.specs.Platform.{messageEntries, timerEntry, timerEntries, pending, earlier, first, up_to, nextEvent, noMessage}
-use Rattle.plans.specs.Plain.{noCrash, row_at, Plain}
+use Rattle.model.specs.Platform.{InFlight, State, Event, Entry, crash, message, watch, heartbeat, alive, survivors, crashed_list, crash_entries}
+use Rattle.model.specs.Platform.{message_entries, timer_entry, timer_entries, pending, earlier, first, up_to, next_event, no_message}
+use Rattle.plans.specs.Plain.{no_crash, row_at, Plain}
 use Rattle.model.proofs.NextEvent.{Under, crashes-in}
 use Rattle.model.proofs.Search.{under_first}
 use Rattle.ring.proofs.Laws.{keep-ext}
 use Rattle.model.proofs.SettledNode.{crashed-listed}
 use Rattle.event.specs.declared.Next.TheVariants.{Nothing}
 use Rattle.event.specs.Event.{next_of, entry}
-use Rattle.event.specs.Search.{sooner, leastTick, crashTick, timerTick, first_at}
+use Rattle.event.specs.Search.{sooner, least_tick, crash_tick, timer_tick, first_at}
 
 -- ---- the earliest tick
 
@@ -46,56 +46,56 @@ sooner-le t u = go (dec_lt u t)
     go (yes h) = rw (sooner-taken t u h) (omega arith, omega arith)
     go (no h) = rw (sooner-kept t u (omega arith)) (omega arith, omega arith)
 
-pub least-le : (t : ℕ) (xs : List Entry) → leastTick t xs ≤ t
-unfolding leastTick
+pub least-le : (t : ℕ) (xs : List Entry) → least_tick t xs ≤ t
+unfolding least_tick
 least-le t [] = omega arith
 least-le t (e ∷ es) = omega (arith, least-le (sooner t e.tick) es, (sooner-le t e.tick).0)
 
-pub least-append : (t : ℕ) (xs ys : List Entry) → leastTick t (xs ++ ys) ≡ leastTick (leastTick t xs) ys
-unfolding leastTick
+pub least-append : (t : ℕ) (xs ys : List Entry) → least_tick t (xs ++ ys) ≡ least_tick (least_tick t xs) ys
+unfolding least_tick
 least-append t [] ys = refl
 least-append t (e ∷ es) ys = least-append (sooner t e.tick) es ys
 
 -- ticks that are not before t
-pub least-late : (t : ℕ) (xs : List Entry) → ((e : Entry) → Memᴰ e xs → t ≤ e.tick) → leastTick t xs ≡ t
-unfolding leastTick
+pub least-late : (t : ℕ) (xs : List Entry) → ((e : Entry) → Memᴰ e xs → t ≤ e.tick) → least_tick t xs ≡ t
+unfolding least_tick
 least-late t [] h = refl
 least-late t (e ∷ es) h = rw (sooner-kept t e.tick (h e (Memᴰ.head refl))) (least-late t es (λ f m. h f (Memᴰ.tail m)))
 
-least-all : (t : ℕ) (xs : List Entry) (e : Entry) → Memᴰ e xs → leastTick t xs ≤ e.tick
-unfolding leastTick
+least-all : (t : ℕ) (xs : List Entry) (e : Entry) → Memᴰ e xs → least_tick t xs ≤ e.tick
+unfolding least_tick
 least-all t [] e m = absurd (Memᴰ.not-nil m)
 least-all t (x ∷ xs) e m = go (Memᴰ.cases_cons m) (least-all (sooner t x.tick) xs e)
   where
-    go : (e ≡ x) ⊎ Memᴰ e xs → (Memᴰ e xs → leastTick (sooner t x.tick) xs ≤ e.tick)
-        → leastTick (sooner t x.tick) xs ≤ e.tick
+    go : (e ≡ x) ⊎ Memᴰ e xs → (Memᴰ e xs → least_tick (sooner t x.tick) xs ≤ e.tick)
+        → least_tick (sooner t x.tick) xs ≤ e.tick
     go (inl q) ih = rw q (omega (arith, least-le (sooner t x.tick) xs, (sooner-le t x.tick).1))
     go (inr q) ih = ih q
 
 -- ---- the first event at the earliest tick
 
 -- an earliest tick below t is that of an entry
-found_at : (t : ℕ) (xs : List Entry) → leastTick t xs < t → (f : Entry) × (first_at (leastTick t xs) xs ≡ some f)
-unfolding leastTick first_at
+found_at : (t : ℕ) (xs : List Entry) → least_tick t xs < t → (f : Entry) × (first_at (least_tick t xs) xs ≡ some f)
+unfolding least_tick first_at
 found_at t [] h = absurd (omega arith)
-found_at t (e ∷ es) h = go (dec_lt (leastTick (sooner t e.tick) es) (sooner t e.tick)) (found_at (sooner t e.tick) es)
+found_at t (e ∷ es) h = go (dec_lt (least_tick (sooner t e.tick) es) (sooner t e.tick)) (found_at (sooner t e.tick) es)
   where
-    either : (b : Bool) (f : Entry) → first_at (leastTick (sooner t e.tick) es) es ≡ some f → (g : Entry)
-        × (cond b (some e) (first_at (leastTick (sooner t e.tick) es) es) ≡ some g)
+    either : (b : Bool) (f : Entry) → first_at (least_tick (sooner t e.tick) es) es ≡ some f → (g : Entry)
+        × (cond b (some e) (first_at (least_tick (sooner t e.tick) es) es) ≡ some g)
     either true f q = (e, refl)
     either false f q = (f, q)
 
-    here : Dec (e.tick < t) → sooner t e.tick ≤ leastTick (sooner t e.tick) es → e.tick ≡ leastTick (sooner t e.tick) es
+    here : Dec (e.tick < t) → sooner t e.tick ≤ least_tick (sooner t e.tick) es → e.tick ≡ least_tick (sooner t e.tick) es
     here (yes k) l = omega (arith, sooner-taken t e.tick k, least-le (sooner t e.tick) es)
     here (no k) l = absurd (omega (arith, sooner-kept t e.tick (omega arith), h))
 
-    go : Dec (leastTick (sooner t e.tick) es < sooner t e.tick) →
-        (leastTick (sooner t e.tick) es < sooner t e.tick → (f : Entry) × (first_at (leastTick (sooner t e.tick) es) es ≡ some f))
-        → (f : Entry) × (cond (eqb e.tick (leastTick (sooner t e.tick) es)) (some e) (first_at (leastTick (sooner t e.tick) es) es) ≡ some f)
+    go : Dec (least_tick (sooner t e.tick) es < sooner t e.tick) →
+        (least_tick (sooner t e.tick) es < sooner t e.tick → (f : Entry) × (first_at (least_tick (sooner t e.tick) es) es ≡ some f))
+        → (f : Entry) × (cond (eqb e.tick (least_tick (sooner t e.tick) es)) (some e) (first_at (least_tick (sooner t e.tick) es) es) ≡ some f)
     go (yes k) ih =
-        let r : (f : Entry) × (first_at (leastTick (sooner t e.tick) es) es ≡ some f) = ih k in either (eqb e.tick (leastTick (sooner t e.tick) es))
+        let r : (f : Entry) × (first_at (least_tick (sooner t e.tick) es) es ≡ some f) = ih k in either (eqb e.tick (least_tick (sooner t e.tick) es))
         r.0 r.1
-    go (no k) ih = (e, rw (eq-eqb e.tick (leastTick (sooner t e.tick) es) (here (dec_lt e.tick t) (omega arith))))
+    go (no k) ih = (e, rw (eq-eqb e.tick (least_tick (sooner t e.tick) es) (here (dec_lt e.tick t) (omega arith))))
 
 at_tick : (t : ℕ) (es : List Entry) (f : Entry) → first_at t es ≡ some f → f.tick ≡ t
 unfolding first_at
@@ -128,11 +128,11 @@ first-tick t (e ∷ es) f g h = go (eqb e.tick t) refl h (λ q. first-tick t es 
         ap (λ (r : Option Entry). some (earlier e r)) (ih h) ∙ ap (λ (b : Bool). some (cond b e f)) (lt-leb e.tick f.tick (omega arith))
 
 -- the earliest tick is not after the end: the first event at it is the next
-pub at_least : (p : Plan) (s : State) (t : ℕ) → leastTick (suc p.end) (pending p s) ≡ t → t ≤ p.end → nextEvent p s ≡ first_at t (pending p s)
-unfolding nextEvent up_to
+pub at_least : (p : Plan) (s : State) (t : ℕ) → least_tick (suc p.end) (pending p s) ≡ t → t ≤ p.end → next_event p s ≡ first_at t (pending p s)
+unfolding next_event up_to
 at_least p s t e h =
     let r : (f : Entry) × (first_at t (pending p s) ≡ some f) =
-    there (leastTick (suc p.end) (pending p s)) e (found_at (suc p.end) (pending p s) (omega arith)) in
+    there (least_tick (suc p.end) (pending p s)) e (found_at (suc p.end) (pending p s) (omega arith)) in
     let q : first (pending p s) ≡ some r.0 =
     first-tick t (pending p s) r.0 (λ f m. omega (arith, e, least-all (suc p.end) (pending p s) f m)) r.1 in
     let k : r.0.tick ≡ t = at_tick t (pending p s) r.0 r.1 in
@@ -142,8 +142,8 @@ at_least p s t e h =
     there m q r = (r.0, ap (λ (k : ℕ). first_at k (pending p s)) (sym q) ∙ r.1)
 
 -- it is after the end: none is left
-pub none_left : (p : Plan) (s : State) (t : ℕ) → leastTick (suc p.end) (pending p s) ≡ t → p.end < t → nextEvent p s ≡ none
-unfolding nextEvent up_to Under
+pub none_left : (p : Plan) (s : State) (t : ℕ) → least_tick (suc p.end) (pending p s) ≡ t → p.end < t → next_event p s ≡ none
+unfolding next_event up_to Under
 none_left p s t e h = go (first (pending p s)) (under_first t (pending p s) (λ f m. omega (arith, e, least-all (suc p.end) (pending p s) f m)))
   where
     go : (r : Option Entry) → Under t r → up_to p.end r ≡ none
@@ -153,25 +153,25 @@ none_left p s t e h = go (first (pending p s)) (under_first t (pending p s) (λ 
 -- ---- the crashed nodes
 
 -- how many survive, by the crashed list
-pub survivors-count : (p : Plan) → Plain p → (done : ℕ) → survivors p done ≡ count p.n (crashedList p done)
+pub survivors-count : (p : Plan) → Plain p → (done : ℕ) → survivors p done ≡ count p.n (crashed_list p done)
 unfolding survivors count unlisted
 survivors-count p pl done =
-    ap length (keep-ext (alive p done) (λ k. not (listed (crashedList p done) k)) (numbers 0 p.n)
-    (λ k. go (alive p done k) (listed (crashedList p done) k) (crashed-listed p pl done k)))
+    ap length (keep-ext (alive p done) (λ k. not (listed (crashed_list p done) k)) (numbers 0 p.n)
+    (λ k. go (alive p done k) (listed (crashed_list p done) k) (crashed-listed p pl done k)))
   where
     go : (a d : Bool) → d ≡ not a → a ≡ not d
     go true d e = rw e
     go false d e = rw e
 
 -- a node is live unless it is listed
-pub live_of : (p : Plan) → Plain p → (done k : ℕ) → listed (crashedList p done) k ≡ false → alive p done k ≡ true
+pub live_of : (p : Plan) → Plain p → (done k : ℕ) → listed (crashed_list p done) k ≡ false → alive p done k ≡ true
 live_of p pl done k h = go (alive p done k) (sym (crashed-listed p pl done k) ∙ h)
   where
     go : (a : Bool) → not a ≡ false → a ≡ true
     go true e = refl
     go false e = sym e
 
-pub dead-of : (p : Plan) → Plain p → (done k : ℕ) → listed (crashedList p done) k ≡ true → alive p done k ≡ false
+pub dead-of : (p : Plan) → Plain p → (done k : ℕ) → listed (crashed_list p done) k ≡ true → alive p done k ≡ false
 dead-of p pl done k h = go (alive p done k) (sym (crashed-listed p pl done k) ∙ h)
   where
     go : (a : Bool) → not a ≡ true → a ≡ false
@@ -181,184 +181,184 @@ dead-of p pl done k h = go (alive p done k) (sym (crashed-listed p pl done k) �
 -- ---- the earliest tick of crashes
 
 -- all are done
-pub crashes-over : (p : Plan) (s : State) → length p.crashes ≤ s.done → crashTick p s.done ≡ suc p.end
-unfolding crashTick crashEntries leastTick
+pub crashes-over : (p : Plan) (s : State) → length p.crashes ≤ s.done → crash_tick p s.done ≡ suc p.end
+unfolding crash_tick crash_entries least_tick
 crashes-over p s h = rw (drop_of_length-le p.crashes h)
 
 -- the first undone row is the earliest
-pub crash-first : (p : Plan) → Plain p → (s : State) → s.done < length p.crashes → crashTick p s.done ≡ (row_at p s.done).tick
-unfolding crashTick crashEntries leastTick
+pub crash-first : (p : Plan) → Plain p → (s : State) → s.done < length p.crashes → crash_tick p s.done ≡ (row_at p s.done).tick
+unfolding crash_tick crash_entries least_tick
 crash-first p pl s h =
-    rw (drop-cons p.crashes s.done noCrash h)
-    (ap (λ (u : ℕ). leastTick u (crashEntries (drop (suc s.done) p.crashes)))
+    rw (drop-cons p.crashes s.done no_crash h)
+    (ap (λ (u : ℕ). least_tick u (crash_entries (drop (suc s.done) p.crashes)))
     (sooner-taken (suc p.end) (row_at p s.done).tick (omega (arith, pl.tick s.done h)))
-    ∙ least-late (row_at p s.done).tick (crashEntries (drop (suc s.done) p.crashes)) later)
+    ∙ least-late (row_at p s.done).tick (crash_entries (drop (suc s.done) p.crashes)) later)
   where
-    later : (e : Entry) → Memᴰ e (crashEntries (drop (suc s.done) p.crashes)) → (row_at p s.done).tick ≤ e.tick
+    later : (e : Entry) → Memᴰ e (crash_entries (drop (suc s.done) p.crashes)) → (row_at p s.done).tick ≤ e.tick
     later e m =
-        let w : (i : ℕ) × (i < length (drop (suc s.done) p.crashes)) × (e.tick ≡ (get_or (drop (suc s.done) p.crashes) i noCrash).tick) =
-        crashes-in (drop (suc s.done) p.crashes) noCrash e m in
+        let w : (i : ℕ) × (i < length (drop (suc s.done) p.crashes)) × (e.tick ≡ (get_or (drop (suc s.done) p.crashes) i no_crash).tick) =
+        crashes-in (drop (suc s.done) p.crashes) no_crash e m in
         let q : e.tick ≡ (row_at p (suc s.done + w.0)).tick =
-        w.2 ∙ ap (λ (r : Crash). r.tick) (get_or-drop (suc s.done) p.crashes w.0 noCrash) in
+        w.2 ∙ ap (λ (r : Crash). r.tick) (get_or-drop (suc s.done) p.crashes w.0 no_crash) in
         rw q (pl.rising s.done (suc s.done + w.0) (omega arith) (omega (arith, w.1, length-drop (suc s.done) p.crashes)))
 
 -- ---- the earliest tick of messages, one after another
 
 module _ (ms : List InFlight) (i l : ℕ) where
-  message-next : i < length ms → leastTick l (messageEntries i (drop i ms)) ≡ leastTick (sooner l (get_or ms i noMessage).due)
-      (messageEntries (i + 1) (drop (i + 1) ms))
-  unfolding messageEntries leastTick
-  message-next h = rw (add-one i, drop-cons ms i noMessage h)
+  message-next : i < length ms → least_tick l (message_entries i (drop i ms)) ≡ least_tick (sooner l (get_or ms i no_message).due)
+      (message_entries (i + 1) (drop (i + 1) ms))
+  unfolding message_entries least_tick
+  message-next h = rw (add-one i, drop-cons ms i no_message h)
 
-  pub message-sooner : (d : ℕ) → i < length ms → d ≡ (get_or ms i noMessage).due → d < l
-      → leastTick l (messageEntries i (drop i ms)) ≡ leastTick d (messageEntries (i + 1) (drop (i + 1) ms))
+  pub message-sooner : (d : ℕ) → i < length ms → d ≡ (get_or ms i no_message).due → d < l
+      → least_tick l (message_entries i (drop i ms)) ≡ least_tick d (message_entries (i + 1) (drop (i + 1) ms))
   message-sooner d h e k =
-      message-next h ∙ ap (λ (u : ℕ). leastTick u (messageEntries (i + 1) (drop (i + 1) ms))) (ap (sooner l) (sym e) ∙ sooner-taken l d k)
+      message-next h ∙ ap (λ (u : ℕ). least_tick u (message_entries (i + 1) (drop (i + 1) ms))) (ap (sooner l) (sym e) ∙ sooner-taken l d k)
 
-  pub message-later : (d : ℕ) → i < length ms → d ≡ (get_or ms i noMessage).due → l ≤ d
-      → leastTick l (messageEntries i (drop i ms)) ≡ leastTick l (messageEntries (i + 1) (drop (i + 1) ms))
+  pub message-later : (d : ℕ) → i < length ms → d ≡ (get_or ms i no_message).due → l ≤ d
+      → least_tick l (message_entries i (drop i ms)) ≡ least_tick l (message_entries (i + 1) (drop (i + 1) ms))
   message-later d h e k =
-      message-next h ∙ ap (λ (u : ℕ). leastTick u (messageEntries (i + 1) (drop (i + 1) ms))) (ap (sooner l) (sym e) ∙ sooner-kept l d k)
+      message-next h ∙ ap (λ (u : ℕ). least_tick u (message_entries (i + 1) (drop (i + 1) ms))) (ap (sooner l) (sym e) ∙ sooner-kept l d k)
 
-  pub messages-over : length ms ≤ i → leastTick l (messageEntries i (drop i ms)) ≡ l
-  unfolding messageEntries leastTick
+  pub messages-over : length ms ≤ i → least_tick l (message_entries i (drop i ms)) ≡ l
+  unfolding message_entries least_tick
   messages-over h = rw (drop_of_length-le ms h)
 
 -- ---- the earliest tick of timers, node by node
 
-pub timer-none : (t v : ℕ) → v ≡ 0 → timerTick t v ≡ t
-unfolding timerTick
+pub timer-none : (t v : ℕ) → v ≡ 0 → timer_tick t v ≡ t
+unfolding timer_tick
 timer-none t v e = rw e
 
-pub timer-sooner : (t v u : ℕ) → v ≢ 0 → u ≡ v - 1 → u < t → timerTick t v ≡ u
-unfolding timerTick
+pub timer-sooner : (t v u : ℕ) → v ≢ 0 → u ≡ v - 1 → u < t → timer_tick t v ≡ u
+unfolding timer_tick
 timer-sooner t zero u h e k = absurd (h refl)
 timer-sooner t (suc v) u h e k = let q : u ≡ v = omega arith in rw (← q) (sooner-taken t u k)
 
-pub timer-later : (t v u : ℕ) → v ≢ 0 → u ≡ v - 1 → t ≤ u → timerTick t v ≡ t
-unfolding timerTick
+pub timer-later : (t v u : ℕ) → v ≢ 0 → u ≡ v - 1 → t ≤ u → timer_tick t v ≡ t
+unfolding timer_tick
 timer-later t zero u h e k = absurd (h refl)
 timer-later t (suc v) u h e k = let q : u ≡ v = omega arith in sooner-kept t v (omega arith)
 
-timer-least : (t v : ℕ) (e : Event) → leastTick t (timerEntry v e) ≡ timerTick t v
-unfolding leastTick timerEntry timerTick
+timer-least : (t v : ℕ) (e : Event) → least_tick t (timer_entry v e) ≡ timer_tick t v
+unfolding least_tick timer_entry timer_tick
 timer-least t zero e = refl
 timer-least t (suc v) e = refl
 
 module _ (p : Plan) (pl : Plain p) (d : ℕ) (ns : List Node) (x l : ℕ) where
   node-next : (live : Bool) → alive p d x ≡ live → x < length ns
-      → leastTick l (timerEntries p d x (drop x ns)) ≡ leastTick (leastTick l
-      (cond live (timerEntry (get_or ns x (alone x 0 0)).watch (watch x) ++ timerEntry (get_or ns x (alone x 0 0)).heartbeat (heartbeat x)) []))
-      (timerEntries p d (x + 1) (drop (x + 1) ns))
-  unfolding timerEntries
+      → least_tick l (timer_entries p d x (drop x ns)) ≡ least_tick (least_tick l
+      (cond live (timer_entry (get_or ns x (alone x 0 0)).watch (watch x) ++ timer_entry (get_or ns x (alone x 0 0)).heartbeat (heartbeat x)) []))
+      (timer_entries p d (x + 1) (drop (x + 1) ns))
+  unfolding timer_entries
   node-next live e h = rw (add-one x, drop-cons ns x (alone x 0 0) h, e) (least-append l _ _)
 
-  pub live-next : (a : Node) → x < length ns → a ≡ get_or ns x (alone x 0 0) → listed (crashedList p d) x ≡ false
-      → leastTick l (timerEntries p d x (drop x ns)) ≡ leastTick (timerTick (timerTick l a.watch) a.heartbeat)
-      (timerEntries p d (x + 1) (drop (x + 1) ns))
+  pub live-next : (a : Node) → x < length ns → a ≡ get_or ns x (alone x 0 0) → listed (crashed_list p d) x ≡ false
+      → least_tick l (timer_entries p d x (drop x ns)) ≡ least_tick (timer_tick (timer_tick l a.watch) a.heartbeat)
+      (timer_entries p d (x + 1) (drop (x + 1) ns))
   live-next a h e un =
       node-next true (live_of p pl d x un) h
-      ∙ ap (λ (u : ℕ). leastTick u (timerEntries p d (x + 1) (drop (x + 1) ns)))
-      (ap (λ (b : Node). leastTick l (timerEntry b.watch (watch x) ++ timerEntry b.heartbeat (heartbeat x))) (sym e)
-      ∙ least-append l (timerEntry a.watch (watch x)) (timerEntry a.heartbeat (heartbeat x))
-      ∙ timer-least (leastTick l (timerEntry a.watch (watch x))) a.heartbeat (heartbeat x)
-      ∙ ap (λ (u : ℕ). timerTick u a.heartbeat) (timer-least l a.watch (watch x)))
+      ∙ ap (λ (u : ℕ). least_tick u (timer_entries p d (x + 1) (drop (x + 1) ns)))
+      (ap (λ (b : Node). least_tick l (timer_entry b.watch (watch x) ++ timer_entry b.heartbeat (heartbeat x))) (sym e)
+      ∙ least-append l (timer_entry a.watch (watch x)) (timer_entry a.heartbeat (heartbeat x))
+      ∙ timer-least (least_tick l (timer_entry a.watch (watch x))) a.heartbeat (heartbeat x)
+      ∙ ap (λ (u : ℕ). timer_tick u a.heartbeat) (timer-least l a.watch (watch x)))
 
-  pub dead-next : x < length ns → listed (crashedList p d) x ≡ true → leastTick l (timerEntries p d x (drop x ns)) ≡ leastTick l
-      (timerEntries p d (x + 1) (drop (x + 1) ns))
-  unfolding leastTick
+  pub dead-next : x < length ns → listed (crashed_list p d) x ≡ true → least_tick l (timer_entries p d x (drop x ns)) ≡ least_tick l
+      (timer_entries p d (x + 1) (drop (x + 1) ns))
+  unfolding least_tick
   dead-next h un = node-next false (dead-of p pl d x un) h
 
-  pub nodes-over : length ns ≤ x → leastTick l (timerEntries p d x (drop x ns)) ≡ l
-  unfolding timerEntries leastTick
+  pub nodes-over : length ns ≤ x → least_tick l (timer_entries p d x (drop x ns)) ≡ l
+  unfolding timer_entries least_tick
   nodes-over h = rw (drop_of_length-le ns h)
 
 -- ---- the first event at a tick
 
 module _ (t : ℕ) (rest : List Entry) where
   module _ (rows : List Crash) (i : ℕ) where
-    pub crash-hit : i < length rows → (get_or rows i noCrash).tick ≡ t → first_at t (crashEntries (drop i rows) ++ rest) ≡ some
-        (entry t (crash (get_or rows i noCrash).node))
-    unfolding crashEntries first_at
+    pub crash-hit : i < length rows → (get_or rows i no_crash).tick ≡ t → first_at t (crash_entries (drop i rows) ++ rest) ≡ some
+        (entry t (crash (get_or rows i no_crash).node))
+    unfolding crash_entries first_at
     crash-hit h e =
-        rw (drop-cons rows i noCrash h, eq-eqb (get_or rows i noCrash).tick t e) (ap (λ (u : ℕ). some (entry u (crash (get_or rows i noCrash).node))) e)
+        rw (drop-cons rows i no_crash h, eq-eqb (get_or rows i no_crash).tick t e) (ap (λ (u : ℕ). some (entry u (crash (get_or rows i no_crash).node))) e)
 
-    pub crash-skip : i < length rows → (get_or rows i noCrash).tick ≢ t
-        → first_at t (crashEntries (drop i rows) ++ rest) ≡ first_at t (crashEntries (drop (i + 1) rows) ++ rest)
-    unfolding crashEntries first_at
-    crash-skip h e = rw (add-one i, drop-cons rows i noCrash h, ne_eqb (get_or rows i noCrash).tick t e)
+    pub crash-skip : i < length rows → (get_or rows i no_crash).tick ≢ t
+        → first_at t (crash_entries (drop i rows) ++ rest) ≡ first_at t (crash_entries (drop (i + 1) rows) ++ rest)
+    unfolding crash_entries first_at
+    crash-skip h e = rw (add-one i, drop-cons rows i no_crash h, ne_eqb (get_or rows i no_crash).tick t e)
 
-    pub crash-end : length rows ≤ i → first_at t (crashEntries (drop i rows) ++ rest) ≡ first_at t rest
-    unfolding crashEntries
+    pub crash-end : length rows ≤ i → first_at t (crash_entries (drop i rows) ++ rest) ≡ first_at t rest
+    unfolding crash_entries
     crash-end h = rw (drop_of_length-le rows h)
 
   module _ (ms : List InFlight) (i : ℕ) where
-    pub message-hit : i < length ms → (get_or ms i noMessage).due ≡ t → first_at t (messageEntries i (drop i ms) ++ rest) ≡ some (entry t (message i))
-    unfolding messageEntries first_at
-    message-hit h e = rw (drop-cons ms i noMessage h, eq-eqb (get_or ms i noMessage).due t e) (ap (λ (u : ℕ). some (entry u (message i))) e)
+    pub message-hit : i < length ms → (get_or ms i no_message).due ≡ t → first_at t (message_entries i (drop i ms) ++ rest) ≡ some (entry t (message i))
+    unfolding message_entries first_at
+    message-hit h e = rw (drop-cons ms i no_message h, eq-eqb (get_or ms i no_message).due t e) (ap (λ (u : ℕ). some (entry u (message i))) e)
 
-    pub message-skip : i < length ms → (get_or ms i noMessage).due ≢ t → first_at t (messageEntries i (drop i ms) ++ rest) ≡ first_at t
-        (messageEntries (i + 1) (drop (i + 1) ms) ++ rest)
-    unfolding messageEntries first_at
-    message-skip h e = rw (add-one i, drop-cons ms i noMessage h, ne_eqb (get_or ms i noMessage).due t e)
+    pub message-skip : i < length ms → (get_or ms i no_message).due ≢ t → first_at t (message_entries i (drop i ms) ++ rest) ≡ first_at t
+        (message_entries (i + 1) (drop (i + 1) ms) ++ rest)
+    unfolding message_entries first_at
+    message-skip h e = rw (add-one i, drop-cons ms i no_message h, ne_eqb (get_or ms i no_message).due t e)
 
-    pub message-end : length ms ≤ i → first_at t (messageEntries i (drop i ms) ++ rest) ≡ first_at t rest
-    unfolding messageEntries
+    pub message-end : length ms ≤ i → first_at t (message_entries i (drop i ms) ++ rest) ≡ first_at t rest
+    unfolding message_entries
     message-end h = rw (drop_of_length-le ms h)
 
-  timer-hit : (v : ℕ) (e : Event) → v ≡ t + 1 → first_at t (timerEntry v e ++ rest) ≡ some (entry t e)
-  unfolding timerEntry first_at
+  timer-hit : (v : ℕ) (e : Event) → v ≡ t + 1 → first_at t (timer_entry v e ++ rest) ≡ some (entry t e)
+  unfolding timer_entry first_at
   timer-hit zero e h = absurd (omega arith)
   timer-hit (suc u) e h = let q : u ≡ t = omega arith in rw (eq-eqb u t q) (ap (λ (k : ℕ). some (entry k e)) q)
 
-  timer-skip : (v : ℕ) (e : Event) → v ≢ t + 1 → first_at t (timerEntry v e ++ rest) ≡ first_at t rest
-  unfolding timerEntry first_at
+  timer-skip : (v : ℕ) (e : Event) → v ≢ t + 1 → first_at t (timer_entry v e ++ rest) ≡ first_at t rest
+  unfolding timer_entry first_at
   timer-skip zero e h = refl
   timer-skip (suc u) e h = rw (ne_eqb u t (λ q. h (omega arith)))
 
 module _ (p : Plan) (pl : Plain p) (d : ℕ) (ns : List Node) (t x : ℕ) (a : Node) (h : x < length ns) (is : a ≡ get_or ns x (alone x 0 0)) where
   abbrev Others : List Entry
-  Others = timerEntries p d (x + 1) (drop (x + 1) ns)
+  Others = timer_entries p d (x + 1) (drop (x + 1) ns)
 
-  mine : listed (crashedList p d) x ≡ false → timerEntries p d x (drop x ns) ≡ timerEntry a.watch (watch x) ++
-      (timerEntry a.heartbeat (heartbeat x) ++ Others)
-  unfolding timerEntries
+  mine : listed (crashed_list p d) x ≡ false → timer_entries p d x (drop x ns) ≡ timer_entry a.watch (watch x) ++
+      (timer_entry a.heartbeat (heartbeat x) ++ Others)
+  unfolding timer_entries
   mine un =
       rw (add-one x, drop-cons ns x (alone x 0 0) h, live_of p pl d x un, is)
-      (append_assoc (timerEntry (get_or ns x (alone x 0 0)).watch (watch x)) (timerEntry (get_or ns x (alone x 0 0)).heartbeat (heartbeat x)) _)
+      (append_assoc (timer_entry (get_or ns x (alone x 0 0)).watch (watch x)) (timer_entry (get_or ns x (alone x 0 0)).heartbeat (heartbeat x)) _)
 
-  pub watch-hit : listed (crashedList p d) x ≡ false → a.watch ≡ t + 1 → first_at t (timerEntries p d x (drop x ns)) ≡ some (entry t (watch x))
+  pub watch-hit : listed (crashed_list p d) x ≡ false → a.watch ≡ t + 1 → first_at t (timer_entries p d x (drop x ns)) ≡ some (entry t (watch x))
   watch-hit un e = ap (first_at t) (mine un) ∙ timer-hit t _ a.watch (watch x) e
 
-  pub beat-hit : listed (crashedList p d) x ≡ false → a.watch ≢ t + 1 → a.heartbeat ≡ t + 1
-      → first_at t (timerEntries p d x (drop x ns)) ≡ some (entry t (heartbeat x))
+  pub beat-hit : listed (crashed_list p d) x ≡ false → a.watch ≢ t + 1 → a.heartbeat ≡ t + 1
+      → first_at t (timer_entries p d x (drop x ns)) ≡ some (entry t (heartbeat x))
   beat-hit un n e = ap (first_at t) (mine un) ∙ timer-skip t _ a.watch (watch x) n ∙ timer-hit t _ a.heartbeat (heartbeat x) e
 
-  pub live-skip : listed (crashedList p d) x ≡ false → a.watch ≢ t + 1 → a.heartbeat ≢ t + 1
-      → first_at t (timerEntries p d x (drop x ns)) ≡ first_at t Others
+  pub live-skip : listed (crashed_list p d) x ≡ false → a.watch ≢ t + 1 → a.heartbeat ≢ t + 1
+      → first_at t (timer_entries p d x (drop x ns)) ≡ first_at t Others
   live-skip un n e = ap (first_at t) (mine un) ∙ timer-skip t _ a.watch (watch x) n ∙ timer-skip t _ a.heartbeat (heartbeat x) e
 
 module _ (p : Plan) (pl : Plain p) (d : ℕ) (ns : List Node) (t x : ℕ) where
-  pub dead-skip : x < length ns → listed (crashedList p d) x ≡ true → first_at t (timerEntries p d x (drop x ns)) ≡ first_at t
-      (timerEntries p d (x + 1) (drop (x + 1) ns))
-  unfolding timerEntries
+  pub dead-skip : x < length ns → listed (crashed_list p d) x ≡ true → first_at t (timer_entries p d x (drop x ns)) ≡ first_at t
+      (timer_entries p d (x + 1) (drop (x + 1) ns))
+  unfolding timer_entries
   dead-skip h un = rw (add-one x, drop-cons ns x (alone x 0 0) h, dead-of p pl d x un)
 
-  pub nodes-end : length ns ≤ x → first_at t (timerEntries p d x (drop x ns)) ≡ none
-  unfolding timerEntries first_at
+  pub nodes-end : length ns ≤ x → first_at t (timer_entries p d x (drop x ns)) ≡ none
+  unfolding timer_entries first_at
   nodes-end h = rw (drop_of_length-le ns h)
 
 -- ---- a listed node, as the code tests it
 
-module _ (p : Plan) (d dead x : ℕ) (r : Bool) (is : r ≡ listed dead x) (e : dead ≡ crashedList p d) where
-  pub test_live : not r ≡ true → listed (crashedList p d) x ≡ false
+module _ (p : Plan) (d dead x : ℕ) (r : Bool) (is : r ≡ listed dead x) (e : dead ≡ crashed_list p d) where
+  pub test_live : not r ≡ true → listed (crashed_list p d) x ≡ false
   test_live h = rw (← e, ← is) (go r h)
     where
       go : (b : Bool) → not b ≡ true → b ≡ false
       go true q = sym q
       go false q = refl
 
-  pub test-dead : not r ≡ false → listed (crashedList p d) x ≡ true
+  pub test-dead : not r ≡ false → listed (crashed_list p d) x ≡ true
   test-dead h = rw (← e, ← is) (go r h)
     where
       go : (b : Bool) → not b ≡ false → b ≡ true
@@ -367,18 +367,18 @@ module _ (p : Plan) (d dead x : ℕ) (r : Bool) (is : r ≡ listed dead x) (e : 
 
 -- ---- the whole search
 
-module _ (p : Plan) (s : State) (c m t : ℕ) (crashes : c ≡ crashTick p s.done)
-    (messages : m ≡ leastTick c (messageEntries 0 s.flight)) (timers : t ≡ leastTick m (timerEntries p s.done 0 s.nodes)) where
-  earliest : leastTick (suc p.end) (pending p s) ≡ t
-  unfolding pending crashTick
+module _ (p : Plan) (s : State) (c m t : ℕ) (crashes : c ≡ crash_tick p s.done)
+    (messages : m ≡ least_tick c (message_entries 0 s.flight)) (timers : t ≡ least_tick m (timer_entries p s.done 0 s.nodes)) where
+  earliest : least_tick (suc p.end) (pending p s) ≡ t
+  unfolding pending crash_tick
   earliest =
-      least-append (suc p.end) (crashEntries (drop s.done p.crashes)) _
-      ∙ least-append (crashTick p s.done) (messageEntries 0 s.flight) _
+      least-append (suc p.end) (crash_entries (drop s.done p.crashes)) _
+      ∙ least-append (crash_tick p s.done) (message_entries 0 s.flight) _
       ∙ rw (← crashes, ← messages) (sym timers)
 
-  pub search-none : p.end < t → next_of (nextEvent p s) ≡ Nothing
+  pub search-none : p.end < t → next_of (next_event p s) ≡ Nothing
   unfolding next_of
   search-none h = ap next_of (none_left p s t earliest h)
 
-  pub search-found : t ≤ p.end → next_of (nextEvent p s) ≡ next_of (first_at t (pending p s))
+  pub search-found : t ≤ p.end → next_of (next_event p s) ≡ next_of (first_at t (pending p s))
   search-found h = ap next_of (at_least p s t earliest h)

@@ -11,25 +11,25 @@ use borrow.Author.Tests.{le-leb, lt-leb}
 use lib.ListN.{length, get_or, take, length-append, length-take}
 use Rattle.node.specs.declared.Message.{Message}
 use Rattle.node.specs.declared.Turned.{Turned}
-use Rattle.node.specs.Node.{Turn, silent, places, turned, onMessage}
+use Rattle.node.specs.Node.{Turn, silent, places, turned, on_message}
 use Rattle.node.proofs.Sends.{message-few}
-use Rattle.limits.specs.Limits.{mostSent, mostNodes, mostInFlight}
-use Rattle.plans.specs.Plan.{Plan, planTest, order_of}
-use Rattle.model.specs.Platform.{InFlight, State, Event, Entry, alive, delayOf, nextEvent, numbered, node_of, taken, received, apply, fits, did, refused}
+use Rattle.limits.specs.Limits.{most_sent, most_nodes, most_in_flight}
+use Rattle.plans.specs.Plan.{Plan, plan_test, order_of}
+use Rattle.model.specs.Platform.{InFlight, State, Event, Entry, alive, delay_of, next_event, numbered, node_of, taken, received, apply, fits, did, refused}
 use Rattle.model.specs.Platform.{tried, try, left}
 use Rattle.plans.specs.Plain.{Plain}
 use Rattle.model.proofs.NextEvent.{Chosen, Best, best}
 use Rattle.model.specs.declared.Deed.{Deed}
 use Rattle.model.specs.Lines.{deed_of}
 use Rattle.plans.proofs.Facts.{plan-plain}
-use Rattle.store.specs.Store.{encode, planIn, stateIn}
-use Rattle.store.specs.Inside.{Fits, Held, withFlight, withMessage, numberTaken, withTick, withNode}
+use Rattle.store.specs.Store.{encode, plan_in, state_in}
+use Rattle.store.specs.Inside.{Fits, Held, with_flight, with_message, number_taken, with_tick, with_node}
 use Rattle.store.proofs.Store.{plan-encode, state-encode, held-encode}
 use Rattle.store.proofs.States.{tick-fits, node-fits, number_fits, message-fits}
 use Rattle.event.specs.declared.Happened.{Happened}
 use Rattle.event.specs.declared.Happened.TheVariants.{Did, Refused}
 use Rattle.event.specs.Acting.{stamped, joined}
-use Rattle.event.specs.Event.{SmallMessage, Turns, entry, happened, sending, sendsLeft, turn_of, turnLeft}
+use Rattle.event.specs.Event.{SmallMessage, Turns, entry, happened, sending, sends_left, turn_of, turn_left}
 use Rattle.event.proofs.Parts.{delay-few}
 
 -- ---- messages sent one after another
@@ -55,7 +55,7 @@ module _ (p : Plan) (t x : ℕ) where
 
   pub sending-more : (s : State) (ms : List Message) (i : ℕ) (z : Message) → i < length ms
       → sending p s t x (take (i + 1) ms) ≡ joined p (sending p s t x (take i ms)) t x (get_or ms i z)
-  unfolding sending joined numberTaken withFlight
+  unfolding sending joined number_taken with_flight
   sending-more s ms i z h =
       let a : length (take i ms) ≡ i = omega (arith, length-take i ms) in
       let b : length (take (suc i) ms) ≡ suc i = omega (arith, length-take (suc i) ms) in
@@ -64,8 +64,8 @@ module _ (p : Plan) (t x : ℕ) where
 
   -- a turn in three parts: the tick, the node, the messages
   turn-parts : (s : State) (u : Turned)
-      → sending p (withNode (withTick s t) x u.node) t x (take u.count u.sent) ≡ taken p s t x s.flight (turn_of u)
-  unfolding sending withNode withTick taken turn_of
+      → sending p (with_node (with_tick s t) x u.node) t x (take u.count u.sent) ≡ taken p s t x s.flight (turn_of u)
+  unfolding sending with_node with_tick taken turn_of
   turn-parts s u = refl
 
   length_taken : (s : State) (rest : List InFlight) (v : Turn) → length (taken p s t x rest v).flight ≡ length rest + length v.sends
@@ -83,18 +83,18 @@ turn-back v = ap (λ (ms : List Message). record { node = v.node; sends = ms; pa
 
 -- ---- an event that is next
 
-module _ (p : Plan) (s : State) (t : ℕ) (ev : Event) (next : nextEvent p s ≡ some (entry t ev)) where
+module _ (p : Plan) (s : State) (t : ℕ) (ev : Event) (next : next_event p s ≡ some (entry t ev)) where
   pub chosen_of : (pl : Plain p) → (t ≤ p.end) × Chosen p pl s t ev
   unfolding Best
   chosen_of pl = rw next at (best p pl s)
 
-  pub try-did : length (apply p s t ev).flight ≤ mostInFlight → try p s ≡ did (entry t ev) (apply p s t ev)
+  pub try-did : length (apply p s t ev).flight ≤ most_in_flight → try p s ≡ did (entry t ev) (apply p s t ev)
   unfolding try tried fits
-  try-did h = rw next (ap (λ (b : Bool). cond b (did (entry t ev) (apply p s t ev)) refused) (le-leb _ mostInFlight h))
+  try-did h = rw next (ap (λ (b : Bool). cond b (did (entry t ev) (apply p s t ev)) refused) (le-leb _ most_in_flight h))
 
-  try-refused : mostInFlight < length (apply p s t ev).flight → try p s ≡ refused
+  try-refused : most_in_flight < length (apply p s t ev).flight → try p s ≡ refused
   unfolding try tried fits
-  try-refused h = rw next (ap (λ (b : Bool). cond b (did (entry t ev) (apply p s t ev)) refused) (lt-leb _ mostInFlight h))
+  try-refused h = rw next (ap (λ (b : Bool). cond b (did (entry t ev) (apply p s t ev)) refused) (lt-leb _ most_in_flight h))
 
   -- a turn of node x, of which the code has u
   module _ (x : ℕ) (rest : List InFlight) (u : Turned) (v : Turn) (is : u ≡ turned v) (by : apply p s t ev ≡ taken p s t x rest v) where
@@ -105,10 +105,10 @@ module _ (p : Plan) (s : State) (t : ℕ) (ev : Event) (next : nextEvent p s ≡
     same_turn : turn_of u ≡ v
     same_turn = ap turn_of is ∙ turn-back v
 
-    pub turn-refused : mostInFlight < length rest + u.count → try p s ≡ refused
+    pub turn-refused : most_in_flight < length rest + u.count → try p s ≡ refused
     turn-refused h = try-refused (rw size h)
 
-    pub turn-did : length rest + u.count ≤ mostInFlight → try p s ≡ did (entry t ev) (taken p s t x rest (turn_of u))
+    pub turn-did : length rest + u.count ≤ most_in_flight → try p s ≡ did (entry t ev) (taken p s t x rest (turn_of u))
     turn-did h = try-did (rw size h) ∙ ap (did (entry t ev)) (by ∙ ap (taken p s t x rest) (sym same_turn))
 
 -- ---- answers
@@ -125,89 +125,89 @@ did-answer p s b a e s' h q k = rw h (ap Did k, q)
 
 -- ---- how many messages a turn sends
 
-pub received-few : (p : Plan) → length (order_of p) ≤ mostNodes → (s : State) (t : ℕ) (m : InFlight)
-    → length (received p s t m).sends ≤ mostSent
+pub received-few : (p : Plan) → length (order_of p) ≤ most_nodes → (s : State) (t : ℕ) (m : InFlight)
+    → length (received p s t m).sends ≤ most_sent
 unfolding received
 received-few p few s t m =
-    go (alive p s.done m.to) (onMessage (order_of p) p.w t m.to m.kind m.from m.subject m.list (node_of s m.to))
+    go (alive p s.done m.to) (on_message (order_of p) p.w t m.to m.kind m.from m.subject m.list (node_of s m.to))
     (message-few (order_of p) few p.w t m.to m.kind m.from m.subject m.list (node_of s m.to))
   where
-    go : (c : Bool) (u : Turn) → length u.sends ≤ mostSent → length (cond c u (silent (node_of s m.to))).sends ≤ mostSent
+    go : (c : Bool) (u : Turn) → length u.sends ≤ most_sent → length (cond c u (silent (node_of s m.to))).sends ≤ most_sent
     go true u h = h
     go false u h = omega arith
 
 -- ---- a message stamped and joined
 
-joined-fit : (p : Plan) (s : State) → Fits p s → (t x : ℕ) (m : Message) → length s.flight < mostInFlight → s.next + 1 < 256 ^ 8 → x < 256
-    → SmallMessage m → t + delayOf p s.next < 256 ^ 4 → Fits p (joined p s t x m)
-unfolding joined stamped numberTaken
+joined-fit : (p : Plan) (s : State) → Fits p s → (t x : ℕ) (m : Message) → length s.flight < most_in_flight → s.next + 1 < 256 ^ 8 → x < 256
+    → SmallMessage m → t + delay_of p s.next < 256 ^ 4 → Fits p (joined p s t x m)
+unfolding joined stamped number_taken
 joined-fit p s f t x m room next place small late =
-    message-fits p (numberTaken s) (number_fits p s f next) (stamped p s.next t x m) room (omega arith) small.kind place small.to
+    message-fits p (number_taken s) (number_fits p s f next) (stamped p s.next t x m) room (omega arith) small.kind place small.to
     small.subject late small.list
 
 -- ---- sending, step by step
 
 -- the bytes after the first i messages of ms are sent, from the store b₀
 pub record Sending (b₀ : List ℕ) (t x : ℕ) (ms : List Message) (i : ℕ) (b : List ℕ) : Type 0 where
-  pub is : b ≡ encode (planIn b₀) (sending (planIn b₀) (stateIn b₀) t x (take i ms))
-  pub fits : Fits (planIn b₀) (sending (planIn b₀) (stateIn b₀) t x (take i ms))
+  pub is : b ≡ encode (plan_in b₀) (sending (plan_in b₀) (state_in b₀) t x (take i ms))
+  pub fits : Fits (plan_in b₀) (sending (plan_in b₀) (state_in b₀) t x (take i ms))
 
 module _ (b₀ : List ℕ) (t x : ℕ) (u : Turned) where
   abbrev At : ℕ → State
-  At i = sending (planIn b₀) (stateIn b₀) t x (take i u.sent)
+  At i = sending (plan_in b₀) (state_in b₀) t x (take i u.sent)
 
   pub sending-starts : Held b₀ → Sending b₀ t x u.sent 0 b₀
   sending-starts h =
       record {
-        is = rw (sending-none (planIn b₀) t x (stateIn b₀) u.sent) h.canonical;
-        fits = rw (sending-none (planIn b₀) t x (stateIn b₀) u.sent)
+        is = rw (sending-none (plan_in b₀) t x (state_in b₀) u.sent) h.canonical;
+        fits = rw (sending-none (plan_in b₀) t x (state_in b₀) u.sent)
             h.fits;
       }
 
   module _ (r : Turns b₀ t x u) (i : ℕ) (b : List ℕ) (h : Sending b₀ t x u.sent i b) where
     pub sending-held : Held b
-    sending-held = rw h.is (held-encode (planIn b₀) (At i) h.fits)
+    sending-held = rw h.is (held-encode (plan_in b₀) (At i) h.fits)
 
-    sending-plan : planIn b ≡ planIn b₀
-    sending-plan = ap planIn h.is ∙ plan-encode (planIn b₀) (At i) h.fits
+    sending-plan : plan_in b ≡ plan_in b₀
+    sending-plan = ap plan_in h.is ∙ plan-encode (plan_in b₀) (At i) h.fits
 
-    sending-state : stateIn b ≡ At i
-    sending-state = ap stateIn h.is ∙ state-encode (planIn b₀) (At i) h.fits
+    sending-state : state_in b ≡ At i
+    sending-state = ap state_in h.is ∙ state-encode (plan_in b₀) (At i) h.fits
 
-    pub sending-test : planTest (planIn b) ≡ true
-    sending-test = ap planTest sending-plan ∙ r.plan
+    pub sending-test : plan_test (plan_in b) ≡ true
+    sending-test = ap plan_test sending-plan ∙ r.plan
 
-    plain : Plain (planIn b₀)
-    plain = plan-plain (planIn b₀) r.plan
+    plain : Plain (plan_in b₀)
+    plain = plan-plain (plan_in b₀) r.plan
 
-    sending-delay : (number : ℕ) → delayOf (planIn b) number ≤ 255
+    sending-delay : (number : ℕ) → delay_of (plan_in b) number ≤ 255
     sending-delay number = delay-few b sending-held sending-test number
 
     module _ (less : i < u.count) where
       counted : length (take i u.sent) ≡ i
       counted = omega (arith, length-take i u.sent, r.few, r.full)
 
-      sending-room : length (stateIn b).flight < mostInFlight
+      sending-room : length (state_in b).flight < most_in_flight
       unfolding sending
       sending-room = rw (sending-state, length-append, length-numbered, counted) (omega (arith, r.room))
 
-      pub sending-number : (stateIn b).next + 1 < 256 ^ 8
+      pub sending-number : (state_in b).next + 1 < 256 ^ 8
       unfolding sending
       sending-number = rw (sending-state, counted) (omega (arith, r.number))
 
       -- the next of them is stamped
-      module _ (c : List ℕ) (ce : c ≡ encode (planIn b) (numberTaken (stateIn b))) where
-        taken-fits : Fits (planIn b) (numberTaken (stateIn b))
-        taken-fits = number_fits (planIn b) (stateIn b) sending-held.fits sending-number
+      module _ (c : List ℕ) (ce : c ≡ encode (plan_in b) (number_taken (state_in b))) where
+        taken-fits : Fits (plan_in b) (number_taken (state_in b))
+        taken-fits = number_fits (plan_in b) (state_in b) sending-held.fits sending-number
 
         pub stamp-held : Held c
-        stamp-held = rw ce (held-encode (planIn b) (numberTaken (stateIn b)) taken-fits)
+        stamp-held = rw ce (held-encode (plan_in b) (number_taken (state_in b)) taken-fits)
 
-        stamp-state : stateIn c ≡ numberTaken (stateIn b)
-        stamp-state = ap stateIn ce ∙ state-encode (planIn b) (numberTaken (stateIn b)) taken-fits
+        stamp-state : state_in c ≡ number_taken (state_in b)
+        stamp-state = ap state_in ce ∙ state-encode (plan_in b) (number_taken (state_in b)) taken-fits
 
-        pub stamp-room : length (stateIn c).flight < mostInFlight
-        unfolding numberTaken
+        pub stamp-room : length (state_in c).flight < most_in_flight
+        unfolding number_taken
         stamp-room = rw stamp-state sending-room
 
         -- and joins those in flight
@@ -215,57 +215,57 @@ module _ (b₀ : List ℕ) (t x : ℕ) (u : Turned) where
           small : SmallMessage m
           small = rw is (r.sends z i less)
 
-          same : joined (planIn b) (stateIn b) t x m ≡ At (i + 1)
+          same : joined (plan_in b) (state_in b) t x m ≡ At (i + 1)
           same =
               ap₂ (λ (q : Plan) (s : State). joined q s t x m) sending-plan sending-state
               ∙
-              (ap (joined (planIn b₀) (At i) t x) is ∙ sym (sending-more (planIn b₀) t x (stateIn b₀) u.sent i z (omega (arith, r.few, r.full))))
+              (ap (joined (plan_in b₀) (At i) t x) is ∙ sym (sending-more (plan_in b₀) t x (state_in b₀) u.sent i z (omega (arith, r.few, r.full))))
 
-          joined-fits : Fits (planIn b) (joined (planIn b) (stateIn b) t x m)
+          joined-fits : Fits (plan_in b) (joined (plan_in b) (state_in b) t x m)
           joined-fits =
-              joined-fit (planIn b) (stateIn b) sending-held.fits t x m sending-room sending-number (omega (arith, r.place, plain.n≤)) small
-              (omega (arith, r.tick, sending-delay (stateIn b).next))
+              joined-fit (plan_in b) (state_in b) sending-held.fits t x m sending-room sending-number (omega (arith, r.place, plain.n≤)) small
+              (omega (arith, r.tick, sending-delay (state_in b).next))
 
-          pub sending-next : (f : InFlight) → f ≡ stamped (planIn b) (stateIn b).next t x m → (b' : List ℕ)
-              → b' ≡ encode (planIn c) (withMessage (stateIn c) f) → Sending b₀ t x u.sent (i + 1) b'
+          pub sending-next : (f : InFlight) → f ≡ stamped (plan_in b) (state_in b).next t x m → (b' : List ℕ)
+              → b' ≡ encode (plan_in c) (with_message (state_in c) f) → Sending b₀ t x u.sent (i + 1) b'
           unfolding joined
           sending-next f fe b' e = record {
-            is = e ∙ (ap₂ (λ (q : Plan) (s : State). encode q (withMessage s f)) (ap planIn ce ∙ plan-encode (planIn b) _ taken-fits) stamp-state
-                ∙ (ap (λ (g : InFlight). encode (planIn b) (withMessage (numberTaken (stateIn b)) g)) fe ∙ ap₂ encode sending-plan same));
-            fits = subst (λ (q : Plan). Fits q (At (i + 1))) sending-plan (subst (Fits (planIn b)) same joined-fits);
+            is = e ∙ (ap₂ (λ (q : Plan) (s : State). encode q (with_message s f)) (ap plan_in ce ∙ plan-encode (plan_in b) _ taken-fits) stamp-state
+                ∙ (ap (λ (g : InFlight). encode (plan_in b) (with_message (number_taken (state_in b)) g)) fe ∙ ap₂ encode sending-plan same));
+            fits = subst (λ (q : Plan). Fits q (At (i + 1))) sending-plan (subst (Fits (plan_in b)) same joined-fits);
           }
 
 -- the whole of it
 pub sending-all : (b₀ : List ℕ) (t x : ℕ) (ms : List Message) (i k : ℕ) (b : List ℕ) → i ≤ k → k ≤ i → Sending b₀ t x ms i b
-    → b ≡ encode (planIn b₀) (sending (planIn b₀) (stateIn b₀) t x (take k ms))
+    → b ≡ encode (plan_in b₀) (sending (plan_in b₀) (state_in b₀) t x (take k ms))
 sending-all b₀ t x ms i k b a c h =
-    let e : i ≡ k = omega arith in h.is ∙ ap (λ (j : ℕ). encode (planIn b₀) (sending (planIn b₀) (stateIn b₀) t x (take j ms))) e
+    let e : i ≡ k = omega arith in h.is ∙ ap (λ (j : ℕ). encode (plan_in b₀) (sending (plan_in b₀) (state_in b₀) t x (take j ms))) e
 
 -- ---- a turn's parts on a store
 
 module _ (b : List ℕ) (t x : ℕ) (u : Turned) (r : Turns b t x u) where
   -- after the node is written
   abbrev Moved : State
-  Moved = withNode (withTick (stateIn b) t) x u.node
+  Moved = with_node (with_tick (state_in b) t) x u.node
 
-  moved_fit : Fits (planIn b) Moved
-  unfolding withTick
+  moved_fit : Fits (plan_in b) Moved
+  unfolding with_tick
   moved_fit =
-      node-fits (planIn b) (withTick (stateIn b) t) (tick-fits (planIn b) (stateIn b) r.held.fits t (omega (arith, r.tick))) x u.node
+      node-fits (plan_in b) (with_tick (state_in b) t) (tick-fits (plan_in b) (state_in b) r.held.fits t (omega (arith, r.tick))) x u.node
       (rw r.held.fits.nodes r.place) r.node
 
-  module _ (d : List ℕ) (k : d ≡ encode (planIn b) Moved) where
-    moved-plan : planIn d ≡ planIn b
-    moved-plan = ap planIn k ∙ plan-encode (planIn b) Moved moved_fit
+  module _ (d : List ℕ) (k : d ≡ encode (plan_in b) Moved) where
+    moved-plan : plan_in d ≡ plan_in b
+    moved-plan = ap plan_in k ∙ plan-encode (plan_in b) Moved moved_fit
 
-    moved-state : stateIn d ≡ Moved
-    moved-state = ap stateIn k ∙ state-encode (planIn b) Moved moved_fit
+    moved-state : state_in d ≡ Moved
+    moved-state = ap state_in k ∙ state-encode (plan_in b) Moved moved_fit
 
     pub moved-turns : Turns d t x u
-    unfolding withNode withTick
+    unfolding with_node with_tick
     moved-turns = record {
-      held = rw k (held-encode (planIn b) Moved moved_fit);
-      plan = ap planTest moved-plan ∙ r.plan;
+      held = rw k (held-encode (plan_in b) Moved moved_fit);
+      plan = ap plan_test moved-plan ∙ r.plan;
       tick = r.tick;
       place = rw moved-plan r.place;
       full = r.full;
@@ -276,7 +276,7 @@ module _ (b : List ℕ) (t x : ℕ) (u : Turned) (r : Turns b t x u) where
       sends = r.sends;
     }
 
-    pub turn-taken : (f : List ℕ) → f ≡ sendsLeft d t x u → f ≡ turnLeft b t x u
+    pub turn-taken : (f : List ℕ) → f ≡ sends_left d t x u → f ≡ turn_left b t x u
     turn-taken f q =
         q ∙ (ap₂ (λ (p : Plan) (s : State). encode p (sending p s t x (take u.count u.sent))) moved-plan moved-state
-        ∙ ap (encode (planIn b)) (turn-parts (planIn b) t x (stateIn b) u))
+        ∙ ap (encode (plan_in b)) (turn-parts (plan_in b) t x (state_in b) u))

@@ -4,12 +4,12 @@ use Rattle.std.specs.Prelude.{true, List, ◌++◌, ◌≡◌, ℕ, ◌+◌, ◌
 use Rattle.std.proofs.Math.Option.{Option, none, some}
 use Rattle.node.specs.declared.Message.{Message}
 use Rattle.node.specs.declared.Turned.{Turned}
-use Rattle.limits.specs.Limits.{mostTick, mostInFlight, mostSent}
+use Rattle.limits.specs.Limits.{most_tick, most_in_flight, most_sent}
 use Rattle.node.specs.Node.{Turn}
-use Rattle.plans.specs.Plan.{Plan, planTest}
-use Rattle.model.specs.Platform.{State, Event, Entry, Outcome, crash, message, watch, heartbeat, did, ended, refused, numbered, nextEvent, taken, try, left}
+use Rattle.plans.specs.Plan.{Plan, plan_test}
+use Rattle.model.specs.Platform.{State, Event, Entry, Outcome, crash, message, watch, heartbeat, did, ended, refused, numbered, next_event, taken, try, left}
 use Rattle.model.specs.Lines.{deed_of}
-use Rattle.store.specs.Store.{encode, planIn, stateIn}
+use Rattle.store.specs.Store.{encode, plan_in, state_in}
 use Rattle.store.specs.Inside.{Held, SmallNode}
 use Rattle.event.specs.declared.Next.{Next}
 use Rattle.event.specs.declared.Next.TheVariants.{Crash, Message as Delivery, Watch, Heartbeat, Nothing}
@@ -42,16 +42,16 @@ happened p s refused = Refused
 -- ---- the next try of a store: its event, what it leads to, what the code answers of it, and the store that it leaves
 
 abbrev pub NextIs : List ℕ → ℕ → Event → Type 0
-NextIs b t e = nextEvent (planIn b) (stateIn b) ≡ some (entry t e)
+NextIs b t e = next_event (plan_in b) (state_in b) ≡ some (entry t e)
 
-abbrev pub nextOutcome : List ℕ → Outcome
-nextOutcome b = try (planIn b) (stateIn b)
+abbrev pub next_outcome : List ℕ → Outcome
+next_outcome b = try (plan_in b) (state_in b)
 
-abbrev pub nextAnswer : List ℕ → Happened
-nextAnswer b = happened (planIn b) (stateIn b) (nextOutcome b)
+abbrev pub next_answer : List ℕ → Happened
+next_answer b = happened (plan_in b) (state_in b) (next_outcome b)
 
-abbrev pub storeLeft : List ℕ → List ℕ
-storeLeft b = encode (planIn b) (left (stateIn b) (nextOutcome b))
+abbrev pub store_left : List ℕ → List ℕ
+store_left b = encode (plan_in b) (left (state_in b) (next_outcome b))
 
 -- ---- a turn as the code hands it over
 
@@ -76,21 +76,21 @@ pub record SmallMessage (m : Message) : Type 0 where
   pub list : m.list < 256 ^ 8
 
 -- the store after node x has sent the messages of its turn u at tick t, and after the whole turn
-abbrev pub sendsLeft : List ℕ → ℕ → ℕ → Turned → List ℕ
-sendsLeft b t x u = encode (planIn b) (sending (planIn b) (stateIn b) t x (take u.count u.sent))
+abbrev pub sends_left : List ℕ → ℕ → ℕ → Turned → List ℕ
+sends_left b t x u = encode (plan_in b) (sending (plan_in b) (state_in b) t x (take u.count u.sent))
 
-abbrev pub turnLeft : List ℕ → ℕ → ℕ → Turned → List ℕ
-turnLeft b t x u = encode (planIn b) (taken (planIn b) (stateIn b) t x (stateIn b).flight (turn_of u))
+abbrev pub turn_left : List ℕ → ℕ → ℕ → Turned → List ℕ
+turn_left b t x u = encode (plan_in b) (taken (plan_in b) (state_in b) t x (state_in b).flight (turn_of u))
 
 -- node x of a store may take the turn u at tick t: its numbers fit their fields, and the limits hold after it
 pub record Turns (b : List ℕ) (t x : ℕ) (u : Turned) : Type 0 where
   pub held : Held b
-  pub plan : planTest (planIn b) ≡ true
-  pub tick : t ≤ mostTick
-  pub place : x < (planIn b).n
-  pub full : length u.sent ≡ mostSent
-  pub few : u.count ≤ mostSent
-  pub room : length (stateIn b).flight + u.count ≤ mostInFlight
-  pub number : (stateIn b).next + u.count < 256 ^ 8
+  pub plan : plan_test (plan_in b) ≡ true
+  pub tick : t ≤ most_tick
+  pub place : x < (plan_in b).n
+  pub full : length u.sent ≡ most_sent
+  pub few : u.count ≤ most_sent
+  pub room : length (state_in b).flight + u.count ≤ most_in_flight
+  pub number : (state_in b).next + u.count < 256 ^ 8
   pub node : SmallNode u.node
   pub sends : (z : Message) (j : ℕ) → j < u.count → SmallMessage (get_or u.sent j z)

@@ -1,7 +1,7 @@
 // The events of a store that holds its messages in flight. Number 8 is tested before anything is written.
 ghost use Rattle.std.specs.Prelude.{◌≡◌};
 ghost use Rattle.model.specs.Platform.{crash, message, watch, heartbeat};
-ghost use Rattle.event.specs.Event.{NextIs, nextAnswer, storeLeft, sendsLeft, turnLeft, Turns};
+ghost use Rattle.event.specs.Event.{NextIs, next_answer, store_left, sends_left, turn_left, Turns};
 ghost use Rattle.event.specs.Ready.{Ready};
 
 use crate::{Happened, turn};
@@ -11,7 +11,7 @@ use store::{layout, messages, plan};
 // Node x sends the messages of its turn at tick t: each joins those in flight.
 fn send_all(s: &mut [u8], t: u32, x: u8, u: Turned)
     requires { Turns s.old t x u }
-    ensures { s.new ≡ sendsLeft s.old t x u }
+    ensures { s.new ≡ sends_left s.old t x u }
 {
     let sent = u.sent;
     let count = u.count;
@@ -26,7 +26,7 @@ fn send_all(s: &mut [u8], t: u32, x: u8, u: Turned)
 // Node x has taken its turn at tick t, and what it sends joins the messages in flight.
 fn take_turn(s: &mut [u8], t: u32, x: u8, u: Turned)
     requires { Turns s.old t x u }
-    ensures { s.new ≡ turnLeft s.old t x u }
+    ensures { s.new ≡ turn_left s.old t x u }
 {
     turn::put_turn(s, t, x, u.node);
     send_all(s, t, x, u);
@@ -36,7 +36,7 @@ fn take_turn(s: &mut [u8], t: u32, x: u8, u: Turned)
 pub fn do_crash(s: &mut [u8], t: u32, k: u8) -> Happened
     requires ready { Ready s.old }
     requires next_is { NextIs s.old t (crash k) }
-    ensures { (result ≡ nextAnswer s.old) × (s.new ≡ storeLeft s.old) }
+    ensures { (result ≡ next_answer s.old) × (s.new ≡ store_left s.old) }
 {
     Happened::Did(turn::crash(s, t, k))
 }
@@ -45,7 +45,7 @@ pub fn do_crash(s: &mut [u8], t: u32, k: u8) -> Happened
 pub fn do_message(s: &mut [u8], t: u32, i: usize) -> Happened
     requires ready { Ready s.old }
     requires next_is { NextIs s.old t (message i) }
-    ensures { (result ≡ nextAnswer s.old) × (s.new ≡ storeLeft s.old) }
+    ensures { (result ≡ next_answer s.old) × (s.new ≡ store_left s.old) }
 {
     let m = messages::message_at(s, i);
     let dead = plan::crashed_list(s);
@@ -63,7 +63,7 @@ pub fn do_message(s: &mut [u8], t: u32, i: usize) -> Happened
 pub fn do_watch(s: &mut [u8], t: u32, x: usize) -> Happened
     requires ready { Ready s.old }
     requires next_is { NextIs s.old t (watch x) }
-    ensures { (result ≡ nextAnswer s.old) × (s.new ≡ storeLeft s.old) }
+    ensures { (result ≡ next_answer s.old) × (s.new ≡ store_left s.old) }
 {
     let u = turn::watch_turn(s, t, x);
     if layout::MOST_IN_FLIGHT < messages::message_count(s) + u.count {
@@ -78,7 +78,7 @@ pub fn do_watch(s: &mut [u8], t: u32, x: usize) -> Happened
 pub fn do_heartbeat(s: &mut [u8], t: u32, x: usize) -> Happened
     requires ready { Ready s.old }
     requires next_is { NextIs s.old t (heartbeat x) }
-    ensures { (result ≡ nextAnswer s.old) × (s.new ≡ storeLeft s.old) }
+    ensures { (result ≡ next_answer s.old) × (s.new ≡ store_left s.old) }
 {
     let u = turn::heartbeat_turn(s, t, x);
     if layout::MOST_IN_FLIGHT < messages::message_count(s) + u.count {

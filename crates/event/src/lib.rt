@@ -6,7 +6,7 @@ pub mod lines; // lines.rt: the lines of an event, and the last line
 mod act; // act.rt: the events of a store that holds its messages in flight
 
 ghost use Rattle.std.specs.Prelude.{◌≡◌};
-ghost use Rattle.event.specs.Event.{nextAnswer, storeLeft};
+ghost use Rattle.event.specs.Event.{next_answer, store_left};
 ghost use Rattle.event.specs.Ready.{Ready};
 
 use model::Deed;
@@ -32,7 +32,7 @@ pub enum Happened {
 // The next event is done, if there is one.
 pub fn do_event(s: &mut [u8]) -> Happened
     requires { Ready s.old }
-    ensures { (result ≡ nextAnswer s.old) × (s.new ≡ storeLeft s.old) }
+    ensures { (result ≡ next_answer s.old) × (s.new ≡ store_left s.old) }
 {
     match search::next_event(s) {
         Next::Crash(t, k) => act::do_crash(s, t, k),

@@ -11,24 +11,24 @@ use Rattle.fields.specs.Fields.{put_at, cleared}
 use Rattle.fields.proofs.Bytes.{length-bytes}
 use Rattle.fields.proofs.Fields.{put_then, sets-append}
 use Rattle.node.specs.declared.Message.{Message}
-use Rattle.limits.specs.Limits.{mostSent, messageSize, partSize}
-use Rattle.host.specs.Call.{messageBytes, sentBytes, putMessages}
+use Rattle.limits.specs.Limits.{most_sent, message_size, part_size}
+use Rattle.host.specs.Call.{message_bytes, sent_bytes, put_messages}
 
-pub length-message : (sender : ℕ) (m : Message) → length (messageBytes sender m) ≡ messageSize
-unfolding messageBytes
+pub length-message : (sender : ℕ) (m : Message) → length (message_bytes sender m) ≡ message_size
+unfolding message_bytes
 length-message sender m = simp (length-append, length-bytes)
 
-pub length-sent : (sender : ℕ) (ms : List Message) → length (sentBytes sender ms) ≡ length ms * messageSize
-unfolding sentBytes
+pub length-sent : (sender : ℕ) (ms : List Message) → length (sent_bytes sender ms) ≡ length ms * message_size
+unfolding sent_bytes
 length-sent sender [] = refl
 length-sent sender (m ∷ ms) =
-    length-append (messageBytes sender m) (sentBytes sender ms) ∙ rw (length-message sender m, length-sent sender ms) (omega arith)
+    length-append (message_bytes sender m) (sent_bytes sender ms) ∙ rw (length-message sender m, length-sent sender ms) (omega arith)
 
 pub put-message : (part : List ℕ) (at sender : ℕ) (m : Message)
-    → sets part at (messageBytes sender m)
+    → sets part at (message_bytes sender m)
     ≡ put_at (put_at (put_at (put_at (put_at (put_at part at 1 m.kind) (at + 1) 1 m.to) (at + 2) 1 sender) (at + 3) 1 m.subject) (at + 4) 4 0)
     (at + 8) 8 m.list
-unfolding messageBytes put_at
+unfolding message_bytes put_at
 put-message part at sender m =
     put_then part at 1 m.kind (at + 1) _ refl ∙ put_then _ (at + 1) 1 m.to (at + 2) _ (omega arith)
     ∙ put_then _ (at + 2) 1 sender (at + 3) _ (omega arith) ∙ put_then _ (at + 3) 1 m.subject (at + 4) _ (omega arith)
@@ -39,51 +39,51 @@ put-message part at sender m =
 module _ (sender : ℕ) (sent : List Message) (count : ℕ) where
   -- what is still to be put once i of the messages stand
   unfoldable pub rest : List ℕ → ℕ → List ℕ
-  rest part i = sets part (i * messageSize) (sentBytes sender (drop i (take count sent)))
+  rest part i = sets part (i * message_size) (sent_bytes sender (drop i (take count sent)))
 
   pub rest-turn : (part : List ℕ) (i : ℕ) → i < count → count ≤ length sent → (z : Message)
-      → rest part i ≡ rest (sets part (i * messageSize) (messageBytes sender (get_or sent i z))) (i + 1)
-  unfolding rest sentBytes
+      → rest part i ≡ rest (sets part (i * message_size) (message_bytes sender (get_or sent i z))) (i + 1)
+  unfolding rest sent_bytes
   rest-turn part i h l z =
       let n : i < length (take count sent) = rw (length-take-le count sent l) h in
-      let e : i * messageSize + messageSize ≡ suc i * messageSize = omega arith in
+      let e : i * message_size + message_size ≡ suc i * message_size = omega arith in
       rw (add-one, drop-cons (take count sent) i z n, get_or-take count sent i z h)
-      (sets-append (messageBytes sender (get_or sent i z)) (sentBytes sender (drop (suc i) (take count sent))) part (i * messageSize)
+      (sets-append (message_bytes sender (get_or sent i z)) (sent_bytes sender (drop (suc i) (take count sent))) part (i * message_size)
       ∙ rw (length-message sender (get_or sent i z), e))
 
   pub rest_end : (part : List ℕ) (i : ℕ) → count ≤ i → count ≤ length sent → rest part i ≡ part
-  unfolding rest sentBytes
+  unfolding rest sent_bytes
   rest_end part i h l =
       let n : length (take count sent) ≤ i = rw (length-take-le count sent l) h in
       rw (drop_of_length-le (take count sent) {i = i} n)
 
 -- messages put over a part that has been cleared
-pub put-over-zeros : (part : List ℕ) (sender : ℕ) (ms : List Message) → partSize ≤ length part → length ms ≤ mostSent
-    → sets (cleared part 0 partSize) 0 (sentBytes sender ms) ≡ putMessages part sender ms
-unfolding cleared putMessages
+pub put-over-zeros : (part : List ℕ) (sender : ℕ) (ms : List Message) → part_size ≤ length part → length ms ≤ most_sent
+    → sets (cleared part 0 part_size) 0 (sent_bytes sender ms) ≡ put_messages part sender ms
+unfolding cleared put_messages
 put-over-zeros part sender ms h l =
-    let bs : List ℕ = sentBytes sender ms in
-    let k : ℕ = length ms * messageSize in
+    let bs : List ℕ = sent_bytes sender ms in
+    let k : ℕ = length ms * message_size in
     let e : length bs ≡ k = length-sent sender ms in
-    let tail : List ℕ = drop partSize part in
-    let f : partSize ≡ k + (partSize - k) = omega arith in
-    let n : length (replicate partSize 0 ++ tail) ≡ partSize + length tail = rw (length-append, length-replicate) in
-    let d : drop k (replicate partSize 0 ++ tail) ≡ replicate (partSize - k) 0 ++ tail =
+    let tail : List ℕ = drop part_size part in
+    let f : part_size ≡ k + (part_size - k) = omega arith in
+    let n : length (replicate part_size 0 ++ tail) ≡ part_size + length tail = rw (length-append, length-replicate) in
+    let d : drop k (replicate part_size 0 ++ tail) ≡ replicate (part_size - k) 0 ++ tail =
     ap (λ (m : ℕ). drop k (replicate m 0 ++ tail)) f
-    ∙ ap (λ (x : List ℕ). drop k (x ++ tail)) (sym (replicate-append-replicate k (partSize - k) 0))
-    ∙ ap (drop k) (append_assoc (replicate k 0) (replicate (partSize - k) 0) tail)
-    ∙ drop_at (replicate k 0) (replicate (partSize - k) 0 ++ tail) k (length-replicate k 0) in
-    sets-eq bs (replicate partSize 0 ++ tail) 0 (omega arith) ∙ ap (λ (x : List ℕ). bs ++ x) (rw (e, zero-add) d)
+    ∙ ap (λ (x : List ℕ). drop k (x ++ tail)) (sym (replicate-append-replicate k (part_size - k) 0))
+    ∙ ap (drop k) (append_assoc (replicate k 0) (replicate (part_size - k) 0) tail)
+    ∙ drop_at (replicate k 0) (replicate (part_size - k) 0 ++ tail) k (length-replicate k 0) in
+    sets-eq bs (replicate part_size 0 ++ tail) 0 (omega arith) ∙ ap (λ (x : List ℕ). bs ++ x) (rw (e, zero-add) d)
 
 -- after the last turn of the loop, from a part that was cleared
-pub put_all : (sender : ℕ) (sent : List Message) (count : ℕ) (part cleared-part now : List ℕ) (i : ℕ) → cleared-part ≡ cleared part 0 partSize
-    → rest sender sent count cleared-part 0 ≡ rest sender sent count now i → count ≤ i → length sent ≡ mostSent → count ≤ mostSent
-    → partSize ≤ length part
-    → now ≡ putMessages part sender (take count sent)
+pub put_all : (sender : ℕ) (sent : List Message) (count : ℕ) (part cleared-part now : List ℕ) (i : ℕ) → cleared-part ≡ cleared part 0 part_size
+    → rest sender sent count cleared-part 0 ≡ rest sender sent count now i → count ≤ i → length sent ≡ most_sent → count ≤ most_sent
+    → part_size ≤ length part
+    → now ≡ put_messages part sender (take count sent)
 unfolding rest
 put_all sender sent count part cleared-part now i cq e h l k p =
     let few : count ≤ length sent = omega arith in
-    let n : length (take count sent) ≤ mostSent = rw (length-take-le count sent few) k in
+    let n : length (take count sent) ≤ most_sent = rw (length-take-le count sent few) k in
     sym (e ∙ rest_end sender sent count now i h few)
-    ∙ ap (λ (x : List ℕ). sets x 0 (sentBytes sender (take count sent))) cq
+    ∙ ap (λ (x : List ℕ). sets x 0 (sent_bytes sender (take count sent))) cq
     ∙ put-over-zeros part sender (take count sent) p n

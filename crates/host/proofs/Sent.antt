@@ -7,7 +7,7 @@ use Prim.Native.Nat.{ℕ, ◌<◌}
 use Rattle.node.specs.declared.Message.{Message}
 use Rattle.node.proofs.Sends.{Sendable}
 use Rattle.host.specs.declared.Record.{Record}
-use Rattle.host.specs.Call.{messageTaken, delivered, fired}
+use Rattle.host.specs.Call.{message_taken, delivered, fired}
 use Rattle.host.proofs.Facts.{InRange, MessageTaken, facts-message}
 use Rattle.host.proofs.Turns.{delivered-takes, fired-takes}
 
@@ -22,7 +22,7 @@ module _ (r : Record) (f : InRange r) (tick : ℕ) where
 
 -- a message that node `me` may send is taken by the record of its receiver in the same ring
 pub sent-is-taken : (me : ℕ) (m : Message) (to : Record) → me < to.nodes → Sendable to.nodes me m → m.to ≡ to.number
-    → messageTaken to m.kind me m.subject m.list ≡ true
+    → message_taken to m.kind me m.subject m.list ≡ true
 sent-is-taken me m to l s e =
     facts-message to m.kind me m.subject m.list (record {
       known = s.kind;

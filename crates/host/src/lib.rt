@@ -2,11 +2,11 @@
 // docs/LAYOUTS.md has the bytes.
 ghost use Rattle.std.specs.Prelude.{◌≡◌, cond, ◌+◌, ◌≤◌, ◌<◌, eqb, length, take};
 ghost use Rattle.std.proofs.lemmas.List.Edits.{sets};
-ghost use Rattle.limits.specs.Limits.{mostNodes, mostH, mostW, mostTick, mostSent, recordSize, messageSize, partSize};
+ghost use Rattle.limits.specs.Limits.{most_nodes, most_h, most_w, most_tick, most_sent, record_size, message_size, part_size};
 ghost use Rattle.node.specs.Node.{turned, R};
-ghost use Rattle.host.specs.Record.{encode, numbersBytes, neighboursBytes, ticksBytes, markBytes, decode, openable, in_range, sound};
-ghost use Rattle.host.specs.Call.{tickTaken, otherNode, messageTaken, messageBytes, putMessages, openAnswer, openedRecord, openLeaves, delivered};
-ghost use Rattle.host.specs.Call.{deliverAnswer, deliverLeaves, deliverSends, dueBy, fired, timersAnswer, timersLeaves, timersSends, with_turn};
+ghost use Rattle.host.specs.Record.{encode, numbers_bytes, neighbours_bytes, ticks_bytes, mark_bytes, decode, openable, in_range, sound};
+ghost use Rattle.host.specs.Call.{tick_taken, other_node, message_taken, message_bytes, put_messages, open_answer, opened_record, open_leaves, delivered};
+ghost use Rattle.host.specs.Call.{deliver_answer, deliver_leaves, deliver_sends, due_by, fired, timers_answer, timers_leaves, timers_sends, with_turn};
 
 use limits::{
     BAD_MESSAGE, BAD_RECORD, BAD_TICK, MESSAGE_SIZE, MOST_H, MOST_NODES, MOST_W, OUT_OF_RANGE,
@@ -39,7 +39,7 @@ const SPARE_FROM: usize = 40;
 
 // The node in a record's bytes.
 fn read_node(s: &[u8]) -> Node
-    requires { length s.now ≡ recordSize }
+    requires { length s.now ≡ record_size }
     ensures { result ≡ (decode s.now).node }
 {
     let emitter = fields::get(s, 6, 1) as u8;
@@ -60,7 +60,7 @@ fn read_node(s: &[u8]) -> Node
 
 // The record in 64 bytes.
 fn read_record(s: &[u8]) -> Record
-    requires { length s.now ≡ recordSize }
+    requires { length s.now ≡ record_size }
     ensures { result ≡ decode s.now }
 {
     let number = fields::get(s, 0, 1) as u8;
@@ -81,8 +81,8 @@ fn read_record(s: &[u8]) -> Record
 
 // The numbers of a record: its own, N, H and W.
 fn write_numbers(s: &mut [u8], r: Record)
-    requires { length s.old ≡ recordSize }
-    ensures { s.new ≡ sets s.old 0 (numbersBytes r) }
+    requires { length s.old ≡ record_size }
+    ensures { s.new ≡ sets s.old 0 (numbers_bytes r) }
 {
     fields::put(s, 0, 1, r.number as u64);
     fields::put(s, 1, 1, r.nodes as u64);
@@ -92,8 +92,8 @@ fn write_numbers(s: &mut [u8], r: Record)
 
 // Its emitter, its observer and its dead list.
 fn write_neighbours(s: &mut [u8], n: Node)
-    requires { length s.old ≡ recordSize }
-    ensures { s.new ≡ sets s.old 6 (neighboursBytes n) }
+    requires { length s.old ≡ record_size }
+    ensures { s.new ≡ sets s.old 6 (neighbours_bytes n) }
 {
     fields::put(s, 6, 1, n.emitter as u64);
     fields::put(s, 7, 1, n.observer as u64);
@@ -102,8 +102,8 @@ fn write_neighbours(s: &mut [u8], n: Node)
 
 // Its last tick and its timers.
 fn write_ticks(s: &mut [u8], last: u32, n: Node)
-    requires { length s.old ≡ recordSize }
-    ensures { s.new ≡ sets s.old 16 (ticksBytes last n) }
+    requires { length s.old ≡ record_size }
+    ensures { s.new ≡ sets s.old 16 (ticks_bytes last n) }
 {
     fields::put(s, 16, 4, last as u64);
     fields::put(s, 20, 4, n.watch as u64);
@@ -112,8 +112,8 @@ fn write_ticks(s: &mut [u8], last: u32, n: Node)
 
 // Four bytes that are zero, and its mark.
 fn write_mark(s: &mut [u8], n: Node)
-    requires { length s.old ≡ recordSize }
-    ensures { s.new ≡ sets s.old 28 (markBytes n) }
+    requires { length s.old ≡ record_size }
+    ensures { s.new ≡ sets s.old 28 (mark_bytes n) }
 {
     fields::put(s, GAP_FROM, 4, 0);
     fields::put(s, MARK_AT, 8, n.mark);
@@ -121,7 +121,7 @@ fn write_mark(s: &mut [u8], n: Node)
 
 // A record's 64 bytes.
 fn write_record(s: &mut [u8], r: Record)
-    requires { length s.old ≡ recordSize }
+    requires { length s.old ≡ record_size }
     ensures { s.new ≡ encode r }
 {
     let n = r.node;
@@ -193,7 +193,7 @@ fn is_sound(s: &[u8]) -> bool
 
 // Whether a tick is neither before the last one nor too high.
 fn takes_tick(r: Record, tick: u64) -> bool
-    ensures { result ≡ tickTaken r tick }
+    ensures { result ≡ tick_taken r tick }
 {
     if tick < r.last as u64 {
         return false;
@@ -203,7 +203,7 @@ fn takes_tick(r: Record, tick: u64) -> bool
 
 // Whether i is a node of the ring other than the record's own.
 fn is_other(r: Record, i: u64) -> bool
-    ensures { result ≡ otherNode r i }
+    ensures { result ≡ other_node r i }
 {
     if r.nodes as u64 <= i {
         return false;
@@ -213,8 +213,8 @@ fn is_other(r: Record, i: u64) -> bool
 
 // Whether a message is of a known kind, H (72), O (79) or R (82), from another node and, on R, of another, with a list of the ring's nodes.
 fn takes_message(r: Record, kind: u64, sender: u64, subject: u64, list: u64) -> bool
-    requires { (1 ≤ r.nodes) × (r.nodes ≤ mostNodes) }
-    ensures { result ≡ messageTaken r kind sender subject list }
+    requires { (1 ≤ r.nodes) × (r.nodes ≤ most_nodes) }
+    ensures { result ≡ message_taken r kind sender subject list }
 {
     if !is_other(r, sender) {
         return false;
@@ -234,8 +234,8 @@ fn takes_message(r: Record, kind: u64, sender: u64, subject: u64, list: u64) -> 
 
 // A message's 16 bytes, put from `at` on.
 fn put_message(part: &mut [u8], at: usize, sender: u8, m: Message)
-    requires { at + messageSize ≤ length part.old }
-    ensures { part.new ≡ sets part.old at (messageBytes sender m) }
+    requires { at + message_size ≤ length part.old }
+    ensures { part.new ≡ sets part.old at (message_bytes sender m) }
 {
     fields::put(part, at, 1, m.kind as u64);
     fields::put(part, at + 1, 1, m.to as u64);
@@ -247,8 +247,8 @@ fn put_message(part: &mut [u8], at: usize, sender: u8, m: Message)
 
 // The first `count` messages in the first 112 bytes of a part, the unused places zero.
 fn put_messages(sent: [Message; 7], count: usize, sender: u8, part: &mut [u8])
-    requires { (count ≤ mostSent) × (partSize ≤ length part.old) }
-    ensures { part.new ≡ putMessages part.old sender (take count sent) }
+    requires { (count ≤ most_sent) × (part_size ≤ length part.old) }
+    ensures { part.new ≡ put_messages part.old sender (take count sent) }
 {
     fields::clear(part, 0, PART_SIZE);
     let mut i: usize = 0;
@@ -263,8 +263,8 @@ fn put_messages(sent: [Message; 7], count: usize, sender: u8, part: &mut [u8])
 
 // The record's node after a message, with what it sends.
 fn message_turn(r: Record, tick: u32, kind: u8, sender: u8, subject: u8, list: u64) -> Turned
-    requires { (1 ≤ r.nodes) × (r.nodes ≤ mostNodes) × (r.number < r.nodes) × (r.w ≤ mostW) × (tick ≤ mostTick)
-        × (sender < mostNodes) × (subject < mostNodes) }
+    requires { (1 ≤ r.nodes) × (r.nodes ≤ most_nodes) × (r.number < r.nodes) × (r.w ≤ most_w) × (tick ≤ most_tick)
+        × (sender < most_nodes) × (subject < most_nodes) }
     ensures { result ≡ turned (delivered r tick kind sender subject list) }
 {
     let all = ring::number_order();
@@ -284,7 +284,7 @@ fn message_turn(r: Record, tick: u32, kind: u8, sender: u8, subject: u8, list: u
 
 // The subject of a message, which only R has.
 fn subject_of(kind: u64, subject: u64) -> u8
-    requires { kind ≡ R → subject < mostNodes }
+    requires { kind ≡ R → subject < most_nodes }
     ensures { result ≡ cond (eqb kind R) subject 0 }
 {
     if kind != 82 {
@@ -295,8 +295,8 @@ fn subject_of(kind: u64, subject: u64) -> u8
 
 // Whether a timer is on and due by this tick.
 fn is_due(tick: u32, timer: u32) -> bool
-    requires { tick ≤ mostTick }
-    ensures { result ≡ dueBy tick timer }
+    requires { tick ≤ most_tick }
+    ensures { result ≡ due_by tick timer }
 {
     if timer == 0 {
         return false;
@@ -306,8 +306,8 @@ fn is_due(tick: u32, timer: u32) -> bool
 
 // The record's node after its watch if due, else its heartbeat if due, else nothing.
 fn timer_turn(r: Record, tick: u32) -> Turned
-    requires { (1 ≤ r.nodes) × (r.nodes ≤ mostNodes) × (r.h ≤ mostH) × (r.w ≤ mostW) × (tick ≤ mostTick)
-        × (r.node.emitter < mostNodes) }
+    requires { (1 ≤ r.nodes) × (r.nodes ≤ most_nodes) × (r.h ≤ most_h) × (r.w ≤ most_w) × (tick ≤ most_tick)
+        × (r.node.emitter < most_nodes) }
     ensures { result ≡ turned (fired r tick) }
 {
     if is_due(tick, r.node.watch) {
@@ -323,8 +323,8 @@ fn timer_turn(r: Record, tick: u32) -> Turned
 
 // A record just opened.
 fn opened_record(number: u8, nodes: u8, h: u32, w: u32) -> Record
-    requires { (nodes ≤ mostNodes) × (h ≤ mostH) × (w ≤ mostW) }
-    ensures { result ≡ openedRecord number nodes h w }
+    requires { (nodes ≤ most_nodes) × (h ≤ most_h) × (w ≤ most_w) }
+    ensures { result ≡ opened_record number nodes h w }
 {
     let all = ring::number_order();
     let n = nodes as usize;
@@ -341,9 +341,9 @@ fn opened_record(number: u8, nodes: u8, h: u32, w: u32) -> Record
 
 // The record and the message part after a turn of the record's node.
 fn leave(bytes: &mut [u8], part: &mut [u8], r: Record, tick: u32, t: Turned)
-    requires { (length bytes.old ≡ recordSize) × (partSize ≤ length part.old) × (t.count ≤ mostSent) }
+    requires { (length bytes.old ≡ record_size) × (part_size ≤ length part.old) × (t.count ≤ most_sent) }
     ensures { (bytes.new ≡ encode (with_turn r tick t.node))
-        × (part.new ≡ putMessages part.old r.number (take t.count t.sent)) }
+        × (part.new ≡ put_messages part.old r.number (take t.count t.sent)) }
 {
     let mut after = r;
     let node = t.node;
@@ -365,8 +365,8 @@ pub extern "C" fn kelbraut_node_open(
     h: u64,
     w: u64,
 ) -> u64
-    ensures { (result ≡ openAnswer bytes.old number nodes h w)
-        × (bytes.new ≡ openLeaves bytes.old number nodes h w) }
+    ensures { (result ≡ open_answer bytes.old number nodes h w)
+        × (bytes.new ≡ open_leaves bytes.old number nodes h w) }
 {
     if bytes.len() != RECORD_SIZE {
         return BAD_RECORD;
@@ -390,9 +390,9 @@ pub extern "C" fn kelbraut_node_deliver(
     list: u64,
     messages: &mut [u8],
 ) -> u64
-    ensures { (result ≡ deliverAnswer bytes.old tick kind sender subject list messages.old)
-        × (bytes.new ≡ deliverLeaves bytes.old tick kind sender subject list messages.old)
-        × (messages.new ≡ deliverSends bytes.old tick kind sender subject list messages.old) }
+    ensures { (result ≡ deliver_answer bytes.old tick kind sender subject list messages.old)
+        × (bytes.new ≡ deliver_leaves bytes.old tick kind sender subject list messages.old)
+        × (messages.new ≡ deliver_sends bytes.old tick kind sender subject list messages.old) }
 {
     if !is_sound(bytes) {
         return BAD_RECORD;
@@ -422,9 +422,9 @@ pub extern "C" fn kelbraut_node_deliver(
 // Does the watch of the record's node if due by this tick, else the heartbeat if due, else nothing. Answers 0, or 10, 12 or 9.
 #[unsafe(no_mangle)]
 pub extern "C" fn kelbraut_node_timers(bytes: &mut [u8], tick: u64, messages: &mut [u8]) -> u64
-    ensures { (result ≡ timersAnswer bytes.old tick messages.old)
-        × (bytes.new ≡ timersLeaves bytes.old tick messages.old)
-        × (messages.new ≡ timersSends bytes.old tick messages.old) }
+    ensures { (result ≡ timers_answer bytes.old tick messages.old)
+        × (bytes.new ≡ timers_leaves bytes.old tick messages.old)
+        × (messages.new ≡ timers_sends bytes.old tick messages.old) }
 {
     if !is_sound(bytes) {
         return BAD_RECORD;

@@ -10,27 +10,27 @@ use lib.Dec.{leb, ltb}
 use lib.ListN.{length, get_or, take, drop, drop_of_length-le, take-append-drop}
 use lib.Seq.{drop-cons, take-suc, take_all}
 use Rattle.fields.proofs.Answers.{fails, holds}
-use Rattle.limits.specs.Limits.{mostNodes, mostH, mostW, mostD, mostTick, mostNumber, mostDelays}
-use Rattle.plans.specs.Plan.{Plan, Crash, Delay, within, startRanges, crashRange, delayRange, risingFrom, rising, later, hits, noneTwice, above, delayOrder}
-use Rattle.plans.specs.Plan.{fewDelays, every, ringCount, ringRange, ringTest, delayTest}
-use Rattle.ring.specs.Ring.{among, eachOnce, listed, listing, listingAll}
+use Rattle.limits.specs.Limits.{most_nodes, most_h, most_w, most_d, most_tick, most_number, most_delays}
+use Rattle.plans.specs.Plan.{Plan, Crash, Delay, within, start_ranges, crash_range, delay_range, rising_from, rising, later, hits, none_twice, above, delay_order}
+use Rattle.plans.specs.Plan.{few_delays, every, ring_count, ring_range, ring_test, delay_test}
+use Rattle.ring.specs.Ring.{among, each_once, listed, listing, listing_all}
 use Rattle.ring.proofs.Once.{listed-all, all_snoc, once-snoc, once-start}
 use Rattle.plans.proofs.Orders.{ring-node}
 use Rattle.plans.proofs.Rows.{every-snoc}
-use Rattle.plans.specs.Plain.{noCrash}
+use Rattle.plans.specs.Plain.{no_crash}
 use Rattle.store.specs.declared.CrashRow.{CrashRow}
 use Rattle.store.specs.declared.DelayRow.{DelayRow}
-use Rattle.store.specs.Inside.{crashRow, delayRow}
+use Rattle.store.specs.Inside.{crash_row, delay_row}
 
 -- ---- a row as it was read
 
-crash-tick : {row : CrashRow} {r : Crash} → row ≡ crashRow r → row.tick ≡ r.tick
+crash-tick : {row : CrashRow} {r : Crash} → row ≡ crash_row r → row.tick ≡ r.tick
 crash-tick e = ap (λ (q : CrashRow). q.tick) e
 
-crash-node : {row : CrashRow} {r : Crash} → row ≡ crashRow r → row.node ≡ r.node
+crash-node : {row : CrashRow} {r : Crash} → row ≡ crash_row r → row.node ≡ r.node
 crash-node e = ap (λ (q : CrashRow). q.node) e
 
-delay-number : {row : DelayRow} {r : Delay} → row ≡ delayRow r → row.number ≡ r.number
+delay-number : {row : DelayRow} {r : Delay} → row ≡ delay_row r → row.number ≡ r.number
 delay-number e = ap (λ (q : DelayRow). q.number) e
 
 -- ---- rows of any kind
@@ -61,15 +61,15 @@ module _ {A : Type 0} (after : A → A → Bool) (rows : List A) (i : ℕ) (so_f
 
   pub rising-turn : (d : A) → i + 1 < length rows → after (get_or rows i d) (get_or rows (i + 1) d) ≡ true
       → rising after rows ≡ rising after (drop (i + 1) rows)
-  unfolding rising risingFrom
+  unfolding rising rising_from
   rising-turn d h t = so_far ∙ rw (two-places d h, t, from_place rows (i + 1) d h)
 
   pub rising-stop : (d : A) → i + 1 < length rows → after (get_or rows i d) (get_or rows (i + 1) d) ≡ false → rising after rows ≡ false
-  unfolding rising risingFrom
+  unfolding rising rising_from
   rising-stop d h t = so_far ∙ rw (two-places d h, t)
 
   pub rising-end : length rows ≤ i + 1 → rising after rows ≡ true
-  unfolding rising risingFrom
+  unfolding rising rising_from
   rising-end h = so_far ∙ short rows i h
     where
       one : (l : List A) → length l ≤ 1 → rising after l ≡ true
@@ -86,21 +86,21 @@ module _ {A : Type 0} (after : A → A → Bool) (rows : List A) (i : ℕ) (so_f
 
 -- the first i numbers passed, and are seen
 pub record Seen (p : Plan) (ks : List ℕ) (i seen : ℕ) : Type 0 where
-  pub range : ringRange p (take i ks) ≡ true
-  pub once : eachOnce (take i ks) ≡ true
-  pub are : seen ≡ listingAll 0 (take i ks)
+  pub range : ring_range p (take i ks) ≡ true
+  pub once : each_once (take i ks) ≡ true
+  pub are : seen ≡ listing_all 0 (take i ks)
 
 module _ (p : Plan) (ks : List ℕ) where
   pub none_seen : Seen p ks 0 0
-  unfolding ringRange every eachOnce listingAll
+  unfolding ring_range every each_once listing_all
   none_seen = record { range = refl; once = refl; are = refl }
 
   module _ {i k : ℕ} (inside : i < length ks) (got : k ≡ get_or ks i 0) where
     -- a number that is no node
-    pub ring-above : {n : ℕ} → n ≡ p.n → n ≤ k → false ≡ (ringRange p ks && eachOnce ks)
-    ring-above e h = go (ringRange p ks) refl
+    pub ring-above : {n : ℕ} → n ≡ p.n → n ≤ k → false ≡ (ring_range p ks && each_once ks)
+    ring-above e h = go (ring_range p ks) refl
       where
-        go : (t : Bool) → ringRange p ks ≡ t → false ≡ (t && eachOnce ks)
+        go : (t : Bool) → ring_range p ks ≡ t → false ≡ (t && each_once ks)
         go true r = absurd (omega (arith, ring-node p ks r i inside))
         go false r = refl
 
@@ -113,21 +113,21 @@ module _ (p : Plan) (ks : List ℕ) where
       before = rw sofar.are (listed-all (take i ks) k)
 
       -- one that stands twice
-      pub ring-twice : {b : Bool} → b ≡ listed seen k → b ≡ true → false ≡ (ringRange p ks && eachOnce ks)
-      ring-twice told hit = go (eachOnce ks) refl
+      pub ring-twice : {b : Bool} → b ≡ listed seen k → b ≡ true → false ≡ (ring_range p ks && each_once ks)
+      ring-twice told hit = go (each_once ks) refl
         where
-          stands : eachOnce (take (i + 1) ks) ≡ false
+          stands : each_once (take (i + 1) ks) ≡ false
           stands = rw (more, once-snoc (take i ks) k, sofar.once, ← before, ← told, hit)
 
-          go : (t : Bool) → eachOnce ks ≡ t → false ≡ (ringRange p ks && t)
+          go : (t : Bool) → each_once ks ≡ t → false ≡ (ring_range p ks && t)
           go true e =
               let part = once-start (take (i + 1) ks) (drop (i + 1) ks) (rw (take-append-drop (i + 1) ks) e) in
               absurd (true≢false (sym part ∙ stands))
-          go false e = sym (and-false (ringRange p ks))
+          go false e = sym (and-false (ring_range p ks))
 
       pub ring-turn : {n : ℕ} → n ≡ p.n → k < n → {b : Bool} → b ≡ listed seen k → b ≡ false → {next : ℕ} → next ≡ listing seen k
           → Seen p ks (i + 1) next
-      unfolding ringRange
+      unfolding ring_range
       ring-turn e h told free listed = record {
         range = rw more (every-snoc (λ x. ltb x p.n) (take i ks) k sofar.range (lt-ltb k p.n (omega arith)));
         once = rw (more, once-snoc (take i ks) k, sofar.once, ← before, ← told, free);
@@ -135,42 +135,42 @@ module _ (p : Plan) (ks : List ℕ) where
       }
 
   -- all numbers were seen
-  pub ring-end : {i seen : ℕ} → Seen p ks i seen → length ks ≤ i → true ≡ (ringRange p ks && eachOnce ks)
+  pub ring-end : {i seen : ℕ} → Seen p ks i seen → length ks ≤ i → true ≡ (ring_range p ks && each_once ks)
   ring-end {i} sofar past =
       let all : take i ks ≡ ks = take_all i ks past in
-      let range : ringRange p ks ≡ true = rw all at sofar.range in
-      let once : eachOnce ks ≡ true = rw all at sofar.once in
+      let range : ring_range p ks ≡ true = rw all at sofar.range in
+      let once : each_once ks ≡ true = rw all at sofar.once in
       rw (range, once)
 
 -- no Q line; one of another count; the numbers of one
 module _ (p : Plan) {size : ℕ} (read : size ≡ length p.ring) where
-  pub ring-none : size ≡ 0 → true ≡ ringTest p
-  unfolding ringTest
+  pub ring-none : size ≡ 0 → true ≡ ring_test p
+  unfolding ring_test
   ring-none e = rw (eq-eqb (length p.ring) 0 (sym read ∙ e))
 
   module _ (some : size ≡ 0 → ⊥) {n : ℕ} (nodes : n ≡ p.n) where
-    pub ring-miscounted : (size ≡ n → ⊥) → false ≡ ringTest p
-    unfolding ringTest ringCount
+    pub ring-miscounted : (size ≡ n → ⊥) → false ≡ ring_test p
+    unfolding ring_test ring_count
     ring-miscounted d =
         rw (ne_eqb (length p.ring) 0 (λ e. some (read ∙ e)), ne_eqb (length p.ring) p.n (λ e. d (read ∙ e ∙ sym nodes)))
 
-    pub ring-counted : size ≡ n → {r : Bool} → r ≡ (ringRange p p.ring && eachOnce p.ring) → r ≡ ringTest p
-    unfolding ringTest ringCount
+    pub ring-counted : size ≡ n → {r : Bool} → r ≡ (ring_range p p.ring && each_once p.ring) → r ≡ ring_test p
+    unfolding ring_test ring_count
     ring-counted e told =
         rw (ne_eqb (length p.ring) 0 (λ z. some (read ∙ z)), eq-eqb (length p.ring) p.n (sym read ∙ e ∙ nodes)) told
 
 -- ---- C rows
 
-module _ (p : Plan) (r : Crash) {row : CrashRow} {end : ℕ} (got : row ≡ crashRow r) (ends : end ≡ p.end) where
-  pub crash-late : end < row.tick → crashRange p r ≡ false
-  unfolding crashRange
+module _ (p : Plan) (r : Crash) {row : CrashRow} {end : ℕ} (got : row ≡ crash_row r) (ends : end ≡ p.end) where
+  pub crash-late : end < row.tick → crash_range p r ≡ false
+  unfolding crash_range
   crash-late h = rw (lt-leb r.tick p.end (omega (arith, crash-tick got)))
 
-  pub crash-in-time : row.tick ≤ end → {n : ℕ} → n ≡ p.n → crashRange p r ≡ ltb row.node n
-  unfolding crashRange
+  pub crash-in-time : row.tick ≤ end → {n : ℕ} → n ≡ p.n → crash_range p r ≡ ltb row.node n
+  unfolding crash_range
   crash-in-time h e = rw (le-leb r.tick p.end (omega (arith, crash-tick got)), e, got)
 
-module _ (a b : Crash) {row next : CrashRow} (got : row ≡ crashRow a) (got-next : next ≡ crashRow b) where
+module _ (a b : Crash) {row next : CrashRow} (got : row ≡ crash_row a) (got-next : next ≡ crash_row b) where
   pub later-by-tick : row.tick < next.tick → later a b ≡ true
   unfolding later
   later-by-tick h = rw (lt-ltb a.tick b.tick (omega (arith, crash-tick got, crash-tick got-next)))
@@ -199,45 +199,45 @@ module _ (rows : List Crash) (first k i : ℕ) (so_far : hits (drop first rows) 
   unfolding hits among
   hit-none h = so_far ∙ rw (drop_of_length-le rows h)
 
-  module _ {row : CrashRow} (got : row ≡ crashRow (get_or rows i noCrash)) (inside : i < length rows) where
+  module _ {row : CrashRow} (got : row ≡ crash_row (get_or rows i no_crash)) (inside : i < length rows) where
     pub hit-found : row.node ≡ k → hits (drop first rows) k ≡ true
     unfolding hits among
-    hit-found e = so_far ∙ rw (from_place rows i noCrash inside, eq-eqb (get_or rows i noCrash).node k (sym (crash-node got) ∙ e))
+    hit-found e = so_far ∙ rw (from_place rows i no_crash inside, eq-eqb (get_or rows i no_crash).node k (sym (crash-node got) ∙ e))
 
     pub hit-turn : (row.node ≡ k → ⊥) → hits (drop first rows) k ≡ hits (drop (i + 1) rows) k
     unfolding hits among
-    hit-turn d = so_far ∙ rw (from_place rows i noCrash inside, ne_eqb (get_or rows i noCrash).node k (λ e. d (crash-node got ∙ e)))
+    hit-turn d = so_far ∙ rw (from_place rows i no_crash inside, ne_eqb (get_or rows i no_crash).node k (λ e. d (crash-node got ∙ e)))
 
-module _ (rows : List Crash) (i : ℕ) (so_far : noneTwice rows ≡ noneTwice (drop i rows)) where
-  pub once-end : length rows ≤ i → noneTwice rows ≡ true
-  unfolding noneTwice hits eachOnce
+module _ (rows : List Crash) (i : ℕ) (so_far : none_twice rows ≡ none_twice (drop i rows)) where
+  pub once-end : length rows ≤ i → none_twice rows ≡ true
+  unfolding none_twice hits each_once
   once-end h = so_far ∙ rw (drop_of_length-le rows h)
 
-  module _ {row : CrashRow} {hit : Bool} (got : row ≡ crashRow (get_or rows i noCrash)) (told : hit ≡ hits (drop (i + 1) rows) row.node)
+  module _ {row : CrashRow} {hit : Bool} (got : row ≡ crash_row (get_or rows i no_crash)) (told : hit ≡ hits (drop (i + 1) rows) row.node)
       (inside : i < length rows) where
-    told-row : hits (drop (i + 1) rows) (get_or rows i noCrash).node ≡ hit
+    told-row : hits (drop (i + 1) rows) (get_or rows i no_crash).node ≡ hit
     told-row = ap (hits (drop (i + 1) rows)) (sym (crash-node got)) ∙ sym told
 
-    pub once-stop : hit ≡ true → noneTwice rows ≡ false
-    unfolding noneTwice hits eachOnce
-    once-stop e = so_far ∙ rw (from_place rows i noCrash inside, told-row, e)
+    pub once-stop : hit ≡ true → none_twice rows ≡ false
+    unfolding none_twice hits each_once
+    once-stop e = so_far ∙ rw (from_place rows i no_crash inside, told-row, e)
 
-    pub once-turn : hit ≡ false → noneTwice rows ≡ noneTwice (drop (i + 1) rows)
-    unfolding noneTwice hits eachOnce
-    once-turn e = so_far ∙ rw (from_place rows i noCrash inside, told-row, e)
+    pub once-turn : hit ≡ false → none_twice rows ≡ none_twice (drop (i + 1) rows)
+    unfolding none_twice hits each_once
+    once-turn e = so_far ∙ rw (from_place rows i no_crash inside, told-row, e)
 
 -- ---- L rows
 
-module _ (p : Plan) (r : Delay) {row : DelayRow} (got : row ≡ delayRow r) where
-  pub delay-number-high : mostNumber < row.number → delayRange p r ≡ false
-  unfolding delayRange
-  delay-number-high h = rw (lt-leb r.number mostNumber (omega (arith, delay-number got)))
+module _ (p : Plan) (r : Delay) {row : DelayRow} (got : row ≡ delay_row r) where
+  pub delay-number-high : most_number < row.number → delay_range p r ≡ false
+  unfolding delay_range
+  delay-number-high h = rw (lt-leb r.number most_number (omega (arith, delay-number got)))
 
-  pub delay-number-low : row.number ≤ mostNumber → {d : ℕ} → d ≡ p.d → delayRange p r ≡ within 1 d row.delay
-  unfolding delayRange
-  delay-number-low h e = rw (le-leb r.number mostNumber (omega (arith, delay-number got)), e, got)
+  pub delay-number-low : row.number ≤ most_number → {d : ℕ} → d ≡ p.d → delay_range p r ≡ within 1 d row.delay
+  unfolding delay_range
+  delay-number-low h e = rw (le-leb r.number most_number (omega (arith, delay-number got)), e, got)
 
-module _ (a b : Delay) {row next : DelayRow} (got : row ≡ delayRow a) (got-next : next ≡ delayRow b) where
+module _ (a b : Delay) {row next : DelayRow} (got : row ≡ delay_row a) (got-next : next ≡ delay_row b) where
   pub above-next : row.number < next.number → above a b ≡ true
   unfolding above
   above-next h = lt-ltb a.number b.number (omega (arith, delay-number got, delay-number got-next))
@@ -247,9 +247,9 @@ module _ (a b : Delay) {row next : DelayRow} (got : row ≡ delayRow a) (got-nex
   not-above h = le-ltb a.number b.number (omega (arith, delay-number got, delay-number got-next))
 
 -- where the L rows are in range and no more than places, their order decides
-pub delays-by-order : (p : Plan) → length p.delays ≤ mostDelays → every (delayRange p) p.delays ≡ true → delayTest p ≡ delayOrder p.delays
-unfolding delayTest fewDelays
-delays-by-order p few pass = rw (pass, le-leb (length p.delays) mostDelays few) (and-true (delayOrder p.delays))
+pub delays-by-order : (p : Plan) → length p.delays ≤ most_delays → every (delay_range p) p.delays ≡ true → delay_test p ≡ delay_order p.delays
+unfolding delay_test few_delays
+delays-by-order p few pass = rw (pass, le-leb (length p.delays) most_delays few) (and-true (delay_order p.delays))
 
 -- ---- the P line
 

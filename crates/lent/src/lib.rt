@@ -5,17 +5,17 @@ pub mod state; // state.rt: whether the state is in range
 ghost use Rattle.std.specs.Prelude.{◌&&◌, ◌≡◌, ◌+◌, ◌*◌, ◌≤◌, length};
 ghost use Rattle.std.proofs.Math.Seq.{slice};
 ghost use Rattle.fields.specs.Fields.{zeros};
-ghost use Rattle.limits.specs.Limits.{mostNodes, mostInFlight, storeSize};
-ghost use Rattle.store.specs.Columns.{field, restZero, restTest, roomTest, unusedTest};
-ghost use Rattle.store.specs.Store.{spareHead, ringNodes, nodeParts, messageParts, columns, planIn, stateIn, storeInRange};
+ghost use Rattle.limits.specs.Limits.{most_nodes, most_in_flight, store_size};
+ghost use Rattle.store.specs.Columns.{field, rest_zero, rest_test, room_test, unused_test};
+ghost use Rattle.store.specs.Store.{spare_head, ring_nodes, node_parts, message_parts, columns, plan_in, state_in, store_in_range};
 ghost use Rattle.store.specs.Inside.{Sized};
 
 use store::{layout, messages, plan};
 
 // No more numbers of the Q line, nodes, rows and messages than there are places.
 fn counts_fit(s: &[u8]) -> bool
-    requires { length s.now ≡ storeSize }
-    ensures { result ≡ roomTest (columns (planIn s.now) (stateIn s.now)) }
+    requires { length s.now ≡ store_size }
+    ensures { result ≡ room_test (columns (plan_in s.now) (state_in s.now)) }
 {
     if plan::ring_size(s) > layout::MOST_NODES {
         return false;
@@ -34,7 +34,7 @@ fn counts_fit(s: &[u8]) -> bool
 
 // The bytes of a column beyond its first n numbers of w bytes are zero. It starts at `at` and has so many places.
 fn rest_zero(s: &[u8], at: usize, w: usize, places: usize, n: usize) -> bool
-    requires { (n ≤ places) × (at + w * places ≤ length s.now) × (length s.now ≡ storeSize) }
+    requires { (n ≤ places) × (at + w * places ≤ length s.now) × (length s.now ≡ store_size) }
     ensures { result ≡ zeros (slice (at + w * n) (at + w * places) s.now) }
 {
     fields::is_zero(s, at + w * n, at + w * places)
@@ -43,7 +43,7 @@ fn rest_zero(s: &[u8], at: usize, w: usize, places: usize, n: usize) -> bool
 // The head's unused bytes are zero, and the places beyond the last number of the Q line.
 fn ring_rest(s: &[u8]) -> bool
     requires { Sized s.now }
-    ensures { result ≡ (restZero s.now spareHead 0 && restZero s.now ringNodes (length (planIn s.now).ring)) }
+    ensures { result ≡ (rest_zero s.now spare_head 0 && rest_zero s.now ring_nodes (length (plan_in s.now).ring)) }
 {
     if !fields::is_zero(s, layout::SPARE_HEAD, layout::RING_NODES) {
         return false;
@@ -59,8 +59,8 @@ fn ring_rest(s: &[u8]) -> bool
 
 // The places beyond the last of n nodes are zero.
 fn nodes_rest(s: &[u8], n: usize) -> bool
-    requires { (n ≤ mostNodes) × (length s.now ≡ storeSize) }
-    ensures { result ≡ restTest nodeParts s.now n }
+    requires { (n ≤ most_nodes) × (length s.now ≡ store_size) }
+    ensures { result ≡ rest_test node_parts s.now n }
 {
     if !rest_zero(s, layout::EMITTERS, 1, layout::MOST_NODES, n) {
         return false;
@@ -82,8 +82,8 @@ fn nodes_rest(s: &[u8], n: usize) -> bool
 
 // The places beyond the last of n rows are zero, C rows or L rows: a column of 4 bytes starts at `at`, one of 1 byte at `then`.
 fn rows_rest(s: &[u8], at: usize, then: usize, places: usize, n: usize) -> bool
-    requires { (n ≤ places) × (at + 4 * places ≤ length s.now) × (then + 1 * places ≤ length s.now) × (length s.now ≡ storeSize) }
-    ensures { result ≡ (restZero s.now (field at 4 places) n && restZero s.now (field then 1 places) n) }
+    requires { (n ≤ places) × (at + 4 * places ≤ length s.now) × (then + 1 * places ≤ length s.now) × (length s.now ≡ store_size) }
+    ensures { result ≡ (rest_zero s.now (field at 4 places) n && rest_zero s.now (field then 1 places) n) }
 {
     if !rest_zero(s, at, 4, places, n) {
         return false;
@@ -93,8 +93,8 @@ fn rows_rest(s: &[u8], at: usize, then: usize, places: usize, n: usize) -> bool
 
 // The places beyond the last of n messages are zero.
 fn messages_rest(s: &[u8], n: usize) -> bool
-    requires { (n ≤ mostInFlight) × (length s.now ≡ storeSize) }
-    ensures { result ≡ restTest messageParts s.now n }
+    requires { (n ≤ most_in_flight) × (length s.now ≡ store_size) }
+    ensures { result ≡ rest_test message_parts s.now n }
 {
     if !rest_zero(s, layout::MESSAGE_NUMBERS, 8, layout::MOST_IN_FLIGHT, n) {
         return false;
@@ -120,7 +120,7 @@ fn messages_rest(s: &[u8], n: usize) -> bool
 // Every unused byte is zero.
 fn unused_zero(s: &[u8]) -> bool
     requires { Sized s.now }
-    ensures { result ≡ unusedTest s.now (columns (planIn s.now) (stateIn s.now)) }
+    ensures { result ≡ unused_test s.now (columns (plan_in s.now) (state_in s.now)) }
 {
     if !ring_rest(s) {
         return false;
@@ -154,7 +154,7 @@ fn unused_zero(s: &[u8]) -> bool
 
 // Whether these bytes are a store in range.
 pub fn in_range(s: &[u8]) -> bool
-    ensures { result ≡ storeInRange s.now }
+    ensures { result ≡ store_in_range s.now }
 {
     if s.len() != layout::STORE_SIZE {
         return false;

@@ -1,12 +1,12 @@
 // The first half of number 7's test of a lent store: whether the P line, the Q line and the rows of C and L lines are those of a run file.
 ghost use Rattle.std.specs.Prelude.{◌≡◌, ◌&&◌, ◌+◌, ◌<◌, length, drop};
-ghost use Rattle.plans.specs.Plan.{within, crashRange, delayRange, rising, later, hits, noneTwice, delayOrder, every, startRanges, crashTest};
-ghost use Rattle.plans.specs.Plan.{ringRange, ringTest, delayTest, planTest};
-ghost use Rattle.ring.specs.Ring.{eachOnce};
+ghost use Rattle.plans.specs.Plan.{within, crash_range, delay_range, rising, later, hits, none_twice, delay_order, every, start_ranges, crash_test};
+ghost use Rattle.plans.specs.Plan.{ring_range, ring_test, delay_test, plan_test};
+ghost use Rattle.ring.specs.Ring.{each_once};
 ghost use Rattle.plans.specs.Plain.{row_at};
-ghost use Rattle.limits.specs.Limits.{storeSize};
-ghost use Rattle.store.specs.Store.{planIn};
-ghost use Rattle.store.specs.Inside.{Sized, delayAt};
+ghost use Rattle.limits.specs.Limits.{store_size};
+ghost use Rattle.store.specs.Store.{plan_in};
+ghost use Rattle.store.specs.Inside.{Sized, delay_at};
 
 use limits::{MOST_D, MOST_H, MOST_TICK, MOST_W};
 use store::{layout, plan};
@@ -26,8 +26,8 @@ fn is_within(low: usize, high: usize, x: usize) -> bool
 
 // Whether the values of the P line are in range.
 fn values_in_range(s: &[u8]) -> bool
-    requires { length s.now ≡ storeSize }
-    ensures { result ≡ startRanges (planIn s.now) }
+    requires { length s.now ≡ store_size }
+    ensures { result ≡ start_ranges (plan_in s.now) }
 {
     if !is_within(1, layout::MOST_NODES, plan::node_count(s)) {
         return false;
@@ -47,7 +47,7 @@ fn values_in_range(s: &[u8]) -> bool
 // Whether the numbers of the Q line are nodes, and none stands twice.
 fn ring_nodes_once(s: &[u8]) -> bool
     requires { Sized s.now }
-    ensures { result ≡ (ringRange (planIn s.now) (planIn s.now).ring && eachOnce (planIn s.now).ring) }
+    ensures { result ≡ (ring_range (plan_in s.now) (plan_in s.now).ring && each_once (plan_in s.now).ring) }
 {
     let n = plan::node_count(s);
     let size = plan::ring_size(s);
@@ -70,7 +70,7 @@ fn ring_nodes_once(s: &[u8]) -> bool
 // Whether a run file may hold the Q line, or there is none.
 fn ring_in_range(s: &[u8]) -> bool
     requires { Sized s.now }
-    ensures { result ≡ ringTest (planIn s.now) }
+    ensures { result ≡ ring_test (plan_in s.now) }
 {
     let size = plan::ring_size(s);
     if size == 0 {
@@ -85,8 +85,8 @@ fn ring_in_range(s: &[u8]) -> bool
 // Whether the C row at a place is in range.
 fn crash_in_range(s: &[u8], i: usize) -> bool
     requires sized { Sized s.now }
-    requires i_in_bounds { i < length (planIn s.now).crashes }
-    ensures { result ≡ crashRange (planIn s.now) (row_at (planIn s.now) i) }
+    requires i_in_bounds { i < length (plan_in s.now).crashes }
+    ensures { result ≡ crash_range (plan_in s.now) (row_at (plan_in s.now) i) }
 {
     let row = plan::crash_at(s, i);
     if plan::end_tick(s) < row.tick {
@@ -98,7 +98,7 @@ fn crash_in_range(s: &[u8], i: usize) -> bool
 // Whether the C rows are in range.
 fn crashes_in_range(s: &[u8]) -> bool
     requires { Sized s.now }
-    ensures { result ≡ every (crashRange (planIn s.now)) (planIn s.now).crashes }
+    ensures { result ≡ every (crash_range (plan_in s.now)) (plan_in s.now).crashes }
 {
     let count = plan::crash_count(s);
     let mut i: usize = 0;
@@ -114,8 +114,8 @@ fn crashes_in_range(s: &[u8]) -> bool
 // Whether the C row after a place is later than the one at it.
 fn crash_rises(s: &[u8], i: usize) -> bool
     requires sized { Sized s.now }
-    requires i_in_bounds { i + 1 < length (planIn s.now).crashes }
-    ensures { result ≡ later (row_at (planIn s.now) i) (row_at (planIn s.now) (i + 1)) }
+    requires i_in_bounds { i + 1 < length (plan_in s.now).crashes }
+    ensures { result ≡ later (row_at (plan_in s.now) i) (row_at (plan_in s.now) (i + 1)) }
 {
     let row = plan::crash_at(s, i);
     let next = plan::crash_at(s, i + 1);
@@ -131,7 +131,7 @@ fn crash_rises(s: &[u8], i: usize) -> bool
 // Whether the C rows rise by tick, then node.
 fn crashes_rise(s: &[u8]) -> bool
     requires { Sized s.now }
-    ensures { result ≡ rising later (planIn s.now).crashes }
+    ensures { result ≡ rising later (plan_in s.now).crashes }
 {
     let count = plan::crash_count(s);
     let mut i: usize = 0;
@@ -147,7 +147,7 @@ fn crashes_rise(s: &[u8]) -> bool
 // Whether a C row from the place first on is of this node.
 fn crashes_from(s: &[u8], first: usize, node: u8) -> bool
     requires { Sized s.now }
-    ensures { result ≡ hits (drop first (planIn s.now).crashes) node }
+    ensures { result ≡ hits (drop first (plan_in s.now).crashes) node }
 {
     let count = plan::crash_count(s);
     let mut i = first;
@@ -164,7 +164,7 @@ fn crashes_from(s: &[u8], first: usize, node: u8) -> bool
 // Whether no two C rows are of one node.
 fn crashes_once(s: &[u8]) -> bool
     requires { Sized s.now }
-    ensures { result ≡ noneTwice (planIn s.now).crashes }
+    ensures { result ≡ none_twice (plan_in s.now).crashes }
 {
     let count = plan::crash_count(s);
     let mut i: usize = 0;
@@ -181,7 +181,7 @@ fn crashes_once(s: &[u8]) -> bool
 // Whether a run file may hold the C rows.
 fn crash_rows_in_range(s: &[u8]) -> bool
     requires { Sized s.now }
-    ensures { result ≡ crashTest (planIn s.now) }
+    ensures { result ≡ crash_test (plan_in s.now) }
 {
     if !crashes_in_range(s) {
         return false;
@@ -195,8 +195,8 @@ fn crash_rows_in_range(s: &[u8]) -> bool
 // Whether the L row at a place is in range.
 fn delay_in_range(s: &[u8], i: usize) -> bool
     requires sized { Sized s.now }
-    requires i_in_bounds { i < length (planIn s.now).delays }
-    ensures { result ≡ delayRange (planIn s.now) (delayAt (planIn s.now) i) }
+    requires i_in_bounds { i < length (plan_in s.now).delays }
+    ensures { result ≡ delay_range (plan_in s.now) (delay_at (plan_in s.now) i) }
 {
     let row = plan::delay_at(s, i);
     if MOST_NUMBER < row.number {
@@ -208,7 +208,7 @@ fn delay_in_range(s: &[u8], i: usize) -> bool
 // Whether the L rows are in range.
 fn delays_in_range(s: &[u8]) -> bool
     requires { Sized s.now }
-    ensures { result ≡ every (delayRange (planIn s.now)) (planIn s.now).delays }
+    ensures { result ≡ every (delay_range (plan_in s.now)) (plan_in s.now).delays }
 {
     let count = plan::delay_count(s);
     let mut i: usize = 0;
@@ -224,7 +224,7 @@ fn delays_in_range(s: &[u8]) -> bool
 // Whether the L rows rise by number.
 fn delays_rise(s: &[u8]) -> bool
     requires { Sized s.now }
-    ensures { result ≡ delayOrder (planIn s.now).delays }
+    ensures { result ≡ delay_order (plan_in s.now).delays }
 {
     let count = plan::delay_count(s);
     let mut i: usize = 0;
@@ -242,7 +242,7 @@ fn delays_rise(s: &[u8]) -> bool
 // Whether a run file may hold the L rows. That there are no more than 2,048 is known from Sized.
 fn delay_rows_in_range(s: &[u8]) -> bool
     requires { Sized s.now }
-    ensures { result ≡ delayTest (planIn s.now) }
+    ensures { result ≡ delay_test (plan_in s.now) }
 {
     if !delays_in_range(s) {
         return false;
@@ -253,7 +253,7 @@ fn delay_rows_in_range(s: &[u8]) -> bool
 // Whether a run file may hold the plan.
 pub fn plan_in_range(s: &[u8]) -> bool
     requires { Sized s.now }
-    ensures { result ≡ planTest (planIn s.now) }
+    ensures { result ≡ plan_test (plan_in s.now) }
 {
     if !values_in_range(s) {
         return false;

@@ -1,12 +1,12 @@
 // The state that a store's bytes hold, tested against its plan: the half of number 7 that is about the state.
 ghost use Rattle.std.specs.Prelude.{◌≡◌, true, ◌&&◌, ◌<◌, ◌≤◌, leb, drop};
-ghost use Rattle.plans.specs.Plan.{planTest};
-ghost use Rattle.node.specs.Range.{nodeTest, liveTest, notOverdue, timersTest, kindTest, carriedTest};
-ghost use Rattle.model.specs.Platform.{crashedList, node_of};
-ghost use Rattle.limits.specs.Limits.{mostNodes, mostNext};
-ghost use Rattle.model.specs.Range.{nodeHere, nodesTest, messageTest, flightTest, undoneTest, soundTest};
-ghost use Rattle.store.specs.Store.{planIn, stateIn};
-ghost use Rattle.store.specs.Inside.{Sized, messageOf};
+ghost use Rattle.plans.specs.Plan.{plan_test};
+ghost use Rattle.node.specs.Range.{node_test, live_test, not_overdue, timers_test, kind_test, carried_test};
+ghost use Rattle.model.specs.Platform.{crashed_list, node_of};
+ghost use Rattle.limits.specs.Limits.{most_nodes, most_next};
+ghost use Rattle.model.specs.Range.{node_here, nodes_test, message_test, flight_test, undone_test, sound_test};
+ghost use Rattle.store.specs.Store.{plan_in, state_in};
+ghost use Rattle.store.specs.Inside.{Sized, message_of};
 ghost use Rattle.lent.specs.Planned.{Planned};
 
 use limits::MOST_NEXT;
@@ -18,7 +18,7 @@ use store::{Flight, messages, nodes, plan};
 // Whether a node's fields are in range, where t is the last event's tick.
 fn node_fits(s: &[u8], t: u32, a: Node) -> bool
     requires { Planned s.now t }
-    ensures { result ≡ nodeTest (planIn s.now).n (planIn s.now).h (planIn s.now).w t a }
+    ensures { result ≡ node_test (plan_in s.now).n (plan_in s.now).h (plan_in s.now).w t a }
 {
     let n = plan::node_count(s) as u8;
     let h = plan::period(s);
@@ -28,7 +28,7 @@ fn node_fits(s: &[u8], t: u32, a: Node) -> bool
 
 // Whether a timer is off, or not before t.
 fn timer_fits(t: u32, timer: u32) -> bool
-    ensures { result ≡ notOverdue t timer }
+    ensures { result ≡ not_overdue t timer }
 {
     if timer == 0 {
         return true;
@@ -38,7 +38,7 @@ fn timer_fits(t: u32, timer: u32) -> bool
 
 // Whether node x, which is live, has nothing about itself and no timer before t.
 fn live_fits(t: u32, x: u8, a: Node) -> bool
-    ensures { result ≡ (liveTest x a && timersTest t a) }
+    ensures { result ≡ (live_test x a && timers_test t a) }
 {
     if !node::live_in_range(x, a) {
         return false;
@@ -52,9 +52,9 @@ fn live_fits(t: u32, x: u8, a: Node) -> bool
 // Whether node x is in range.
 fn node_in_range(s: &[u8], t: u32, dead: u64, x: usize) -> bool
     requires planned { Planned s.now t }
-    requires dead_value { dead ≡ crashedList (planIn s.now) (stateIn s.now).done }
-    requires x_bound { x < (planIn s.now).n }
-    ensures { result ≡ nodeHere (planIn s.now) (stateIn s.now).done t x (node_of (stateIn s.now) x) }
+    requires dead_value { dead ≡ crashed_list (plan_in s.now) (state_in s.now).done }
+    requires x_bound { x < (plan_in s.now).n }
+    ensures { result ≡ node_here (plan_in s.now) (state_in s.now).done t x (node_of (state_in s.now) x) }
 {
     let a = nodes::node_at(s, x);
     if !node_fits(s, t, a) {
@@ -69,8 +69,8 @@ fn node_in_range(s: &[u8], t: u32, dead: u64, x: usize) -> bool
 // Whether all nodes are in range.
 fn nodes_in_range(s: &[u8], t: u32, dead: u64) -> bool
     requires planned { Planned s.now t }
-    requires dead_value { dead ≡ crashedList (planIn s.now) (stateIn s.now).done }
-    ensures { result ≡ nodesTest (planIn s.now) (stateIn s.now).done t 0 (stateIn s.now).nodes }
+    requires dead_value { dead ≡ crashed_list (plan_in s.now) (state_in s.now).done }
+    ensures { result ≡ nodes_test (plan_in s.now) (state_in s.now).done t 0 (state_in s.now).nodes }
 {
     let n = plan::node_count(s);
     let mut x: usize = 0;
@@ -87,7 +87,7 @@ fn nodes_in_range(s: &[u8], t: u32, dead: u64) -> bool
 
 // Whether a letter is a message's kind.
 fn is_kind(letter: u8) -> bool
-    ensures { result ≡ kindTest letter }
+    ensures { result ≡ kind_test letter }
 {
     match letter {
         b'H' => true,
@@ -99,8 +99,8 @@ fn is_kind(letter: u8) -> bool
 
 // Whether a message of a kind may carry a list, in a ring of n nodes.
 fn is_carried(n: u8, kind: u8, list: u64) -> bool
-    requires { (1 ≤ n) × (n ≤ mostNodes) }
-    ensures { result ≡ carriedTest n kind list }
+    requires { (1 ≤ n) × (n ≤ most_nodes) }
+    ensures { result ≡ carried_test n kind list }
 {
     if ring::all_nodes(n) < list {
         return false;
@@ -114,7 +114,7 @@ fn is_carried(n: u8, kind: u8, list: u64) -> bool
 // Whether a message is in range.
 fn message_fits(s: &[u8], t: u32, m: Flight) -> bool
     requires { Planned s.now t }
-    ensures { result ≡ messageTest (planIn s.now) t (messageOf m) }
+    ensures { result ≡ message_test (plan_in s.now) t (message_of m) }
 {
     let n = plan::node_count(s) as u8;
     if !is_kind(m.kind) {
@@ -144,7 +144,7 @@ fn message_fits(s: &[u8], t: u32, m: Flight) -> bool
 // Whether all messages are in range and their numbers rise and are below `next`.
 fn messages_in_range(s: &[u8], t: u32, next: u64) -> bool
     requires { Planned s.now t }
-    ensures { result ≡ flightTest (planIn s.now) t 0 next (stateIn s.now).flight }
+    ensures { result ≡ flight_test (plan_in s.now) t 0 next (state_in s.now).flight }
 {
     let n = messages::message_count(s);
     let mut low: u64 = 0;
@@ -171,7 +171,7 @@ fn messages_in_range(s: &[u8], t: u32, next: u64) -> bool
 // Whether the first undone crash is not before t.
 fn undone_in_range(s: &[u8], t: u32) -> bool
     requires { Sized s.now }
-    ensures { result ≡ undoneTest t (drop (stateIn s.now).done (planIn s.now).crashes) }
+    ensures { result ≡ undone_test t (drop (state_in s.now).done (plan_in s.now).crashes) }
 {
     let done = plan::crashes_done(s);
     if plan::crash_count(s) <= done {
@@ -184,8 +184,8 @@ fn undone_in_range(s: &[u8], t: u32) -> bool
 // Whether the state is in range.
 pub fn state_in_range(s: &[u8]) -> bool
     requires sized { Sized s.now }
-    requires s_value { planTest (planIn s.now) ≡ true }
-    ensures { result ≡ (soundTest (planIn s.now) (stateIn s.now) && leb (stateIn s.now).next mostNext) }
+    requires s_value { plan_test (plan_in s.now) ≡ true }
+    ensures { result ≡ (sound_test (plan_in s.now) (state_in s.now) && leb (state_in s.now).next most_next) }
 {
     let t = plan::last_tick(s);
     let next = plan::next_number(s);

@@ -4,16 +4,16 @@ use mathlib.Core.Bool.{Bool, true, ◌&&◌}
 use mathlib.Core.List.{List, [], ◌∷◌}
 use Prim.Native.Nat.{ℕ}
 use lib.Dec.{ltb}
-use Rattle.limits.specs.Refusals.{accepted, badLength, badForm, outOfRange, shortTimeOut, notRising, manyDelays, badStore, tooMany, shortPart}
-use Rattle.limits.specs.Refusals.{badRecord, badMessage, badTick, notEachOnce}
+use Rattle.limits.specs.Refusals.{accepted, bad_length, bad_form, out_of_range, short_time_out, not_rising, many_delays, bad_store, too_many, short_part}
+use Rattle.limits.specs.Refusals.{bad_record, bad_message, bad_tick, not_each_once}
 
-unfoldable pub risesFrom : ℕ → List ℕ → Bool
-risesFrom x [] = true
-risesFrom x (y ∷ ys) = ltb x y && risesFrom y ys
+unfoldable pub rises_from : ℕ → List ℕ → Bool
+rises_from x [] = true
+rises_from x (y ∷ ys) = ltb x y && rises_from y ys
 
-pub refusals-differ : risesFrom accepted
-    (badLength ∷ badForm ∷ outOfRange ∷ shortTimeOut ∷ notRising ∷ manyDelays ∷ badStore ∷ tooMany ∷ shortPart ∷ badRecord
-    ∷ badMessage ∷ badTick ∷ notEachOnce ∷ [])
+pub refusals-differ : rises_from accepted
+    (bad_length ∷ bad_form ∷ out_of_range ∷ short_time_out ∷ not_rising ∷ many_delays ∷ bad_store ∷ too_many ∷ short_part ∷ bad_record
+    ∷ bad_message ∷ bad_tick ∷ not_each_once ∷ [])
     ≡ true
-unfolding risesFrom
+unfolding rises_from
 refusals-differ = refl

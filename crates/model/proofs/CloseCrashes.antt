@@ -15,7 +15,7 @@ use Rattle.model.specs.Platform.{InFlight}
 use Rattle.ring.proofs.GoingBack.{iter, iter-out}
 use Rattle.model.proofs.Events.{Seen, View, Live, Dead, ◌∈◌, Params, Crash, Watched, Report, Leaves, Moves, Alone, Step, crash, drop, idle, beat}
 use Rattle.model.proofs.Events.{watched, report, moves, alone, sends, crashed, moving, left}
-use Rattle.model.proofs.Invariant.{Inv, Covered, byHeartbeat, byTimer, byObserver, byCrash}
+use Rattle.model.proofs.Invariant.{Inv, Covered, by_heartbeat, by_timer, by_observer, by_crash}
 use Rattle.model.proofs.EveryEvent.{live-not-dead}
 use Rattle.model.proofs.OneNode.{OnEach, each}
 use Rattle.model.proofs.WatchKept.{came0}
@@ -23,7 +23,7 @@ use Rattle.model.proofs.CrashDone.{crash-now}
 use Rattle.model.proofs.ObserverDelivered.{observer-all}
 use Rattle.model.proofs.ReportDelivered.{report-all}
 use Rattle.model.proofs.EmitterLeft.{leaves-late, moves-all, moves-sames}
-use Rattle.model.proofs.Phases.{crashedIn, Up, Copied, Quiet, drop-quiet, idle-quiet, beat-quiet, sends-quiet}
+use Rattle.model.proofs.Phases.{crashed_in, Up, Copied, Quiet, drop-quiet, idle-quiet, beat-quiet, sends-quiet}
 use Rattle.model.proofs.WatchExpires.{first}
 use Rattle.model.proofs.ReportRounds.{iter-up}
 use Rattle.model.proofs.SpacedRuns.{Last, none, at, after, Passed, JoinedIn, joined_in}
@@ -39,7 +39,7 @@ module _ (p : Params) where
   more a b h = mul-le-mul_left (2 * p.W) h
 
   one-at-least : (j k : ℕ) → j < p.N → k < p.N → waits 1 ≤ waits (p.gap j k)
-  one-at-least j k jN kN = more 1 (p.gap j k) (p.gap≥1 j k jN kN)
+  one-at-least j k j_n k_n = more 1 (p.gap j k) (p.gap≥1 j k j_n k_n)
 
   -- of every state in range
   pub record Near (s : View) : Type 0 where
@@ -83,7 +83,7 @@ module _ (p : Params) where
         now = crash-now p s s' i t k e
 
         old : (j : ℕ) → Live s j → (s.node j).emitter ≢ j → LeavesBy t j (s.node j)
-        old j l ne = omega (arith, near.watch j l ne, now, one-at-least j _ (i.base.inN j ne).0 (i.base.inN j ne).1)
+        old j l ne = omega (arith, near.watch j l ne, now, one-at-least j _ (i.base.in_n j ne).0 (i.base.in_n j ne).1)
 
         on-its-way : (m : InFlight) → (m.from < p.N) × (m.to < p.N) × (m.due ≤ s.last + p.D) → ArrivesBy t m
         on-its-way m (f, to, d) = omega (arith, now, one-at-least m.from m.to f to)
@@ -142,14 +142,14 @@ module _ (p : Params) where
               → LeavesBy c j (s'.node j)
           by j l ne d (inl q) = rw (u.emitter j, q) (w.watch j l ne d)
           by j l ne d (inr (q, sent)) =
-              let ring = i.base.inN j ne in
+              let ring = i.base.in_n j ne in
               rw (u.emitter j, q) (omega (arith, sent (i.base.dead _ d).0, w.dead _ d, p.W≥, one-at-least j _ ring.0 ring.1))
 
       -- an emitter that is left has crashed, and the watch on it was not due yet
       left_by : (t x : ℕ) (gone : List InFlight) (list' : ℕ → Bool) (y : ℕ) → Leaves p s t x gone list' y
           → t ≤ c + waits (p.gap x (s.node x).emitter)
       left_by t x gone list' y e =
-          let on : (s.node x).watchOn ≡ true = ((i.timers x e.live).on e.apart).0 in
+          let on : (s.node x).watch_on ≡ true = ((i.timers x e.live).on e.apart).0 in
           omega (arith, e.least.watch≥ x e.live on, w.watch x e.live e.apart (leaves-late p s s' i t x gone list' y e).dead)
 
       moves-since : (t x : ℕ) (gone : List InFlight) (list' mark' : ℕ → Bool) (y : ℕ) (o : InFlight) (out : List InFlight)
@@ -242,10 +242,10 @@ module _ (p : Params) where
       where
         go : Dec (em j ≡ j) → (b : Bool) → (s.node (em j)).alive ≡ b → Up p s (em j)
         go (yes q) b e = rw q uj
-        go (no n) true e = ((i.base.inN j n).1, e)
+        go (no n) true e = ((i.base.in_n j n).1, e)
         go (no n) false e = absurd (omega (arith, ps.watch j uj.1 on, w.watch j uj.1 n e, more _ f few, late))
           where
-            on : (s.node j).watchOn ≡ true
+            on : (s.node j).watch_on ≡ true
             on = ((i.timers j uj.1).on n).0
 
             dead : (k : ℕ) → Dec (p.gap j k < p.gap j (em j)) → p.gap j k ≤ p.gap j (em j) → Dead s k
@@ -253,27 +253,27 @@ module _ (p : Params) where
             dead k (no l) h = rw (p.gap-inj j k (em j) uj.0 (omega arith)) e
 
             few : p.gap j (em j) ≤ f
-            few = row j (p.gap j (em j)) uj.0 (p.gap≤N j (em j) uj.0 (i.base.inN j n).1) (λ k. dead k (dec_lt (p.gap j k) (p.gap j (em j))))
+            few = row j (p.gap j (em j)) uj.0 (p.gap≤N j (em j) uj.0 (i.base.in_n j n).1) (λ k. dead k (dec_lt (p.gap j k) (p.gap j (em j))))
 
     -- a survivor that is observed by a survivor knows it: the O has arrived
     pub observer-known : (y j : ℕ) → Up p s y → Live s j → em y ≡ j → (s.node j).observer ≡ y
     observer-known y j uy lj e = go (ℕ_discrete j y)
       where
         by : j ≢ y → Covered p s.flight y j (s.node y).watch (s.node j) → (s.node j).observer ≡ y
-        by n (byHeartbeat m h k f t d) = rw (f, t) at (i.answered m h k (rw f lj) (rw t uy.1) (rw (t, f) e) (λ x. n (sym f ∙ x ∙ t)))
-        by n (byTimer a o d) = o
-        by n (byObserver a m h k fr to d) = absurd (omega (arith, ps.flight m h, rw (fr, to) at (w.observer m h k), more (p.gap y j) (f + 1) few, late))
+        by n (by_heartbeat m h k f t d) = rw (f, t) at (i.answered m h k (rw f lj) (rw t uy.1) (rw (t, f) e) (λ x. n (sym f ∙ x ∙ t)))
+        by n (by_timer a o d) = o
+        by n (by_observer a m h k fr to d) = absurd (omega (arith, ps.flight m h, rw (fr, to) at (w.observer m h k), more (p.gap y j) (f + 1) few, late))
           where
-            jN : j < p.N
-            jN = rw e at (i.base.inN y (λ q. n (sym e ∙ q))).1
+            j_n : j < p.N
+            j_n = rw e at (i.base.in_n y (λ q. n (sym e ∙ q))).1
 
             one : 1 ≤ p.gap y j
-            one = p.gap≥1 y j uy.0 jN
+            one = p.gap≥1 y j uy.0 j_n
 
             -- all that are nearer than j have crashed
             few : p.gap y j ≤ f + 1
-            few = omega (arith, row y (p.gap y j - 1) uy.0 (omega (arith, p.gap≤N y j uy.0 jN)) (λ k h. nearer y k (rw e (omega (arith, one)))))
-        by n (byCrash d x) = absurd (live-not-dead lj d)
+            few = omega (arith, row y (p.gap y j - 1) uy.0 (omega (arith, p.gap≤N y j uy.0 j_n)) (λ k h. nearer y k (rw e (omega (arith, one)))))
+        by n (by_crash d x) = absurd (live-not-dead lj d)
 
         go : Dec (j ≡ y) → (s.node j).observer ≡ y
         go (yes q) = (i.timers j lj).lone (rw (sym q) at e) ∙ q
@@ -284,10 +284,10 @@ module _ (p : Params) where
     joined j uj = joined_in p s i j (emitter-up j uj) (rw ob uy) (rw ob ey)
       where
         -- going back from emitter to emitter leads to every survivor, so j is observed by one
-        hop : (d : ℕ) × (d < p.cnt (crashedIn s)) × (iter em d (em j) ≡ j)
+        hop : (d : ℕ) × (d < p.cnt (crashed_in s)) × (iter em d (em j) ≡ j)
         hop =
             let ue = emitter-up j uj in
-            p.hops (crashedIn s) em (first p s i.base emitter-up) (em j) j ue.0 (ap not ue.1) uj.0 (ap not uj.1)
+            p.hops (crashed_in s) em (first p s i.base emitter-up) (em j) j ue.0 (ap not ue.1) uj.0 (ap not uj.1)
 
         y : ℕ
         y = iter em hop.0 j

@@ -8,7 +8,7 @@ use Prim.Native.Nat.{ℕ, ◌≤◌}
 use native.Mathlib.Omega.{arith}
 use native.Mathlib.Decide.{ℕ_discrete}
 use Rattle.model.proofs.Events.{Seen, View, Live, Params, Crash}
-use Rattle.model.proofs.Invariant.{Inv, Covered, byHeartbeat, byTimer, byObserver, byCrash}
+use Rattle.model.proofs.Invariant.{Inv, Covered, by_heartbeat, by_timer, by_observer, by_crash}
 use Rattle.model.proofs.EveryEvent.{live-not-dead, Alike, base'}
 use Rattle.model.proofs.OneState.{emitter-beats}
 use Rattle.model.proofs.OneNode.{each, alike, timers}
@@ -34,11 +34,11 @@ module _ (p : Params) (s s' : View) (i : Inv p s) where
     crash-turn : (j a w : ℕ) (n : Seen) → a ≡ k → Live s j → (s.node j).emitter ≡ a → a ≢ j → n.alive ≡ false
         → Covered p s.flight j a w (s.node a)
         → Covered p s'.flight j a w n
-    crash-turn j a w n q lj ej ne d (byHeartbeat m h k f t u) = byHeartbeat m (stays0 s'.flight m (e.frame.keep m h)) k f t u
-    crash-turn j a w n q lj ej ne d (byTimer la o u) =
-        byCrash d (omega (arith, ap p.c q, e.at, e.least.heartbeat≥ a la (emitter-beats p s i j a lj ej ne la)))
-    crash-turn j a w n q lj ej ne d (byObserver la m h k f t u) = byCrash d (omega (arith, ap p.c q, e.at, e.least.message≥ m h))
-    crash-turn j a w n q lj ej ne d (byCrash o u) = byCrash d u
+    crash-turn j a w n q lj ej ne d (by_heartbeat m h k f t u) = by_heartbeat m (stays0 s'.flight m (e.frame.keep m h)) k f t u
+    crash-turn j a w n q lj ej ne d (by_timer la o u) =
+        by_crash d (omega (arith, ap p.c q, e.at, e.least.heartbeat≥ a la (emitter-beats p s i j a lj ej ne la)))
+    crash-turn j a w n q lj ej ne d (by_observer la m h k f t u) = by_crash d (omega (arith, ap p.c q, e.at, e.least.message≥ m h))
+    crash-turn j a w n q lj ej ne d (by_crash o u) = by_crash d u
 
     crash-covered : (j a : ℕ) → Live s' j → (s'.node j).emitter ≡ a → a ≢ j → Covered p s'.flight j a (s'.node j).watch (s'.node a)
     crash-covered j a lj ej ne = rw (ew j) (go (ℕ_discrete a k))

@@ -36,11 +36,11 @@ module _ (p : Params) (s s' : View) (i : Inv p s) where
     z-dead : Dead s' z
     z-dead = rw e.frame.here
 
-    zN : z < p.N
-    zN = p.planned-N z e.plan
+    z_n : z < p.N
+    z_n = p.planned-N z e.plan
 
     upz : Up p s z
-    upz = (zN, e.live)
+    upz = (z_n, e.live)
 
     up' : (j : ℕ) → Up p s' j → Up p s j
     up' j u = (u.0, (crash-alike p s s' i t z e).alive j u.1)
@@ -59,7 +59,7 @@ module _ (p : Params) (s s' : View) (i : Inv p s) where
 
     -- z was the last
     gone : (s.node z).emitter ≡ z → (j : ℕ) → Up p s' j → ⊥
-    gone q j u = not-alone p s i.base j z (up' j u).1 (λ r. not-z j u.1 (sym r)) u.0 zN q
+    gone q j u = not-alone p s i.base j z (up' j u).1 (λ r. not-z j u.1 (sym r)) u.0 z_n q
 
     last : (s.node z).observer ≡ z → Calm p s'
     last q =
@@ -80,7 +80,7 @@ module _ (p : Params) (s s' : View) (i : Inv p s) where
         record {
           up = up q uq n;
           dead = z-dead;
-          zN = zN;
+          z_n = z_n;
           at = e.at;
           of = em-same q ∙ eq;
           lists = λ j k u d nk. rw (list_same j) (c.lists j k (up' j u) (dead' k d nk));

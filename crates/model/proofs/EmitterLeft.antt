@@ -10,8 +10,8 @@ use native.Mathlib.Omega.{arith}
 use native.Mathlib.Decide.{ℕ_discrete, dec_lt}
 use Rattle.node.specs.Node.{H, R}
 use Rattle.model.specs.Platform.{InFlight}
-use Rattle.model.proofs.Events.{View, Live, Lists, ◌∈◌, Params, Cause, byExpiry, byReport, Leaves, Moves, Alone, moving, left}
-use Rattle.model.proofs.Invariant.{Tied, Inv, Answered, Covered, byHeartbeat, byTimer, byObserver, byCrash}
+use Rattle.model.proofs.Events.{View, Live, Lists, ◌∈◌, Params, Cause, by_expiry, by_report, Leaves, Moves, Alone, moving, left}
+use Rattle.model.proofs.Invariant.{Tied, Inv, Answered, Covered, by_heartbeat, by_timer, by_observer, by_crash}
 use Rattle.model.proofs.EveryEvent.{live-not-dead, NewMessage, GoneBy, Alike, base'}
 use Rattle.model.proofs.OneState.{live-unlisted, emitter-beats}
 use Rattle.model.proofs.OneNode.{OnEach, each, alike, timers, adds-lists}
@@ -26,8 +26,8 @@ module _ (p : Params) (s s' : View) (i : Inv p s) where
     leaves-now = go gone e.cause
       where
         go : (gone : List InFlight) → Cause p s t x gone → s.last ≤ t
-        go _ (byExpiry on due none) = omega (arith, (i.timers x e.live).watch≥ on)
-        go _ (byReport m h to k about due) = omega (arith, i.base.m-due m h)
+        go _ (by_expiry on due none) = omega (arith, (i.timers x e.live).watch≥ on)
+        go _ (by_report m h to k about due) = omega (arith, i.base.m-due m h)
 
     -- the point of the whole: an emitter that is left crashed D ticks ago or earlier
     pub leaves-late : GoneBy p s t em
@@ -35,15 +35,15 @@ module _ (p : Params) (s s' : View) (i : Inv p s) where
       where
         silent : (s.node x).watch ≡ t → ((m : InFlight) → m ∈ s.flight → t < m.due)
             → Covered p s.flight x em (s.node x).watch (s.node em) → GoneBy p s t em
-        silent due none (byHeartbeat m h k f to u) = absurd (omega (arith, none m h))
-        silent due none (byTimer la o u) =
+        silent due none (by_heartbeat m h k f to u) = absurd (omega (arith, none m h))
+        silent due none (by_timer la o u) =
             absurd (omega (arith, p.D≥1, e.least.heartbeat≥ em la (emitter-beats p s i x _ e.live refl e.apart la)))
-        silent due none (byObserver la m h k f to u) = absurd (omega (arith, none m h))
-        silent due none (byCrash d u) = record { dead = d; long = omega arith }
+        silent due none (by_observer la m h k f to u) = absurd (omega (arith, none m h))
+        silent due none (by_crash d u) = record { dead = d; long = omega arith }
 
         go : (gone : List InFlight) → Cause p s t x gone → GoneBy p s t em
-        go _ (byExpiry on due none) = silent due none (i.covered x em e.live refl e.apart)
-        go _ (byReport m h to k about due) =
+        go _ (by_expiry on due none) = silent due none (i.covered x em e.live refl e.apart)
+        go _ (by_report m h to k about due) =
             let g = rw about at (i.base.reported m h k) in
             record { dead = g.dead; long = omega (arith, g.long, leaves-now) }
 
@@ -67,11 +67,11 @@ module _ (p : Params) (s s' : View) (i : Inv p s) where
         go : Dec (p.gap x k < p.gap x em) → Dec (p.gap x em < p.gap x k) → list' k ≡ true
         go (yes u) d = e.adds.kept k (i.base.between x k u)
         go (no n) (yes u) = e.back.passed k u h
-        go (no n) (no m) = rw (p.gap-inj x k em (i.base.inN x e.apart).0 (omega arith)) e.adds.is
+        go (no n) (no m) = rw (p.gap-inj x k em (i.base.in_n x e.apart).0 (omega arith)) e.adds.is
 
     -- nothing that a listed node sent is in flight any more; so the sender of a report is not listed, and a report leaves no node alone
     pub report-not-alone : (m : InFlight) → m ∈ s.flight → m.to ≡ x → m.kind ≡ R → m.due ≡ t → y ≢ x
-    report-not-alone m h to k due alone = go (p.gap-cyc m.from x x (i.base.m-N m h k).0 (i.base.inN x e.apart).0 other)
+    report-not-alone m h to k due alone = go (p.gap-cyc m.from x x (i.base.m-N m h k).0 (i.base.in_n x e.apart).0 other)
       where
         other : m.from ≢ x
         other q = i.base.m-self m h (q ∙ sym to)
@@ -91,8 +91,8 @@ module _ (p : Params) (s s' : View) (i : Inv p s) where
     leaves-keeps m nr = go gone e.cause
       where
         go : (gone : List InFlight) → Cause p s t x gone → (m ∈ gone) ⊎ (m ∈ s'.flight) → m ∈ s'.flight
-        go _ (byExpiry on due none) h = stays0 s'.flight m h
-        go _ (byReport g h to k about due) r = stays s'.flight g m r (λ q. nr (ap (λ v. v.kind) q ∙ k))
+        go _ (by_expiry on due none) h = stays0 s'.flight m h
+        go _ (by_report g h to k about due) r = stays s'.flight g m r (λ q. nr (ap (λ v. v.kind) q ∙ k))
 
   module _ (t x : ℕ) (gone : List InFlight) (list' mark' : ℕ → Bool) (y : ℕ) (o : InFlight) (out : List InFlight)
       (e : Moves p s s' t x gone list' mark' y o out) where
@@ -124,7 +124,7 @@ module _ (p : Params) (s s' : View) (i : Inv p s) where
       heartbeat = λ k. absurd (omega (arith, e.rs.kinds m h));
       observer = λ k. absurd (omega (arith, e.rs.kinds m h));
       report = λ k. rw (e.rs.subject m h) (leaves-late t x gone list' y e.leaves);
-      N = λ k. (rw (e.rs.each m h).by (i.base.inN x e.leaves.apart).0, (e.rs.each m h).inN);
+      N = λ k. (rw (e.rs.each m h).by (i.base.in_n x e.leaves.apart).0, (e.rs.each m h).in_n);
       carried = λ q. absurd (omega (arith, e.rs.kinds m h));
     }
 
@@ -136,7 +136,7 @@ module _ (p : Params) (s s' : View) (i : Inv p s) where
       list' = leaves-list' t x gone list' y e.leaves;
       mark = adds-lists p _ _ _ _ _ e.leaves.adds e.marks;
       emitter = inr record {
-        inN = rw e.frame.here ((i.base.inN x e.leaves.apart).0, e.leaves.back.inN);
+        in_n = rw e.frame.here ((i.base.in_n x e.leaves.apart).0, e.leaves.back.in_n);
         left = rw e.frame.here e.leaves.adds.is;
         between = rw e.frame.here (leaves-between t x gone list' y e.leaves);
       };
@@ -149,8 +149,8 @@ module _ (p : Params) (s s' : View) (i : Inv p s) where
 
     -- the new emitter, live or not
     moves-here : (b : Bool) → (s.node y).alive ≡ b → Covered p s'.flight x y (moving p (s.node x) list' mark' y t).watch (s.node y)
-    moves-here true la = byObserver la o (e.frame.add o (Memᴰ.head refl)) e.o-kind e.o-by e.o-to (omega (arith, e.o-within, p.W≥))
-    moves-here false da = byCrash da (omega (arith, (i.base.dead y da).1, moves-now, p.W≥))
+    moves-here true la = by_observer la o (e.frame.add o (Memᴰ.head refl)) e.o-kind e.o-by e.o-to (omega (arith, e.o-within, p.W≥))
+    moves-here false da = by_crash da (omega (arith, (i.base.dead y da).1, moves-now, p.W≥))
 
     moves-covered : (j a : ℕ) → Live s' j → (s'.node j).emitter ≡ a → a ≢ j → Covered p s'.flight j a (s'.node j).watch (s'.node a)
     moves-covered j a lj ej ne = go (ℕ_discrete j x)
@@ -213,7 +213,7 @@ module _ (p : Params) (s s' : View) (i : Inv p s) where
     alone-now = leaves-now t x [] list' x e.leaves
 
     pub alone-N : x < p.N
-    alone-N = (i.base.inN x e.leaves.apart).0
+    alone-N = (i.base.in_n x e.leaves.apart).0
 
     pub alone-alike : Alike p s s' t
     alone-alike = alike p s s' t x _ [] [] e.frame e.leaves.least (omega arith) (omega arith) alone-now record {
@@ -223,7 +223,7 @@ module _ (p : Params) (s s' : View) (i : Inv p s) where
       list' = leaves-list' t x [] list' x e.leaves;
       mark = adds-lists p _ _ _ _ _ e.leaves.adds e.marks;
       emitter = inr record {
-        inN = rw e.frame.here (alone-N, alone-N);
+        in_n = rw e.frame.here (alone-N, alone-N);
         left = rw e.frame.here e.leaves.adds.is;
         between = rw e.frame.here (leaves-between t x [] list' x e.leaves);
       };
@@ -233,7 +233,7 @@ module _ (p : Params) (s s' : View) (i : Inv p s) where
 
     -- the alone node lists every other, so no live node observes it
     pub alone-only : (j : ℕ) → Live s j → (s.node j).emitter ≡ x → j ≢ x → ⊥
-    alone-only j lj ej ne = go (p.gap-cyc j x x (i.base.inN j (λ q. ne (sym q ∙ ej))).0 alone-N ne)
+    alone-only j lj ej ne = go (p.gap-cyc j x x (i.base.in_n j (λ q. ne (sym q ∙ ej))).0 alone-N ne)
       where
         go : (p.gap x j < p.gap x x) ⊎ (p.gap j x < p.gap j x) → ⊥
         go (inl h) = leaves-dead t x [] list' x e.leaves j (leaves-between t x [] list' x e.leaves j h) lj

@@ -17,9 +17,9 @@ pub record Seen : Type 0 where
   pub alive : Bool
   pub emitter : ℕ
   pub observer : ℕ
-  pub watchOn : Bool
+  pub watch_on : Bool
   pub watch : ℕ
-  pub heartbeatOn : Bool
+  pub heartbeat_on : Bool
   pub heartbeat : ℕ
   pub list : ℕ → Bool
   pub mark : ℕ → Bool
@@ -93,8 +93,8 @@ module _ (p : Params) where
   -- messages in flight are due at msg or later, live nodes' timers at t or later, crashes to come at crash or later
   pub record Least (s : View) (t msg crash : ℕ) : Type 0 where
     pub message≥ : (m : InFlight) → m ∈ s.flight → msg ≤ m.due
-    pub watch≥ : (j : ℕ) → Live s j → (s.node j).watchOn ≡ true → t ≤ (s.node j).watch
-    pub heartbeat≥ : (j : ℕ) → Live s j → (s.node j).heartbeatOn ≡ true → t ≤ (s.node j).heartbeat
+    pub watch≥ : (j : ℕ) → Live s j → (s.node j).watch_on ≡ true → t ≤ (s.node j).watch
+    pub heartbeat≥ : (j : ℕ) → Live s j → (s.node j).heartbeat_on ≡ true → t ≤ (s.node j).heartbeat
     pub crash≥ : (k : ℕ) → Live s k → p.planned k ≡ true → crash ≤ p.c k
 
   -- nothing is left before a crash, a message or a timer at t: crashes come first in their tick, then messages, then timers
@@ -124,7 +124,7 @@ module _ (p : Params) where
     pub after : t < m.due
     pub within : m.due ≤ t + p.D
     pub self : m.to ≢ x
-    pub inN : m.to < p.N
+    pub in_n : m.to < p.N
 
   -- R of k, sent by x at t to all its forward targets
   pub record Reports (x t k : ℕ) (list' : ℕ → Bool) (l : List InFlight) : Type 0 where
@@ -135,7 +135,7 @@ module _ (p : Params) where
 
   -- e is the first unlisted node going back from i, seen from x
   pub record Back (x i e : ℕ) (list : ℕ → Bool) : Type 0 where
-    pub inN : e < p.N
+    pub in_n : e < p.N
     pub unlisted : list e ≡ false
     pub past : p.gap x i < p.gap x e
     pub passed : (k : ℕ) → p.gap x i < p.gap x k → p.gap x k < p.gap x e → list k ≡ true
@@ -154,9 +154,9 @@ module _ (p : Params) where
         alive = false;
         emitter = n.emitter;
         observer = n.observer;
-        watchOn = n.watchOn;
+        watch_on = n.watch_on;
         watch = n.watch;
-        heartbeatOn = n.heartbeatOn;
+        heartbeat_on = n.heartbeat_on;
         heartbeat = n.heartbeat;
         list = n.list;
         mark = n.mark;
@@ -169,9 +169,9 @@ module _ (p : Params) where
         alive = true;
         emitter = n.emitter;
         observer = n.observer;
-        watchOn = true;
+        watch_on = true;
         watch = t + p.W;
-        heartbeatOn = n.heartbeatOn;
+        heartbeat_on = n.heartbeat_on;
         heartbeat = n.heartbeat;
         list = l;
         mark = n.mark;
@@ -184,9 +184,9 @@ module _ (p : Params) where
         alive = true;
         emitter = n.emitter;
         observer = a;
-        watchOn = n.watchOn;
+        watch_on = n.watch_on;
         watch = n.watch;
-        heartbeatOn = true;
+        heartbeat_on = true;
         heartbeat = t;
         list = n.list;
         mark = n.mark;
@@ -199,9 +199,9 @@ module _ (p : Params) where
         alive = true;
         emitter = n.emitter;
         observer = n.observer;
-        watchOn = n.watchOn;
+        watch_on = n.watch_on;
         watch = n.watch;
-        heartbeatOn = n.heartbeatOn;
+        heartbeat_on = n.heartbeat_on;
         heartbeat = n.heartbeat;
         list = l;
         mark = k;
@@ -214,9 +214,9 @@ module _ (p : Params) where
         alive = true;
         emitter = e;
         observer = n.observer;
-        watchOn = true;
+        watch_on = true;
         watch = t + 2 * p.W;
-        heartbeatOn = n.heartbeatOn;
+        heartbeat_on = n.heartbeat_on;
         heartbeat = n.heartbeat;
         list = l;
         mark = k;
@@ -224,7 +224,7 @@ module _ (p : Params) where
 
   -- alone
   abbrev pub left : ℕ → (ℕ → Bool) → (ℕ → Bool) → Seen
-  left x l k = record { alive = true; emitter = x; observer = x; watchOn = false; watch = 0; heartbeatOn = false; heartbeat = 0; list = l; mark = k }
+  left x l k = record { alive = true; emitter = x; observer = x; watch_on = false; watch = 0; heartbeat_on = false; heartbeat = 0; list = l; mark = k }
 
   -- its heartbeat was sent at t
   abbrev pub sending : Seen → ℕ → Seen
@@ -233,9 +233,9 @@ module _ (p : Params) where
         alive = true;
         emitter = n.emitter;
         observer = n.observer;
-        watchOn = n.watchOn;
+        watch_on = n.watch_on;
         watch = n.watch;
-        heartbeatOn = true;
+        heartbeat_on = true;
         heartbeat = t + p.H;
         list = n.list;
         mark = n.mark;
@@ -303,8 +303,8 @@ module _ (p : Params) where
 
   -- why x leaves its emitter at t, and the message that is delivered by it: the watch is due, and no message is; or a report of the emitter
   pub data Cause (s : View) (t x : ℕ) : List InFlight → Type 0 where
-    byExpiry : (s.node x).watchOn ≡ true → (s.node x).watch ≡ t → ((m : InFlight) → m ∈ s.flight → t < m.due) → Cause s t x []
-    byReport : (m : InFlight) → m ∈ s.flight → m.to ≡ x → m.kind ≡ R → m.subject ≡ (s.node x).emitter → m.due ≡ t
+    by_expiry : (s.node x).watch_on ≡ true → (s.node x).watch ≡ t → ((m : InFlight) → m ∈ s.flight → t < m.due) → Cause s t x []
+    by_report : (m : InFlight) → m ∈ s.flight → m.to ≡ x → m.kind ≡ R → m.subject ≡ (s.node x).emitter → m.due ≡ t
         → Cause s t x (m ∷ [])
 
   -- x leaves its emitter at t, and e is the next
@@ -338,7 +338,7 @@ module _ (p : Params) where
   -- the heartbeat of x is due at t: it sends m
   pub record Sends (s s' : View) (t x : ℕ) (m : InFlight) : Type 0 where
     pub live : Live s x
-    pub on : (s.node x).heartbeatOn ≡ true
+    pub on : (s.node x).heartbeat_on ≡ true
     pub due : (s.node x).heartbeat ≡ t
     pub by : m.from ≡ x
     pub after : t < m.due

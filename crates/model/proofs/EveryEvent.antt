@@ -18,7 +18,7 @@ live-not-dead a d = true≢false (sym a ∙ d)
 
 module _ (p : Params) where
   pub record Moved (s s' : View) (j : ℕ) : Type 0 where
-    pub inN : (j < p.N) × ((s'.node j).emitter < p.N)
+    pub in_n : (j < p.N) × ((s'.node j).emitter < p.N)
     pub left : Lists s' j (s.node j).emitter
     pub between : (k : ℕ) → p.gap j k < p.gap j (s'.node j).emitter → Lists s' j k
 
@@ -69,12 +69,12 @@ module _ (p : Params) where
         go (inr mv) = inr (rw e at mv.left)
 
     module _ (i : Base p s) where
-      inN : (j : ℕ) → (s'.node j).emitter ≢ j → (j < p.N) × ((s'.node j).emitter < p.N)
-      inN j ne = go (f.emitter j)
+      in_n : (j : ℕ) → (s'.node j).emitter ≢ j → (j < p.N) × ((s'.node j).emitter < p.N)
+      in_n j ne = go (f.emitter j)
         where
           go : ((s'.node j).emitter ≡ (s.node j).emitter) ⊎ Moved s s' j → (j < p.N) × ((s'.node j).emitter < p.N)
-          go (inl same) = rw same (i.inN j (λ e. ne (same ∙ e)))
-          go (inr mv) = mv.inN
+          go (inl same) = rw same (i.in_n j (λ e. ne (same ∙ e)))
+          go (inr mv) = mv.in_n
 
       dead : (k : ℕ) → Dead s' k → (p.planned k ≡ true) × (p.c k ≤ s'.last)
       dead k d = go (f.died k d)
@@ -154,7 +154,7 @@ module _ (p : Params) where
 
       pub base' : Base p s'
       base' = record {
-        inN = inN;
+        in_n = in_n;
         dead = dead;
         between = between;
         listed = listed;

@@ -12,12 +12,12 @@ use borrow.Author.Tests.{leb-false}
 use lib.Dec.{leb}
 use lib.ListN.{length, get_or, take, drop, length-take}
 use Rattle.node.specs.Node.{alone}
-use Rattle.model.specs.Platform.{State, Entry, entry, watch, heartbeat, did, refused, alive, messageEntries, timerEntry, timerEntries}
+use Rattle.model.specs.Platform.{State, Entry, entry, watch, heartbeat, did, refused, alive, message_entries, timer_entry, timer_entries}
 use Rattle.plans.specs.Plan.{Plan}
-use Rattle.model.specs.Platform.{earlier, first, up_to, nextEvent, node_of, apply, fits, tried, try, left, start, steps, after}
+use Rattle.model.specs.Platform.{earlier, first, up_to, next_event, node_of, apply, fits, tried, try, left, start, steps, after}
 use Rattle.plans.specs.Plain.{Plain}
 use Rattle.model.specs.Range.{Sound}
-use Rattle.model.proofs.NextEvent.{FirstOf, first_of, soon, next-soon, nextCrash, crash-in, msg-in, Ticks, timer-in, Chosen, Best, best}
+use Rattle.model.proofs.NextEvent.{FirstOf, first_of, soon, next-soon, next_crash, crash-in, msg-in, Ticks, timer-in, Chosen, Best, best}
 use Rattle.model.proofs.RangesKept.{not-early}
 use Rattle.model.proofs.Calls.{steps-add}
 use Rattle.model.proofs.Search.{timer-split}
@@ -25,7 +25,7 @@ use Rattle.model.proofs.Search.{timer-split}
 -- ---- an event that is done
 
 pub record Happened (p : Plan) (pl : Plain p) (s : State) (e : Entry) (s' : State) : Type 0 where
-  pub next : nextEvent p s ≡ some e
+  pub next : next_event p s ≡ some e
   pub chosen : Chosen p pl s e.tick e.event
   pub late : s.last ≤ e.tick
   pub end : e.tick ≤ p.end
@@ -33,9 +33,9 @@ pub record Happened (p : Plan) (pl : Plain p) (s : State) (e : Entry) (s' : Stat
 
 pub did-happened : (p : Plan) (pl : Plain p) (s : State) → Sound p s → (e : Entry) (s' : State) → try p s ≡ did e s' → Happened p pl s e s'
 unfolding try tried Best
-did-happened p pl s r e s' h = go (nextEvent p s) refl (best p pl s) h
+did-happened p pl s r e s' h = go (next_event p s) refl (best p pl s) h
   where
-    go : (o : Option Entry) → nextEvent p s ≡ o → Best p pl s o → tried p s o ≡ did e s' → Happened p pl s e s'
+    go : (o : Option Entry) → next_event p s ≡ o → Best p pl s o → tried p s o ≡ did e s' → Happened p pl s e s'
     go none n b q = let z : ◌≡◌ {A = ℕ} 0 1 = cc in absurd (omega arith)
     go (some f) n b q = at (fits (apply p s f.tick f.event)) q
       where
@@ -76,28 +76,28 @@ module _ (p : Plan) (pl : Plain p) (s : State) (t x : ℕ) (h : x < length s.nod
   beat = entry t (heartbeat x)
 
   abbrev Others : List Entry
-  Others = nextCrash (drop s.done p.crashes) ++ messageEntries 0 s.flight
+  Others = next_crash (drop s.done p.crashes) ++ message_entries 0 s.flight
 
   abbrev Before : List Entry
-  Before = timerEntries p s.done 0 (take x s.nodes)
+  Before = timer_entries p s.done 0 (take x s.nodes)
 
   abbrev Rest : List Entry
-  Rest = timerEntry (node_of s x).heartbeat (heartbeat x) ++ timerEntries p s.done (suc x) (drop (suc x) s.nodes)
+  Rest = timer_entry (node_of s x).heartbeat (heartbeat x) ++ timer_entries p s.done (suc x) (drop (suc x) s.nodes)
 
   abbrev Mine : List Entry
-  Mine = timerEntry (suc t) (watch x) ++ timerEntry (node_of s x).heartbeat (heartbeat x)
+  Mine = timer_entry (suc t) (watch x) ++ timer_entry (node_of s x).heartbeat (heartbeat x)
 
   watch-there : (node_of s x).watch ≡ suc t → soon p s ≡ (Others ++ Before) ++ (entry t (watch x) ∷ Rest)
-  unfolding soon timerEntry
-  watch-there q = ap (λ (c : List Entry). nextCrash (drop s.done p.crashes) ++ (messageEntries 0 s.flight ++ c)) mine ∙ simp append_assoc
+  unfolding soon timer_entry
+  watch-there q = ap (λ (c : List Entry). next_crash (drop s.done p.crashes) ++ (message_entries 0 s.flight ++ c)) mine ∙ simp append_assoc
     where
-      mine : timerEntries p s.done 0 s.nodes ≡ Before ++ (Mine ++ timerEntries p s.done (suc x) (drop (suc x) s.nodes))
+      mine : timer_entries p s.done 0 s.nodes ≡ Before ++ (Mine ++ timer_entries p s.done (suc x) (drop (suc x) s.nodes))
       mine = rw (zero-add x, l, q) at (timer-split p s.done (alone x 0 0) s.nodes 0 x h)
 
   not-among : Memᴰ beat (Others ++ Before) → ⊥
   not-among m = three (Memᴰ.append_cases Others m)
     where
-      two : Memᴰ beat (nextCrash (drop s.done p.crashes)) ⊎ Memᴰ beat (messageEntries 0 s.flight) → ⊥
+      two : Memᴰ beat (next_crash (drop s.done p.crashes)) ⊎ Memᴰ beat (message_entries 0 s.flight) → ⊥
       two (inl m) = let r = crash-in p pl s beat m in let z : ◌≡◌ {A = ℕ} 0 1 = cc (ap (λ (a : Entry). a.event) r.1) in omega arith
       two (inr m) = let r = msg-in s.flight 0 beat m in let z : ◌≡◌ {A = ℕ} 0 1 = cc (ap (λ (a : Entry). a.event) r.2) in omega arith
 
@@ -108,11 +108,11 @@ module _ (p : Plan) (pl : Plain p) (s : State) (t x : ℕ) (h : x < length s.nod
       timer r (inr q) = let z : x ≡ 0 + r.i = cc q.0 in omega (arith, r.less, length-take x s.nodes)
 
       three : Memᴰ beat Others ⊎ Memᴰ beat Before → ⊥
-      three (inl m) = two (Memᴰ.append_cases (nextCrash (drop s.done p.crashes)) m)
+      three (inl m) = two (Memᴰ.append_cases (next_crash (drop s.done p.crashes)) m)
       three (inr m) = let r = timer-in p s.done (take x s.nodes) 0 beat m in timer r (r.which (alone 0 0 0))
 
   -- where a node's heartbeat is the next event, its watch is not due at that tick
-  pub watch-first : nextEvent p s ≡ some (entry t (heartbeat x)) → (node_of s x).watch ≢ suc t
+  pub watch-first : next_event p s ≡ some (entry t (heartbeat x)) → (node_of s x).watch ≢ suc t
   unfolding up_to
   watch-first n q = go (first (soon p s)) refl (sym (next-soon p pl s) ∙ n)
     where

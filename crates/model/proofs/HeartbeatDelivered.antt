@@ -10,7 +10,7 @@ use native.Mathlib.Decide.{ℕ_discrete}
 use Rattle.node.specs.Node.{H, O}
 use Rattle.model.specs.Platform.{InFlight}
 use Rattle.model.proofs.Events.{Seen, View, Live, Lists, Carries, Params, Beat, beaten}
-use Rattle.model.proofs.Invariant.{Inv, Gone, Covered, byTimer, byCrash}
+use Rattle.model.proofs.Invariant.{Inv, Gone, Covered, by_timer, by_crash}
 use Rattle.model.proofs.EveryEvent.{GoneBy, Alike, base'}
 use Rattle.model.proofs.OneState.{emitter-beats}
 use Rattle.model.proofs.OneNode.{OnEach, each, alike, timers}
@@ -53,9 +53,9 @@ module _ (p : Params) (s s' : View) (i : Inv p s) where
     beat-here : (j a : ℕ) → j ≡ m.to → a ≡ m.from → a ≢ j → Live s j → (s.node j).emitter ≡ a → (b : Bool)
         → (s.node a).alive ≡ b
         → Covered p s'.flight j a (m.due + p.W) (s.node a)
-    beat-here j a q r ne lj ej true la = byTimer la (rw (q, r) (i.answered m e.has e.kind (rw r at la) e.live e.of (rw (q, r) at ne)))
+    beat-here j a q r ne lj ej true la = by_timer la (rw (q, r) (i.answered m e.has e.kind (rw r at la) e.live e.of (rw (q, r) at ne)))
         (omega (arith, (i.timers a la).heartbeat≤ (emitter-beats p s i j a lj ej ne la), beat-now, p.W≥))
-    beat-here j a q r ne lj ej false da = byCrash da (omega (arith, (i.base.dead a da).1, beat-now, p.W≥))
+    beat-here j a q r ne lj ej false da = by_crash da (omega (arith, (i.base.dead a da).1, beat-now, p.W≥))
 
     beat-covered : (j a : ℕ) → Live s' j → (s'.node j).emitter ≡ a → a ≢ j → Covered p s'.flight j a (s'.node j).watch (s'.node a)
     beat-covered j a lj ej ne = go (ℕ_discrete j m.to)

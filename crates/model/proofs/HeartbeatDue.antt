@@ -10,7 +10,7 @@ use native.Mathlib.Decide.{ℕ_discrete}
 use Rattle.node.specs.Node.{H}
 use Rattle.model.specs.Platform.{InFlight}
 use Rattle.model.proofs.Events.{Seen, View, Live, ◌∈◌, Params, Sends, sending}
-use Rattle.model.proofs.Invariant.{Inv, Gone, Answered, Covered, byHeartbeat, byTimer, byObserver, byCrash}
+use Rattle.model.proofs.Invariant.{Inv, Gone, Answered, Covered, by_heartbeat, by_timer, by_observer, by_crash}
 use Rattle.model.proofs.EveryEvent.{live-not-dead, GoneBy, Alike, base'}
 use Rattle.model.proofs.OneNode.{OnEach, each, alike, timers}
 use Rattle.model.proofs.WatchKept.{stays0, covered-map, same-node}
@@ -58,12 +58,12 @@ module _ (p : Params) (s s' : View) (i : Inv p s) where
 
     -- the watcher of the node that sends
     sends-turn : (j a w : ℕ) (n : Seen) → a ≡ x → n.alive ≡ true → Covered p s.flight j a w (s.node a) → Covered p s'.flight j a w n
-    sends-turn j a w n q la (byHeartbeat g h k f t u) = byHeartbeat g (stays0 s'.flight g (e.frame.keep g h)) k f t u
-    sends-turn j a w n q la (byTimer al o u) =
-        byHeartbeat m (e.frame.add m (Memᴰ.head refl)) e.kind (e.by ∙ sym q) (e.to ∙ rw (sym q) o)
+    sends-turn j a w n q la (by_heartbeat g h k f t u) = by_heartbeat g (stays0 s'.flight g (e.frame.keep g h)) k f t u
+    sends-turn j a w n q la (by_timer al o u) =
+        by_heartbeat m (e.frame.add m (Memᴰ.head refl)) e.kind (e.by ∙ sym q) (e.to ∙ rw (sym q) o)
         (omega (arith, e.within, e.due, ap (λ y. (s.node y).heartbeat) q))
-    sends-turn j a w n q la (byObserver al g h k f t u) = byObserver la g (stays0 s'.flight g (e.frame.keep g h)) k f t u
-    sends-turn j a w n q la (byCrash d u) = absurd (live-not-dead (rw q e.live) d)
+    sends-turn j a w n q la (by_observer al g h k f t u) = by_observer la g (stays0 s'.flight g (e.frame.keep g h)) k f t u
+    sends-turn j a w n q la (by_crash d u) = absurd (live-not-dead (rw q e.live) d)
 
     sends-covered : (j a : ℕ) → Live s' j → (s'.node j).emitter ≡ a → a ≢ j → Covered p s'.flight j a (s'.node j).watch (s'.node a)
     sends-covered j a lj ej ne = rw (sends-w j) (go (ℕ_discrete a x))

@@ -27,16 +27,16 @@ module _ (p : Params) where
   -- why the watch of j, due at w, will not expire on its emitter i while i lives; n is i's state. A heartbeat of i is on its way; or i
   -- will send one in time; or it will, once it has the O of j that is on its way; or i has crashed, and long enough before w
   pub data Covered (l : List InFlight) (j i w : ℕ) (n : Seen) : Type 0 where
-    byHeartbeat : (m : InFlight) → m ∈ l → m.kind ≡ H → m.from ≡ i → m.to ≡ j → m.due ≤ w → Covered l j i w n
-    byTimer : n.alive ≡ true → n.observer ≡ j → n.heartbeat + p.D ≤ w → Covered l j i w n
-    byObserver : n.alive ≡ true → (m : InFlight) → m ∈ l → m.kind ≡ O → m.from ≡ j → m.to ≡ i → m.due + p.D ≤ w
+    by_heartbeat : (m : InFlight) → m ∈ l → m.kind ≡ H → m.from ≡ i → m.to ≡ j → m.due ≤ w → Covered l j i w n
+    by_timer : n.alive ≡ true → n.observer ≡ j → n.heartbeat + p.D ≤ w → Covered l j i w n
+    by_observer : n.alive ≡ true → (m : InFlight) → m ∈ l → m.kind ≡ O → m.from ≡ j → m.to ≡ i → m.due + p.D ≤ w
         → Covered l j i w n
-    byCrash : n.alive ≡ false → p.c i + p.D ≤ w → Covered l j i w n
+    by_crash : n.alive ≡ false → p.c i + p.D ≤ w → Covered l j i w n
 
   -- the part of the invariant that every event keeps for the same reason
   pub record Base (s : View) : Type 0 where
     -- a node that observes another is a node of the ring, and so is the other
-    pub inN : (j : ℕ) → (s.node j).emitter ≢ j → (j < p.N) × ((s.node j).emitter < p.N)
+    pub in_n : (j : ℕ) → (s.node j).emitter ≢ j → (j < p.N) × ((s.node j).emitter < p.N)
     -- a crashed node was planned to crash, and not later than now
     pub dead : (k : ℕ) → Dead s k → (p.planned k ≡ true) × (p.c k ≤ s.last)
     -- a node lists every node between its emitter and itself
@@ -69,16 +69,16 @@ module _ (p : Params) where
   -- of a live node j in the state n
   pub record Timers (last j : ℕ) (n : Seen) : Type 0 where
     -- a node that observes another has both timers on
-    pub on : n.emitter ≢ j → (n.watchOn ≡ true) × (n.heartbeatOn ≡ true)
+    pub on : n.emitter ≢ j → (n.watch_on ≡ true) × (n.heartbeat_on ≡ true)
     -- a node whose watch is on observes another
-    pub off : n.watchOn ≡ true → n.emitter ≢ j
+    pub off : n.watch_on ≡ true → n.emitter ≢ j
     -- no timer is before the last event
-    pub watch≥ : n.watchOn ≡ true → last ≤ n.watch
-    pub heartbeat≥ : n.heartbeatOn ≡ true → last ≤ n.heartbeat
+    pub watch≥ : n.watch_on ≡ true → last ≤ n.watch
+    pub heartbeat≥ : n.heartbeat_on ≡ true → last ≤ n.heartbeat
     -- a heartbeat is due within H ticks
-    pub heartbeat≤ : n.heartbeatOn ≡ true → n.heartbeat ≤ last + p.H
+    pub heartbeat≤ : n.heartbeat_on ≡ true → n.heartbeat ≤ last + p.H
     -- a node whose heartbeat is on sends to another
-    pub to : n.heartbeatOn ≡ true → n.observer ≢ j
+    pub to : n.heartbeat_on ≡ true → n.observer ≢ j
     -- a node that observes itself sends to itself
     pub lone : n.emitter ≡ j → n.observer ≡ j
 

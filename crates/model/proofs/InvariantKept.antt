@@ -10,7 +10,7 @@ use native.Mathlib.Decide.{ℕ_discrete}
 use Rattle.node.specs.Node.{H}
 use Rattle.model.specs.Platform.{InFlight}
 use Rattle.model.proofs.Events.{View, Live, ◌∈◌, Params, Step, crash, drop, idle, beat, watched, report, moves, alone, sends}
-use Rattle.model.proofs.Invariant.{Inv, Timers, byTimer}
+use Rattle.model.proofs.Invariant.{Inv, Timers, by_timer}
 use Rattle.model.proofs.EveryEvent.{live-not-dead}
 use Rattle.model.proofs.CrashDone.{crash-inv}
 use Rattle.model.proofs.MessageIgnored.{drop-inv, idle-inv}
@@ -39,18 +39,18 @@ module _ (p : Params) where
     pub live : (j : ℕ) → Live s j
     pub empty : (j k : ℕ) → (s.node j).list k ≡ false
     pub unmarked : (j k : ℕ) → (s.node j).mark k ≡ false
-    pub inN : (j : ℕ) → (s.node j).emitter ≢ j → (j < p.N) × ((s.node j).emitter < p.N)
+    pub in_n : (j : ℕ) → (s.node j).emitter ≢ j → (j < p.N) × ((s.node j).emitter < p.N)
     pub before : (j k : ℕ) → p.gap j (s.node j).emitter ≤ p.gap j k
     pub mutual-l : (j : ℕ) → (s.node (s.node j).emitter).observer ≡ j
     pub mutual-r : (j : ℕ) → (s.node (s.node j).observer).emitter ≡ j
-    pub watch : (j : ℕ) → (s.node j).emitter ≢ j → ((s.node j).watchOn ≡ true) × ((s.node j).watch ≡ p.W)
-    pub heartbeat : (j : ℕ) → (s.node j).emitter ≢ j → ((s.node j).heartbeatOn ≡ true) × ((s.node j).heartbeat ≡ p.H)
-    pub off : (j : ℕ) → (s.node j).emitter ≡ j → ((s.node j).watchOn ≡ false) × ((s.node j).heartbeatOn ≡ false)
+    pub watch : (j : ℕ) → (s.node j).emitter ≢ j → ((s.node j).watch_on ≡ true) × ((s.node j).watch ≡ p.W)
+    pub heartbeat : (j : ℕ) → (s.node j).emitter ≢ j → ((s.node j).heartbeat_on ≡ true) × ((s.node j).heartbeat ≡ p.H)
+    pub off : (j : ℕ) → (s.node j).emitter ≡ j → ((s.node j).watch_on ≡ false) × ((s.node j).heartbeat_on ≡ false)
 
   pub opened-inv : (s : View) → Opened s → Inv p s
   opened-inv s o = record {
     base = record {
-      inN = o.inN;
+      in_n = o.in_n;
       dead = λ k d. absurd (live-not-dead (o.live k) d);
       between = λ j k h. absurd (omega (arith, o.before j k));
       listed = λ j k l. absurd (live-not-dead l (o.empty j k));
@@ -68,7 +68,7 @@ module _ (p : Params) where
     };
     timers = λ j l. tm j (ℕ_discrete (s.node j).emitter j);
     answered = λ m h. absurd (none m h);
-    covered = λ j i l e ne. byTimer (o.live i) (rw (sym e) (o.mutual-l j)) (go j i e ne (ℕ_discrete (s.node i).emitter i));
+    covered = λ j i l e ne. by_timer (o.live i) (rw (sym e) (o.mutual-l j)) (go j i e ne (ℕ_discrete (s.node i).emitter i));
   }
     where
       none : (m : InFlight) → m ∈ s.flight → ⊥

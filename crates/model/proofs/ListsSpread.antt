@@ -21,7 +21,7 @@ use Rattle.model.proofs.EveryEvent.{live-not-dead}
 use Rattle.model.proofs.OneState.{emitter-beats}
 use Rattle.model.proofs.OneNode.{OnEach, each}
 use Rattle.model.proofs.EmitterLeft.{leaves-late}
-use Rattle.model.proofs.Phases.{crashedIn, Up}
+use Rattle.model.proofs.Phases.{crashed_in, Up}
 use Rattle.model.proofs.WatchExpires.{first}
 use Rattle.model.proofs.SpacedRuns.{Last, none, at, after, Passed, SettledIn}
 use Rattle.model.proofs.CloseCrashes.{waits, Near, Since, SinceLast, step-since, InARow, emitter-up, observer-known, joined}
@@ -48,9 +48,9 @@ module _ (p : Params) where
   -- by one that its emitter will send
   pub data Comes (s : View) (k x T : ℕ) : Type 0 where
     known : Lists s x k → Comes s k x T
-    byHeartbeat : (m : InFlight) → m ∈ s.flight → m.kind ≡ H → m.from ≡ em s x → m.to ≡ x → Carries m k → m.due ≤ T + p.H + p.D
+    by_heartbeat : (m : InFlight) → m ∈ s.flight → m.kind ≡ H → m.from ≡ em s x → m.to ≡ x → Carries m k → m.due ≤ T + p.H + p.D
         → Comes s k x T
-    byTimer : (s.node (em s x)).heartbeat ≤ T + p.H → Comes s k x T
+    by_timer : (s.node (em s x)).heartbeat ≤ T + p.H → Comes s k x T
 
   -- q is the survivor after the crashed node k
   abbrev pub After : View → ℕ → ℕ → Type 0
@@ -67,7 +67,7 @@ module _ (p : Params) where
   -- ---- where no survivor observes a crashed node
 
   module _ (s : View) (i : Inv p s) (up : (j : ℕ) → Up p s j → Up p s (em s j)) where
-    beats : (x : ℕ) → Up p s x → em s x ≢ x → (s.node (em s x)).heartbeatOn ≡ true
+    beats : (x : ℕ) → Up p s x → em s x ≢ x → (s.node (em s x)).heartbeat_on ≡ true
     beats x ux ne = emitter-beats p s i x (em s x) ux.1 refl ne (up x ux).1
 
     -- it begins at the bound: every heartbeat is due within H
@@ -76,7 +76,7 @@ module _ (p : Params) where
       where
         go : Dec (em s x ≡ x) → Comes s k x (B + rounds d)
         go (yes e) = known (rw e at l)
-        go (no n) = byTimer (omega (arith, (i.timers (em s x) (up x ux).1).heartbeat≤ (beats x ux n)))
+        go (no n) = by_timer (omega (arith, (i.timers (em s x) (up x ux).1).heartbeat≤ (beats x ux n)))
 
     -- once d rounds are over, the node that stands d survivors after q lists k
     heard : (B u q k : ℕ) → Spread B s → Passed p s u → After s k q
@@ -89,15 +89,15 @@ module _ (p : Params) where
           where
             by : Dec (em s y ≡ y) → Comes s k y (B + rounds d) → Lists s y k
             by e (known h) = h
-            by e (byHeartbeat m h kd fr to c due) = absurd (omega (arith, ps.flight m h))
-            by (yes e) (byTimer h) = rw e at l
-            by (no n) (byTimer h) = absurd (omega (arith, p.D≥1, ps.heartbeat (em s y) (up y uy).1 (beats y uy n)))
+            by e (by_heartbeat m h kd fr to c due) = absurd (omega (arith, ps.flight m h))
+            by (yes e) (by_timer h) = rw e at l
+            by (no n) (by_timer h) = absurd (omega (arith, p.D≥1, ps.heartbeat (em s y) (up y uy).1 (beats y uy n)))
 
     -- going back from any survivor j leads to the one after k
     after-gap : (k : ℕ) → k < p.N → Dead s k → (n j : ℕ) → Up p s j → p.gap j k ≤ n → (q : ℕ) × After s k q
-    after-gap k kN d zero j uj h = absurd (omega (arith, p.gap≥1 j k uj.0 kN))
-    after-gap k kN d (suc n) j uj h =
-        go (dec_lt (p.gap j k) (p.gap j (em s j))) (dec_lt (p.gap j (em s j)) (p.gap j k)) (λ x. after-gap k kN d n (em s j) (up j uj) x)
+    after-gap k k_n d zero j uj h = absurd (omega (arith, p.gap≥1 j k uj.0 k_n))
+    after-gap k k_n d (suc n) j uj h =
+        go (dec_lt (p.gap j k) (p.gap j (em s j))) (dec_lt (p.gap j (em s j)) (p.gap j k)) (λ x. after-gap k k_n d n (em s j) (up j uj) x)
       where
         ue : Up p s (em s j)
         ue = up j uj
@@ -106,7 +106,7 @@ module _ (p : Params) where
             → (q : ℕ) × After s k q
         go (yes a) b further = (j, (uj, a))
         go (no a) (yes b) further =
-            further (omega (arith, p.gap-add j (em s j) k uj.0 ue.0 kN b, p.gap≥1 j (em s j) uj.0 ue.0))
+            further (omega (arith, p.gap-add j (em s j) k uj.0 ue.0 k_n b, p.gap≥1 j (em s j) uj.0 ue.0))
         go (no a) (no b) further = absurd (live-not-dead ue.1 (rw (p.gap-inj j (em s j) k uj.0 (omega arith)) d))
 
   -- ---- each kind of event
@@ -124,7 +124,7 @@ module _ (p : Params) where
 
     -- the next heartbeat is due no later, or one was just sent
     abbrev Beats : ℕ → Seen → Seen → Type 0
-    Beats j n n' = n.alive ≡ true → n.heartbeatOn ≡ true → (n'.heartbeat ≤ n.heartbeat) ⊎ Said j n
+    Beats j n n' = n.alive ≡ true → n.heartbeat_on ≡ true → (n'.heartbeat ≤ n.heartbeat) ⊎ Said j n
 
     -- a heartbeat to a live node from its emitter
     abbrev Awaited : InFlight → Type 0
@@ -137,7 +137,7 @@ module _ (p : Params) where
       emitter : (j : ℕ) → em s' j ≡ em s j
       list : (j k : ℕ) → Lists s j k → Lists s' j k
       heartbeat : (j : ℕ) → Beats j (s.node j) (s'.node j)
-      keepH : (m : InFlight) → m ∈ s.flight → Awaited m → (m ∈ s'.flight) ⊎ Taken s' m
+      keep_h : (m : InFlight) → m ∈ s.flight → Awaited m → (m ∈ s'.flight) ⊎ Taken s' m
       passed : Passed p s t
 
     -- the same of the one node that it changes
@@ -160,7 +160,7 @@ module _ (p : Params) where
       emitter = all (λ j n n'. n'.emitter ≡ n.emitter) a.emitter (λ j. refl);
       list = all (λ j n n'. (k : ℕ) → n.list k ≡ true → n'.list k ≡ true) a.list (λ j k h. h);
       heartbeat = all Beats a.heartbeat (λ j l o. inl (omega arith));
-      keepH = λ m h w. kept m w (f.keep m h);
+      keep_h = λ m h w. kept m w (f.keep m h);
       passed = pending t msg cr le tm;
     }
       where
@@ -242,18 +242,18 @@ module _ (p : Params) where
       still : (q k x d : ℕ) → After s k q → Up p s x → Dec (em s x ≡ x) → Lists s (em s x) k → Comes s k x (B + rounds d)
           → Comes s' k x (B + rounds d)
       still q k x d nx ux a l (known h) = known (e.list x k h)
-      still q k x d nx ux a l (byHeartbeat m h kd fr to c due) = go (e.keepH m h (kd, rw to ux.1, rw to (sym fr)))
+      still q k x d nx ux a l (by_heartbeat m h kd fr to c due) = go (e.keep_h m h (kd, rw to ux.1, rw to (sym fr)))
         where
           go : (m ∈ s'.flight) ⊎ Taken s' m → Comes s' k x (B + rounds d)
-          go (inl h) = byHeartbeat m h kd (fr ∙ sym (e.emitter x)) to c due
+          go (inl h) = by_heartbeat m h kd (fr ∙ sym (e.emitter x)) to c due
           go (inr tk) = known (rw to at (tk k c (rw to (apart q k nx x ux.1)) (rw fr (apart q k nx (em s x) (up x ux).1))))
-      still q k x d nx ux (yes r) l (byTimer h) = known (e.list x k (rw r at l))
-      still q k x d nx ux (no n) l (byTimer h) = go (e.heartbeat (em s x) (up x ux).1 (beats s i up x ux n))
+      still q k x d nx ux (yes r) l (by_timer h) = known (e.list x k (rw r at l))
+      still q k x d nx ux (no n) l (by_timer h) = go (e.heartbeat (em s x) (up x ux).1 (beats s i up x ux n))
         where
           go : ((s'.node (em s x)).heartbeat ≤ (s.node (em s x)).heartbeat) ⊎ Said (em s x) (s.node (em s x)) → Comes s' k x (B + rounds d)
-          go (inl r) = byTimer (rw (e.emitter x) (omega arith))
+          go (inl r) = by_timer (rw (e.emitter x) (omega arith))
           go (inr r) =
-              byHeartbeat r.m r.has r.kind (r.from ∙ sym (e.emitter x)) (r.to ∙ knows x ux) (r.carries k ∙ l) (omega (arith, r.due))
+              by_heartbeat r.m r.has r.kind (r.from ∙ sym (e.emitter x)) (r.to ∙ knows x ux) (r.carries k ∙ l) (omega (arith, r.due))
 
       -- the emitter of x has just come to list k: its d rounds are not over, and its next heartbeat is due within H
       just : (q k x d : ℕ) → After s k q → Up p s x → iter (em s) (suc d) x ≡ q → Dec (em s x ≡ x) → Lists s' (em s x) k
@@ -264,12 +264,12 @@ module _ (p : Params) where
           lives : Live s' (em s x)
           lives = e.alive (em s x) ∙ (up x ux).1
 
-          on : (s'.node (em s x)).heartbeatOn ≡ true
+          on : (s'.node (em s x)).heartbeat_on ≡ true
           on = emitter-beats p s' i' x (em s x) (e.alive x ∙ ux.1) (e.emitter x) n lives
 
           go : Dec (B + rounds d < t) → Comes s' k x (B + rounds d)
           go (yes h) = absurd (live-not-dead (heard s i up B t q k sp e.passed nx d (em s x) h (up x ux) hd) un)
-          go (no h) = byTimer (rw (e.emitter x) (omega (arith, (i'.timers (em s x) lives).heartbeat≤ on, e.last')))
+          go (no h) = by_timer (rw (e.emitter x) (omega (arith, (i'.timers (em s x) lives).heartbeat≤ on, e.last')))
 
       steady-spread : Spread B s'
       steady-spread q k x d nx' ux' hd' l' = go ((s.node (em s x)).list k) refl
@@ -302,7 +302,7 @@ module _ (p : Params) where
     -- no survivor leaves its emitter
     none-leaves : (s' : View) (t x : ℕ) (gone : List InFlight) (list' : ℕ → Bool) (y : ℕ) → Leaves p s t x gone list' y → ⊥
     none-leaves s' t x gone list' y e =
-        live-not-dead (all_up x ((i.base.inN x e.apart).0, e.live)).1 (leaves-late p s s' i t x gone list' y e).dead
+        live-not-dead (all_up x ((i.base.in_n x e.apart).0, e.live)).1 (leaves-late p s s' i t x gone list' y e).dead
 
     -- the lists have begun to go round, or begin now
     spread : Spreads c s → Spread (bound c f) s
@@ -320,7 +320,7 @@ module _ (p : Params) where
 
   module _ (s s' : View) (i : Inv p s) (i' : Inv p s') where
     same_row : (f : ℕ) → ((k : ℕ) → (s'.node k).alive ≡ (s.node k).alive) → InARow p s' f → InARow p s f
-    same_row f al row j g jN gN h = row j g jN gN (λ k le. al k ∙ h k le)
+    same_row f al row j g j_n g_n h = row j g j_n g_n (λ k le. al k ∙ h k le)
 
     steady-spreads : (t c : ℕ) → Steady s s' t → Since p c s → Spreads c s → Spreads c s'
     steady-spreads t c e w sp f row late =
@@ -371,7 +371,7 @@ module _ (p : Params) where
   -- ---- once all that is due by m - 1 rounds after the bound is done
 
   module _ (s : View) (c f u : ℕ) (i : Inv p s) (w : Since p c s) (sp : Spreads c s) (row : InARow p s f)
-      (late : bound c f + rounds (p.cnt (crashedIn s) - 1) < u) (ps : Passed p s u) where
+      (late : bound c f + rounds (p.cnt (crashed_in s) - 1) < u) (ps : Passed p s u) where
     past : bound c f < u
     past = omega arith
 
@@ -389,8 +389,8 @@ module _ (p : Params) where
         lists : (k : ℕ) → (q : ℕ) × After s k q → Lists s j k
         lists k (q, nx) = heard s i up (bound c f) u q k (spread s c f u i w row past ps sp) ps nx hop.0 j (omega (arith, late, few)) uj hop.2
           where
-            hop : (d : ℕ) × (d < p.cnt (crashedIn s)) × (iter (em s) d j ≡ q)
-            hop = p.hops (crashedIn s) (em s) (first p s i.base up) j q uj.0 (ap not uj.1) nx.0.0 (ap not nx.0.1)
+            hop : (d : ℕ) × (d < p.cnt (crashed_in s)) × (iter (em s) d j ≡ q)
+            hop = p.hops (crashed_in s) (em s) (first p s i.base up) j q uj.0 (ap not uj.1) nx.0.0 (ap not nx.0.1)
 
-            few : rounds hop.0 ≤ rounds (p.cnt (crashedIn s) - 1)
+            few : rounds hop.0 ≤ rounds (p.cnt (crashed_in s) - 1)
             few = mul-le-mul_right (p.H + p.D) (omega (arith, hop.1))

@@ -18,8 +18,8 @@ module _ (p : Params) (s s' : View) (i : Inv p s) where
   -- a delivery that changes no node: m is neither the H nor the O on which a watch rests
   module _ (m : InFlight) (has : m ∈ s.flight) (le : AtMessage p s m.due)
       (f : Frame p s s' m.due m.to (s.node m.to) (m ∷ []) [])
-      (notH : m.kind ≡ H → Live s m.to → (s.node m.to).emitter ≡ m.from → ⊥)
-      (notO : m.kind ≡ O → Live s m.to → ⊥) where
+      (not_h : m.kind ≡ H → Live s m.to → (s.node m.to).emitter ≡ m.from → ⊥)
+      (not_o : m.kind ≡ O → Live s m.to → ⊥) where
     still-same : (j : ℕ) → s'.node j ≡ s.node j
     still-same = each p s s' m.due m.to _ (m ∷ []) [] f (λ j n n'. n' ≡ n) refl (λ j. refl)
 
@@ -39,8 +39,8 @@ module _ (p : Params) (s s' : View) (i : Inv p s) where
     still-covered j a =
         rw (still-same j, still-same a) (λ lj ej ne. covered-map p s.flight s'.flight j a _ _ _ _ (i.covered j a lj ej ne) (omega arith) (same-node _)
         (λ g h k fr to.
-        stays s'.flight m g (f.keep g h) (λ q. notH (rw q at k) (rw (rw q at to) lj) (rw (rw q at to) (ej ∙ sym fr ∙ ap (λ x. x.from) q))))
-        (λ la g h k fr to. stays s'.flight m g (f.keep g h) (λ q. notO (rw q at k) (rw (rw q at to) la))))
+        stays s'.flight m g (f.keep g h) (λ q. not_h (rw q at k) (rw (rw q at to) lj) (rw (rw q at to) (ej ∙ sym fr ∙ ap (λ x. x.from) q))))
+        (λ la g h k fr to. stays s'.flight m g (f.keep g h) (λ q. not_o (rw q at k) (rw (rw q at to) la))))
 
     pub still-inv : Inv p s'
     still-inv = record {

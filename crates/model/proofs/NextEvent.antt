@@ -15,9 +15,9 @@ use lib.ListN.{length, get_or, take, drop, length-drop, length-take, drop_of_len
 use lib.Seq.{drop-cons, take-suc, get_or-take, get_or-drop}
 use Rattle.node.specs.declared.Node.{Node}
 use Rattle.node.specs.Node.{alone}
-use Rattle.model.specs.Platform.{InFlight, State, Event, Entry, entry, crashEntry, crash, message, watch, heartbeat, alive, crashEntries}
-use Rattle.model.specs.Platform.{messageEntries, timerEntry, timerEntries, pending, earlier, first, up_to, nextEvent, node_of, noMessage, messageAt}
-use Rattle.plans.specs.Plain.{noCrash, row_at, Plain}
+use Rattle.model.specs.Platform.{InFlight, State, Event, Entry, entry, crash_entry, crash, message, watch, heartbeat, alive, crash_entries}
+use Rattle.model.specs.Platform.{message_entries, timer_entry, timer_entries, pending, earlier, first, up_to, next_event, node_of, no_message, message_at}
+use Rattle.plans.specs.Plain.{no_crash, row_at, Plain}
 use Rattle.plans.proofs.Rows.{hit-of, hit-where, hits-snoc}
 use Rattle.model.specs.Range.{NotBefore}
 use Rattle.plans.specs.Plan.{Crash, Plan, hits}
@@ -116,37 +116,37 @@ first-leads x xs ys h = go (first (xs ++ ys)) (first ys) (first_of xs ys)
         ap some (earlier-stays x (some f) (under_some x.tick f le) ∙ sym (earlier-stays x r (under x.tick f.tick r le a.2)))
 
 -- the C lines that are not done, the messages in flight and the timers of live nodes, as entries
-abbrev pub rowsLeft : Plan → State → List Crash
-rowsLeft p s = drop s.done p.crashes
+abbrev pub rows_left : Plan → State → List Crash
+rows_left p s = drop s.done p.crashes
 
 abbrev pub deliveries : State → List Entry
-deliveries s = messageEntries 0 s.flight
+deliveries s = message_entries 0 s.flight
 
-abbrev pub timersOf : Plan → State → List Entry
-timersOf p s = timerEntries p s.done 0 s.nodes
+abbrev pub timers_of : Plan → State → List Entry
+timers_of p s = timer_entries p s.done 0 s.nodes
 
-unfoldable pub nextCrash : List Crash → List Entry
-nextCrash [] = []
-nextCrash (r ∷ rs) = crashEntry r ∷ []
+unfoldable pub next_crash : List Crash → List Entry
+next_crash [] = []
+next_crash (r ∷ rs) = crash_entry r ∷ []
 
 -- what is pending, with the next crash alone
 unfoldable pub soon : Plan → State → List Entry
-soon p s = nextCrash (rowsLeft p s) ++ (deliveries s ++ timersOf p s)
+soon p s = next_crash (rows_left p s) ++ (deliveries s ++ timers_of p s)
 
-pub crashes-in : (rows : List Crash) (z : Crash) (e : Entry) → Memᴰ e (crashEntries rows)
+pub crashes-in : (rows : List Crash) (z : Crash) (e : Entry) → Memᴰ e (crash_entries rows)
     → (i : ℕ) × (i < length rows) × (e.tick ≡ (get_or rows i z).tick)
-unfolding crashEntries
+unfolding crash_entries
 crashes-in [] z e m = absurd (Memᴰ.not-nil m)
 crashes-in (r ∷ rs) z e m = go (Memᴰ.cases_cons m) (crashes-in rs z e)
   where
-    go : (e ≡ crashEntry r) ⊎ Memᴰ e (crashEntries rs)
-        → (Memᴰ e (crashEntries rs) → (i : ℕ) × (i < length rs) × (e.tick ≡ (get_or rs i z).tick))
+    go : (e ≡ crash_entry r) ⊎ Memᴰ e (crash_entries rs)
+        → (Memᴰ e (crash_entries rs) → (i : ℕ) × (i < length rs) × (e.tick ≡ (get_or rs i z).tick))
         → (i : ℕ) × (i < length (r ∷ rs)) × (e.tick ≡ (get_or (r ∷ rs) i z).tick)
     go (inl q) ih = (0, omega arith, ap (λ (a : Entry). a.tick) q)
     go (inr q) ih = let w : (i : ℕ) × (i < length rs) × (e.tick ≡ (get_or rs i z).tick) = ih q in (suc w.0, omega (arith, w.1), w.2)
 
-next-among : (rows : List Crash) (e : Entry) → Memᴰ e (nextCrash rows) → Memᴰ e (crashEntries rows)
-unfolding nextCrash crashEntries
+next-among : (rows : List Crash) (e : Entry) → Memᴰ e (next_crash rows) → Memᴰ e (crash_entries rows)
+unfolding next_crash crash_entries
 next-among [] e m = m
 next-among (r ∷ rs) e m = Memᴰ.head (Memᴰ.eq_of_singleton m)
 
@@ -162,8 +162,8 @@ module _ (p : Plan) (pl : Plain p) where
       go (no c) = omega arith
       go (yes c) =
           absurd (true≢false (sym a
-          ∙ ap not (hit-of (take done p.crashes) noCrash i (row_at p i).node (rw length-take (omega arith))
-          (ap (λ (r : Crash). r.node) (get_or-take done p.crashes i noCrash c)))))
+          ∙ ap not (hit-of (take done p.crashes) no_crash i (row_at p i).node (rw length-take (omega arith))
+          (ap (λ (r : Crash). r.node) (get_or-take done p.crashes i no_crash c)))))
 
   -- the node of the next row is live
   pub next-alive : (done : ℕ) → done < length p.crashes → alive p done (row_at p done).node ≡ true
@@ -173,16 +173,16 @@ module _ (p : Plan) (pl : Plain p) where
       go : (b : Bool) → hits (take done p.crashes) (row_at p done).node ≡ b → not b ≡ true
       go false e = refl
       go true e =
-          let w : (i : ℕ) × (i < length (take done p.crashes)) × ((get_or (take done p.crashes) i noCrash).node ≡ (row_at p done).node) =
-          hit-where (take done p.crashes) noCrash (row_at p done).node e in
+          let w : (i : ℕ) × (i < length (take done p.crashes)) × ((get_or (take done p.crashes) i no_crash).node ≡ (row_at p done).node) =
+          hit-where (take done p.crashes) no_crash (row_at p done).node e in
           let i< : w.0 < done = omega (arith, w.1, length-take done p.crashes) in
-          absurd (pl.once w.0 done i< h (sym (ap (λ (r : Crash). r.node) (get_or-take done p.crashes w.0 noCrash i<)) ∙ w.2))
+          absurd (pl.once w.0 done i< h (sym (ap (λ (r : Crash). r.node) (get_or-take done p.crashes w.0 no_crash i<)) ∙ w.2))
 
   -- one row more
   alive-suc : (done k : ℕ) → done < length p.crashes → alive p (suc done) k ≡ not (hits (take done p.crashes) k || eqb (row_at p done).node k)
   unfolding alive
   alive-suc done k h =
-      ap not (ap (λ (l : List Crash). hits l k) (take-suc p.crashes done noCrash h) ∙ hits-snoc (take done p.crashes) (row_at p done) k)
+      ap not (ap (λ (l : List Crash). hits l k) (take-suc p.crashes done no_crash h) ∙ hits-snoc (take done p.crashes) (row_at p done) k)
 
   pub alive-hit : (done : ℕ) → done < length p.crashes → alive p (suc done) (row_at p done).node ≡ false
   alive-hit done h =
@@ -203,21 +203,21 @@ module _ (p : Plan) (pl : Plain p) where
 
   -- ---- the entries
 
-  pub crash-in : (s : State) (e : Entry) → Memᴰ e (nextCrash (rowsLeft p s))
-      → (s.done < length p.crashes) × (e ≡ crashEntry (row_at p s.done))
-  unfolding nextCrash
+  pub crash-in : (s : State) (e : Entry) → Memᴰ e (next_crash (rows_left p s))
+      → (s.done < length p.crashes) × (e ≡ crash_entry (row_at p s.done))
+  unfolding next_crash
   crash-in s e m = go (dec_lt s.done (length p.crashes))
     where
-      go : Dec (s.done < length p.crashes) → (s.done < length p.crashes) × (e ≡ crashEntry (row_at p s.done))
-      go (yes h) = (h, Memᴰ.eq_of_singleton (rw (drop-cons p.crashes s.done noCrash h) at m))
+      go : Dec (s.done < length p.crashes) → (s.done < length p.crashes) × (e ≡ crash_entry (row_at p s.done))
+      go (yes h) = (h, Memᴰ.eq_of_singleton (rw (drop-cons p.crashes s.done no_crash h) at m))
       go (no h) = absurd (Memᴰ.not-nil (rw (drop_of_length-le p.crashes {i = s.done} (omega arith)) at m))
 
-  pub crash-has : (s : State) → s.done < length p.crashes → Memᴰ (crashEntry (row_at p s.done)) (nextCrash (rowsLeft p s))
-  unfolding nextCrash
-  crash-has s h = rw (drop-cons p.crashes s.done noCrash h) (Memᴰ.head refl)
+  pub crash-has : (s : State) → s.done < length p.crashes → Memᴰ (crash_entry (row_at p s.done)) (next_crash (rows_left p s))
+  unfolding next_crash
+  crash-has s h = rw (drop-cons p.crashes s.done no_crash h) (Memᴰ.head refl)
 
   -- if the next row is at c or later, all that are not done are
-  pub crash-all : (s : State) (c : ℕ) → ((e : Entry) → Memᴰ e (nextCrash (rowsLeft p s)) → c ≤ e.tick) → (i : ℕ) → s.done ≤ i
+  pub crash-all : (s : State) (c : ℕ) → ((e : Entry) → Memᴰ e (next_crash (rows_left p s)) → c ≤ e.tick) → (i : ℕ) → s.done ≤ i
       → i < length p.crashes
       → c ≤ (row_at p i).tick
   crash-all s c f i a b = go (ℕ_discrete i s.done)
@@ -231,58 +231,58 @@ module _ (p : Plan) (pl : Plain p) where
 
   -- of what is pending, the first is the first of what is soon
   pub first-soon : (s : State) → first (pending p s) ≡ first (soon p s)
-  unfolding pending soon crashEntries nextCrash
+  unfolding pending soon crash_entries next_crash
   first-soon s = go (dec_lt s.done (length p.crashes))
     where
       ys : List Entry
-      ys = deliveries s ++ timersOf p s
+      ys = deliveries s ++ timers_of p s
 
-      later : (e : Entry) → s.done < length p.crashes → Memᴰ e (crashEntries (drop (suc s.done) p.crashes))
+      later : (e : Entry) → s.done < length p.crashes → Memᴰ e (crash_entries (drop (suc s.done) p.crashes))
           → (row_at p s.done).tick ≤ e.tick
       later e h m =
-          let w : (i : ℕ) × (i < length (drop (suc s.done) p.crashes)) × (e.tick ≡ (get_or (drop (suc s.done) p.crashes) i noCrash).tick) =
-          crashes-in (drop (suc s.done) p.crashes) noCrash e m in
+          let w : (i : ℕ) × (i < length (drop (suc s.done) p.crashes)) × (e.tick ≡ (get_or (drop (suc s.done) p.crashes) i no_crash).tick) =
+          crashes-in (drop (suc s.done) p.crashes) no_crash e m in
           let q : e.tick ≡ (row_at p (suc s.done + w.0)).tick =
-          w.2 ∙ ap (λ (r : Crash). r.tick) (get_or-drop (suc s.done) p.crashes w.0 noCrash) in
+          w.2 ∙ ap (λ (r : Crash). r.tick) (get_or-drop (suc s.done) p.crashes w.0 no_crash) in
           let l : suc s.done + w.0 < length p.crashes = omega (arith, w.1, length-drop (suc s.done) p.crashes) in
           rw q (pl.rising s.done (suc s.done + w.0) (omega arith) l)
 
       go : Dec (s.done < length p.crashes)
-          → first (crashEntries (rowsLeft p s) ++ (deliveries s ++ timersOf p s)) ≡ first (nextCrash (rowsLeft p s) ++ (deliveries s ++ timersOf p s))
+          → first (crash_entries (rows_left p s) ++ (deliveries s ++ timers_of p s)) ≡ first (next_crash (rows_left p s) ++ (deliveries s ++ timers_of p s))
       go (yes h) =
-          rw (drop-cons p.crashes s.done noCrash h)
-          (first-leads (crashEntry (row_at p s.done)) (crashEntries (drop (suc s.done) p.crashes)) ys (λ e m. later e h m))
+          rw (drop-cons p.crashes s.done no_crash h)
+          (first-leads (crash_entry (row_at p s.done)) (crash_entries (drop (suc s.done) p.crashes)) ys (λ e m. later e h m))
       go (no h) = rw (drop_of_length-le p.crashes {i = s.done} (omega arith))
 
-  pub next-soon : (s : State) → nextEvent p s ≡ up_to p.end (first (soon p s))
-  unfolding nextEvent
+  pub next-soon : (s : State) → next_event p s ≡ up_to p.end (first (soon p s))
+  unfolding next_event
   next-soon s = ap (up_to p.end) (first-soon s)
 
-pub msg-in : (ms : List InFlight) (j : ℕ) (e : Entry) → Memᴰ e (messageEntries j ms)
-    → (i : ℕ) × (i < length ms) × (e ≡ entry (get_or ms i noMessage).due (message (j + i)))
-unfolding messageEntries
+pub msg-in : (ms : List InFlight) (j : ℕ) (e : Entry) → Memᴰ e (message_entries j ms)
+    → (i : ℕ) × (i < length ms) × (e ≡ entry (get_or ms i no_message).due (message (j + i)))
+unfolding message_entries
 msg-in [] j e h = absurd (Memᴰ.not-nil h)
 msg-in (m ∷ ms) j e h = go (Memᴰ.cases_cons h) (msg-in ms (suc j) e)
   where
-    go : (e ≡ entry m.due (message j)) ⊎ Memᴰ e (messageEntries (suc j) ms)
-        → (Memᴰ e (messageEntries (suc j) ms) → (i : ℕ) × (i < length ms) × (e ≡ entry (get_or ms i noMessage).due (message (suc j + i))))
-        → (i : ℕ) × (i < length (m ∷ ms)) × (e ≡ entry (get_or (m ∷ ms) i noMessage).due (message (j + i)))
+    go : (e ≡ entry m.due (message j)) ⊎ Memᴰ e (message_entries (suc j) ms)
+        → (Memᴰ e (message_entries (suc j) ms) → (i : ℕ) × (i < length ms) × (e ≡ entry (get_or ms i no_message).due (message (suc j + i))))
+        → (i : ℕ) × (i < length (m ∷ ms)) × (e ≡ entry (get_or (m ∷ ms) i no_message).due (message (j + i)))
     go (inl q) ih = (0, omega arith, rw add-zero q)
     go (inr q) ih =
-        let r : (i : ℕ) × (i < length ms) × (e ≡ entry (get_or ms i noMessage).due (message (suc j + i))) = ih q in
+        let r : (i : ℕ) × (i < length ms) × (e ≡ entry (get_or ms i no_message).due (message (suc j + i))) = ih q in
         let g : suc j + r.0 ≡ j + suc r.0 = omega arith in
         (suc r.0, omega (arith, r.1), rw g at r.2)
 
 pub msg-has : (ms : List InFlight) (j : ℕ) (g : InFlight) → Memᴰ g ms
-    → (e : Entry) × Memᴰ e (messageEntries j ms) × (e.tick ≡ g.due)
-unfolding messageEntries
+    → (e : Entry) × Memᴰ e (message_entries j ms) × (e.tick ≡ g.due)
+unfolding message_entries
 msg-has [] j g h = absurd (Memᴰ.not-nil h)
 msg-has (m ∷ ms) j g h = go (Memᴰ.cases_cons h) (msg-has ms (suc j) g)
   where
-    go : (g ≡ m) ⊎ Memᴰ g ms → (Memᴰ g ms → (e : Entry) × Memᴰ e (messageEntries (suc j) ms) × (e.tick ≡ g.due))
-        → (e : Entry) × Memᴰ e (entry m.due (message j) ∷ messageEntries (suc j) ms) × (e.tick ≡ g.due)
+    go : (g ≡ m) ⊎ Memᴰ g ms → (Memᴰ g ms → (e : Entry) × Memᴰ e (message_entries (suc j) ms) × (e.tick ≡ g.due))
+        → (e : Entry) × Memᴰ e (entry m.due (message j) ∷ message_entries (suc j) ms) × (e.tick ≡ g.due)
     go (inl q) ih = (entry m.due (message j), Memᴰ.head refl, ap (λ (a : InFlight). a.due) (sym q))
-    go (inr q) ih = let r : (e : Entry) × Memᴰ e (messageEntries (suc j) ms) × (e.tick ≡ g.due) = ih q in (r.0, Memᴰ.tail r.1, r.2)
+    go (inr q) ih = let r : (e : Entry) × Memᴰ e (message_entries (suc j) ms) × (e.tick ≡ g.due) = ih q in (r.0, Memᴰ.tail r.1, r.2)
 
 -- ---- timers
 
@@ -294,23 +294,23 @@ pub record Ticks (p : Plan) (done j : ℕ) (ns : List Node) (e : Entry) : Type 0
       → ((e.event ≡ watch (j + i)) × ((get_or ns i z).watch ≡ suc e.tick))
       ⊎ ((e.event ≡ heartbeat (j + i)) × ((get_or ns i z).heartbeat ≡ suc e.tick))
 
-pub one_in : (v : ℕ) (ev : Event) (e : Entry) → Memᴰ e (timerEntry v ev) → (e.event ≡ ev) × (v ≡ suc e.tick)
-unfolding timerEntry
+pub one_in : (v : ℕ) (ev : Event) (e : Entry) → Memᴰ e (timer_entry v ev) → (e.event ≡ ev) × (v ≡ suc e.tick)
+unfolding timer_entry
 one_in zero ev e m = absurd (Memᴰ.not-nil m)
 one_in (suc t) ev e m = rw (Memᴰ.eq_of_singleton m) (refl, refl)
 
-pub one_has : (v : ℕ) (ev : Event) → v ≢ 0 → (e : Entry) × Memᴰ e (timerEntry v ev) × (v ≡ suc e.tick)
-unfolding timerEntry
+pub one_has : (v : ℕ) (ev : Event) → v ≢ 0 → (e : Entry) × Memᴰ e (timer_entry v ev) × (v ≡ suc e.tick)
+unfolding timer_entry
 one_has zero ev h = absurd (h refl)
 one_has (suc t) ev h = (entry t ev, Memᴰ.head refl, refl)
 
 module _ (p : Plan) (done : ℕ) where
-  pub timer-in : (ns : List Node) (j : ℕ) (e : Entry) → Memᴰ e (timerEntries p done j ns) → Ticks p done j ns e
-  unfolding timerEntries
+  pub timer-in : (ns : List Node) (j : ℕ) (e : Entry) → Memᴰ e (timer_entries p done j ns) → Ticks p done j ns e
+  unfolding timer_entries
   timer-in [] j e m = absurd (Memᴰ.not-nil m)
   timer-in (n ∷ ns) j e m = go (alive p done j) refl m (timer-in ns (suc j) e)
     where
-      two : alive p done j ≡ true → Memᴰ e (timerEntry n.watch (watch j)) ⊎ Memᴰ e (timerEntry n.heartbeat (heartbeat j))
+      two : alive p done j ≡ true → Memᴰ e (timer_entry n.watch (watch j)) ⊎ Memᴰ e (timer_entry n.heartbeat (heartbeat j))
           → Ticks p done j (n ∷ ns) e
       two a (inl m) =
           let r : (e.event ≡ watch j) × (n.watch ≡ suc e.tick) =
@@ -326,53 +326,53 @@ module _ (p : Plan) (done : ℕ) where
           let g : suc j + r.i ≡ j + suc r.i = omega arith in
           record { i = suc r.i; less = omega (arith, r.less); live = rw (← g) r.live; which = λ z. rw (← g) (r.which z) }
 
-      split : Memᴰ e (timerEntry n.watch (watch j) ++ timerEntry n.heartbeat (heartbeat j)) ⊎ Memᴰ e (timerEntries p done (suc j) ns)
-          → alive p done j ≡ true → (Memᴰ e (timerEntries p done (suc j) ns) → Ticks p done (suc j) ns e) → Ticks p done j (n ∷ ns) e
-      split (inl m) a ih = two a (Memᴰ.append_cases (timerEntry n.watch (watch j)) m)
+      split : Memᴰ e (timer_entry n.watch (watch j) ++ timer_entry n.heartbeat (heartbeat j)) ⊎ Memᴰ e (timer_entries p done (suc j) ns)
+          → alive p done j ≡ true → (Memᴰ e (timer_entries p done (suc j) ns) → Ticks p done (suc j) ns e) → Ticks p done j (n ∷ ns) e
+      split (inl m) a ih = two a (Memᴰ.append_cases (timer_entry n.watch (watch j)) m)
       split (inr m) a ih = later (ih m)
 
       go : (b : Bool) → alive p done j ≡ b
-          → Memᴰ e (cond b (timerEntry n.watch (watch j) ++ timerEntry n.heartbeat (heartbeat j)) [] ++ timerEntries p done (suc j) ns)
-          → (Memᴰ e (timerEntries p done (suc j) ns) → Ticks p done (suc j) ns e) → Ticks p done j (n ∷ ns) e
-      go true a m ih = split (Memᴰ.append_cases (timerEntry n.watch (watch j) ++ timerEntry n.heartbeat (heartbeat j)) m) a ih
+          → Memᴰ e (cond b (timer_entry n.watch (watch j) ++ timer_entry n.heartbeat (heartbeat j)) [] ++ timer_entries p done (suc j) ns)
+          → (Memᴰ e (timer_entries p done (suc j) ns) → Ticks p done (suc j) ns e) → Ticks p done j (n ∷ ns) e
+      go true a m ih = split (Memᴰ.append_cases (timer_entry n.watch (watch j) ++ timer_entry n.heartbeat (heartbeat j)) m) a ih
       go false a m ih = later (ih m)
 
   -- a live node's timer that is on is an entry
   module _ (z : Node) (f : Node → ℕ) (is : (n : Node) → (f n ≡ n.watch) ⊎ (f n ≡ n.heartbeat)) where
     pub timer-has : (ns : List Node) (j i : ℕ) → i < length ns → alive p done (j + i) ≡ true → f (get_or ns i z) ≢ 0
-        → (e : Entry) × Memᴰ e (timerEntries p done j ns) × (f (get_or ns i z) ≡ suc e.tick)
-    unfolding timerEntries
+        → (e : Entry) × Memᴰ e (timer_entries p done j ns) × (f (get_or ns i z) ≡ suc e.tick)
+    unfolding timer_entries
     timer-has [] j i h a o = absurd (omega arith)
     timer-has (n ∷ ns) j zero h a o = rw (rw add-zero at a) (go (is n))
       where
         go : (f n ≡ n.watch) ⊎ (f n ≡ n.heartbeat)
-            → (e : Entry) × Memᴰ e ((timerEntry n.watch (watch j) ++ timerEntry n.heartbeat (heartbeat j)) ++ timerEntries p done (suc j) ns)
+            → (e : Entry) × Memᴰ e ((timer_entry n.watch (watch j) ++ timer_entry n.heartbeat (heartbeat j)) ++ timer_entries p done (suc j) ns)
             × (f n ≡ suc e.tick)
         go (inl q) =
-            let r : (e : Entry) × Memᴰ e (timerEntry n.watch (watch j)) × (n.watch ≡ suc e.tick) =
+            let r : (e : Entry) × Memᴰ e (timer_entry n.watch (watch j)) × (n.watch ≡ suc e.tick) =
             one_has n.watch (watch j) (rw q at o) in
-            (r.0, Memᴰ.append_left (timerEntries p done (suc j) ns) (Memᴰ.append_left (timerEntry n.heartbeat (heartbeat j)) r.1), q ∙ r.2)
+            (r.0, Memᴰ.append_left (timer_entries p done (suc j) ns) (Memᴰ.append_left (timer_entry n.heartbeat (heartbeat j)) r.1), q ∙ r.2)
         go (inr q) =
-            let r : (e : Entry) × Memᴰ e (timerEntry n.heartbeat (heartbeat j)) × (n.heartbeat ≡ suc e.tick) =
+            let r : (e : Entry) × Memᴰ e (timer_entry n.heartbeat (heartbeat j)) × (n.heartbeat ≡ suc e.tick) =
             one_has n.heartbeat (heartbeat j) (rw q at o) in
-            (r.0, Memᴰ.append_left (timerEntries p done (suc j) ns) (Memᴰ.append_right (timerEntry n.watch (watch j)) r.1), q ∙ r.2)
+            (r.0, Memᴰ.append_left (timer_entries p done (suc j) ns) (Memᴰ.append_right (timer_entry n.watch (watch j)) r.1), q ∙ r.2)
     timer-has (n ∷ ns) j (suc i) h a o =
         let g : j + suc i ≡ suc j + i = omega arith in
-        let r : (e : Entry) × Memᴰ e (timerEntries p done (suc j) ns) × (f (get_or ns i z) ≡ suc e.tick) =
+        let r : (e : Entry) × Memᴰ e (timer_entries p done (suc j) ns) × (f (get_or ns i z) ≡ suc e.tick) =
         timer-has ns (suc j) i (omega arith) (rw g at a) o in
-        (r.0, Memᴰ.append_right (cond (alive p done j) (timerEntry n.watch (watch j) ++ timerEntry n.heartbeat (heartbeat j)) []) r.1, r.2)
+        (r.0, Memᴰ.append_right (cond (alive p done j) (timer_entry n.watch (watch j) ++ timer_entry n.heartbeat (heartbeat j)) []) r.1, r.2)
 
 -- ---- the choice
 
 module _ (p : Plan) (pl : Plain p) (s : State) where
   abbrev pub A : List Entry
-  A = nextCrash (rowsLeft p s)
+  A = next_crash (rows_left p s)
 
   abbrev pub B : List Entry
   B = deliveries s
 
   abbrev pub C : List Entry
-  C = timersOf p s
+  C = timers_of p s
 
   pub node-on : (f : Node → ℕ) → ((x : ℕ) → f (alone x 0 0) ≡ 0) → (j : ℕ) → f (node_of s j) ≢ 0 → j < length s.nodes
   node-on f z j h = go (dec_lt j (length s.nodes))
@@ -401,7 +401,7 @@ module _ (p : Plan) (pl : Plain p) (s : State) where
 
   unfoldable pub Chosen : ℕ → Event → Type 0
   Chosen t (crash k) = (s.done < length p.crashes) × ((row_at p s.done).tick ≡ t) × ((row_at p s.done).node ≡ k) × NotBefore p s t t t
-  Chosen t (message i) = (i < length s.flight) × ((messageAt s i).due ≡ t) × NotBefore p s (suc t) t t
+  Chosen t (message i) = (i < length s.flight) × ((message_at s i).due ≡ t) × NotBefore p s (suc t) t t
   Chosen t (watch x) = (x < length s.nodes) × (alive p s.done x ≡ true) × ((node_of s x).watch ≡ suc t) × NotBefore p s (suc t) (suc t) t
   Chosen t (heartbeat x) = (x < length s.nodes) × (alive p s.done x ≡ true) × ((node_of s x).heartbeat ≡ suc t) × NotBefore p s (suc t) (suc t) t
 
@@ -418,15 +418,15 @@ module _ (p : Plan) (pl : Plain p) (s : State) where
 
   crash-chosen : (f : Entry) → Memᴰ f A → NotBefore p s f.tick f.tick f.tick → Chosen f.tick f.event
   unfolding Chosen
-  crash-chosen f m nb = let r : (s.done < length p.crashes) × (f ≡ crashEntry (row_at p s.done)) = crash-in p pl s f m in
+  crash-chosen f m nb = let r : (s.done < length p.crashes) × (f ≡ crash_entry (row_at p s.done)) = crash-in p pl s f m in
       rw r.1 (r.0, refl, refl, rw r.1 at nb)
 
   message-chosen : (f : Entry) → Memᴰ f B → NotBefore p s (suc f.tick) f.tick f.tick → Chosen f.tick f.event
   unfolding Chosen
   message-chosen f m nb =
-      let r : (i : ℕ) × (i < length s.flight) × (f ≡ entry (get_or s.flight i noMessage).due (message (0 + i))) = msg-in s.flight 0 f m in
+      let r : (i : ℕ) × (i < length s.flight) × (f ≡ entry (get_or s.flight i no_message).due (message (0 + i))) = msg-in s.flight 0 f m in
       let z : 0 + r.0 ≡ r.0 = omega arith in
-      let q : f ≡ entry (get_or s.flight r.0 noMessage).due (message r.0) = rw z at r.2 in
+      let q : f ≡ entry (get_or s.flight r.0 no_message).due (message r.0) = rw z at r.2 in
       rw q (r.1, refl, rw q at nb)
 
   timer-chosen : (f : Entry) → Memᴰ f C → NotBefore p s (suc f.tick) (suc f.tick) f.tick → Chosen f.tick f.event
@@ -473,7 +473,7 @@ module _ (p : Plan) (pl : Plain p) (s : State) where
       let c : ((e : Entry) → Memᴰ e C → t ≤ e.tick) × Under t none = all_under C none (first C) t b.1 first-c in
       not-before t t t a.0 b.0 c.0
 
-  pub best : Best (nextEvent p s)
+  pub best : Best (next_event p s)
   unfolding Best up_to Under
   best = rw (next-soon p pl s) (go (first (soon p s)) (λ t u. beyond t u) (λ f a. found f (first (B ++ C)) (first C) a (first_of B C) first-c) first-a)
     where
@@ -490,6 +490,6 @@ module _ (p : Plan) (pl : Plain p) (s : State) where
   pub by_parts : (u : ℕ) → NoneLeftBefore p s u → NotBefore p s u u u
   unfolding NoneLeftBefore pending
   by_parts u h = not-before u u u
-      (λ e m. h e (Memᴰ.append_left (B ++ C) (next-among (rowsLeft p s) e m)))
-      (λ e m. h e (Memᴰ.append_right (crashEntries (rowsLeft p s)) (Memᴰ.append_left C m)))
-      (λ e m. h e (Memᴰ.append_right (crashEntries (rowsLeft p s)) (Memᴰ.append_right B m)))
+      (λ e m. h e (Memᴰ.append_left (B ++ C) (next-among (rows_left p s) e m)))
+      (λ e m. h e (Memᴰ.append_right (crash_entries (rows_left p s)) (Memᴰ.append_left C m)))
+      (λ e m. h e (Memᴰ.append_right (crash_entries (rows_left p s)) (Memᴰ.append_right B m)))

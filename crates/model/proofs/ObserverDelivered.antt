@@ -10,7 +10,7 @@ use native.Mathlib.Decide.{ℕ_discrete}
 use Rattle.node.specs.Node.{H, O}
 use Rattle.model.specs.Platform.{InFlight}
 use Rattle.model.proofs.Events.{Seen, View, Live, ◌∈◌, Params, Watched, watching}
-use Rattle.model.proofs.Invariant.{Inv, Answered, Covered, byHeartbeat, byTimer, byObserver, byCrash}
+use Rattle.model.proofs.Invariant.{Inv, Answered, Covered, by_heartbeat, by_timer, by_observer, by_crash}
 use Rattle.model.proofs.EveryEvent.{live-not-dead, Alike, base'}
 use Rattle.model.proofs.OneState.{one-observes, none-asks, emitter-beats}
 use Rattle.model.proofs.OneNode.{OnEach, each, alike, timers}
@@ -49,15 +49,15 @@ module _ (p : Params) (s s' : View) (i : Inv p s) where
     -- w, the watch of j; n, the new state of its emitter a, which got this O of j
     observer-turn : (j a w : ℕ) (n : Seen) → a ≡ m.to → Live s j → (s.node j).emitter ≡ a → a ≢ j → n.alive ≡ true → n.observer ≡ j
         → n.heartbeat ≡ m.due → Covered p s.flight j a w (s.node a) → Covered p s'.flight j a w n
-    observer-turn j a w n q lj ej ne la o d (byHeartbeat g h k f t u) =
-        byHeartbeat g (stays s'.flight m g (e.frame.keep g h) (other-kind g m H O k e.kind (omega arith))) k f t u
-    observer-turn j a w n q lj ej ne la o d (byTimer al x u) = byTimer la o (omega (arith, e.least.heartbeat≥ a al (emitter-beats p s i j a lj ej ne al)))
-    observer-turn j a w n q lj ej ne la o d (byObserver al g h k f t u) = go (e.frame.keep g h)
+    observer-turn j a w n q lj ej ne la o d (by_heartbeat g h k f t u) =
+        by_heartbeat g (stays s'.flight m g (e.frame.keep g h) (other-kind g m H O k e.kind (omega arith))) k f t u
+    observer-turn j a w n q lj ej ne la o d (by_timer al x u) = by_timer la o (omega (arith, e.least.heartbeat≥ a al (emitter-beats p s i j a lj ej ne al)))
+    observer-turn j a w n q lj ej ne la o d (by_observer al g h k f t u) = go (e.frame.keep g h)
       where
         go : (g ∈ (m ∷ [])) ⊎ (g ∈ s'.flight) → Covered p s'.flight j a w n
-        go (inr h) = byObserver la g h k f t u
-        go (inl h) = byTimer la o (omega (arith, ap (λ x. x.due) (Memᴰ.eq_of_singleton h)))
-    observer-turn j a w n q lj ej ne la o d (byCrash x u) = absurd (live-not-dead (rw q e.live) x)
+        go (inr h) = by_observer la g h k f t u
+        go (inl h) = by_timer la o (omega (arith, ap (λ x. x.due) (Memᴰ.eq_of_singleton h)))
+    observer-turn j a w n q lj ej ne la o d (by_crash x u) = absurd (live-not-dead (rw q e.live) x)
 
     observer-covered : (j a : ℕ) → Live s' j → (s'.node j).emitter ≡ a → a ≢ j → Covered p s'.flight j a (s'.node j).watch (s'.node a)
     observer-covered j a lj ej ne = rw (observer-w j) (go (ℕ_discrete a m.to))

@@ -6,16 +6,16 @@ use mathlib.Core.List.Memᴰ
 use mathlib.Core.List.{List, Memᴰ}
 use Prim.Native.Nat.{ℕ, zero, suc, ◌≤◌}
 use Rattle.node.specs.declared.Message.{Message}
-use Rattle.node.specs.Node.{Turn, R, silent, onMessage, onWatchDue, onHeartbeatDue}
+use Rattle.node.specs.Node.{Turn, R, silent, on_message, on_watch_due, on_heartbeat_due}
 use Rattle.node.proofs.Sends.{Sendable}
 use Rattle.plans.specs.Plan.{Plan, order_of}
 use Rattle.plans.specs.Plain.{Plain}
-use Rattle.model.specs.Platform.{InFlight, State, Event, crash, message, watch, heartbeat, alive, start, numbered, node_of, taken, messageAt, without}
+use Rattle.model.specs.Platform.{InFlight, State, Event, crash, message, watch, heartbeat, alive, start, numbered, node_of, taken, message_at, without}
 use Rattle.model.specs.Platform.{received, apply, Outcome, try, left, steps, after}
 use Rattle.model.specs.Range.{FlightRange, Sound}
 use Rattle.model.proofs.NextEvent.{Chosen}
 use Rattle.model.proofs.RangesKept.{numbered-in, without_in, at_mem, in-n, received-took, watch-taken, beat-taken}
-use Rattle.model.proofs.RangesKept.{Tried, happened, none_left, too_many, try_ok, left-range, start-range}
+use Rattle.model.proofs.RangesKept.{Tried, happened, none_left, too-many, try_ok, left-range, start-range}
 
 abbrev pub OfOthers : State → Type 0
 OfOthers s = (m : InFlight) → Memᴰ m s.flight → m.kind ≡ R → m.subject ≢ m.to
@@ -40,13 +40,13 @@ module _ (p : Plan) (pl : Plain p) where
       message-others i ch = go (alive p s.done m.to) refl
         where
           m : InFlight
-          m = messageAt s i
+          m = message_at s i
 
           f : FlightRange p s.last m
           f = r.flying m (at_mem s.flight i ch.0)
 
           turn : Bool → Turn
-          turn c = cond c (onMessage (order_of p) p.w t m.to m.kind m.from m.subject m.list (node_of s m.to)) (silent (node_of s m.to))
+          turn c = cond c (on_message (order_of p) p.w t m.to m.kind m.from m.subject m.list (node_of s m.to)) (silent (node_of s m.to))
 
           go : (c : Bool) → alive p s.done m.to ≡ c → OfOthers (taken p s t m.to (without i s.flight) (turn c))
           go true e =
@@ -62,16 +62,16 @@ module _ (p : Plan) (pl : Plain p) where
       event-others (message i) ch = message-others i ch
       event-others (watch x) ch =
           let k = watch-taken p pl s r t a b x (in-n p pl s r x ch.0) ch.1 ch.2 in
-          taken-others x s.flight (onWatchDue (order_of p) p.w t x (node_of s x)) (λ g h. h) k.sends
+          taken-others x s.flight (on_watch_due (order_of p) p.w t x (node_of s x)) (λ g h. h) k.sends
       event-others (heartbeat x) ch =
           let k = beat-taken p pl s r t a b x (in-n p pl s r x ch.0) ch.1 ch.2 in
-          taken-others x s.flight (onHeartbeatDue p.h t (node_of s x)) (λ g h. h) k.sends
+          taken-others x s.flight (on_heartbeat_due p.h t (node_of s x)) (λ g h. h) k.sends
 
   one-others : (s : State) → Sound p s → OfOthers s → (q : Outcome) → Tried p pl s q → OfOthers (left s q)
   unfolding left
   one-others s r o q (happened e b a ch f) = event-others s r o e.tick a b e.event ch
   one-others s r o q (none_left h) = o
-  one-others s r o q (too_many e ch h) = o
+  one-others s r o q (too-many e ch h) = o
 
   steps-others : (k : ℕ) (s : State) → Sound p s → OfOthers s → OfOthers (steps p k s)
   unfolding steps

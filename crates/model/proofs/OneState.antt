@@ -25,7 +25,7 @@ module _ (p : Params) (s : View) (b : Base p s) where
   -- two nodes that observe i: the nearer one is listed by the other
   pub one-lists-other : (j a i : ℕ) → j < p.N → a < p.N → j ≢ a → (s.node j).emitter ≡ i → (s.node a).emitter ≡ i
       → Lists s a j ⊎ Lists s j a
-  one-lists-other j a i jN aN ne ej ea = go (p.gap-cyc j a i jN aN ne)
+  one-lists-other j a i j_n a_n ne ej ea = go (p.gap-cyc j a i j_n a_n ne)
     where
       go : (p.gap a j < p.gap a i) ⊎ (p.gap j a < p.gap j i) → Lists s a j ⊎ Lists s j a
       go (inl h) = inl (b.between a j (rw ea h))
@@ -35,14 +35,14 @@ module _ (p : Params) (s : View) (b : Base p s) where
       → m.to ≡ i → m.from ≡ j
   one-observes j i lj ej ne li m h k to = go (ℕ_discrete m.from j) (rw to at (b.m-O m h k))
     where
-      jN : j < p.N
-      jN = (b.inN j (λ e. ne (sym ej ∙ e))).0
+      j_n : j < p.N
+      j_n = (b.in_n j (λ e. ne (sym ej ∙ e))).0
 
       go : Dec (m.from ≡ j) → Tied p s m.from i → m.from ≡ j
       go (yes e) r = e
       go (no n) (inr l) = absurd (live-unlisted m.from i l li)
       go (no n) (inl ea) =
-          last (one-lists-other j m.from i jN (b.inN m.from (λ e. b.m-self m h (sym e ∙ ea ∙ sym to))).0 (λ e. n (sym e)) ej ea)
+          last (one-lists-other j m.from i j_n (b.in_n m.from (λ e. b.m-self m h (sym e ∙ ea ∙ sym to))).0 (λ e. n (sym e)) ej ea)
         where
           last : Lists s m.from j ⊎ Lists s j m.from → m.from ≡ j
           last (inl l) = absurd (live-unlisted m.from j l lj)
@@ -60,14 +60,14 @@ module _ (p : Params) (s : View) (b : Base p s) where
       go (inl e) = by (p.gap-cyc m.from m.to m.to ring.0 (rw e at ring.1) other)
         where
           ring : (m.from < p.N) × ((s.node m.from).emitter < p.N)
-          ring = b.inN m.from (λ q. other (sym q ∙ e))
+          ring = b.in_n m.from (λ q. other (sym q ∙ e))
 
           by : (p.gap m.to m.from < p.gap m.to m.to) ⊎ (p.gap m.from m.to < p.gap m.from m.to) → ⊥
           by (inl near) = gone-silent m.from (b.listed m.to m.from (b.between m.to m.from (rw alone near))) m h refl
           by (inr far) = omega arith
 
   pub not-alone : (j i : ℕ) → Live s j → i ≢ j → j < p.N → i < p.N → (s.node i).emitter ≢ i
-  not-alone j i lj ne jN iN e = go (p.gap-cyc j i i jN iN (λ q. ne (sym q)))
+  not-alone j i lj ne j_n i_n e = go (p.gap-cyc j i i j_n i_n (λ q. ne (sym q)))
     where
       go : (p.gap i j < p.gap i i) ⊎ (p.gap j i < p.gap j i) → ⊥
       go (inl h) = live-unlisted i j (b.between i j (rw e h)) lj
@@ -83,12 +83,12 @@ module _ (p : Params) (s : View) (b : Base p s) where
 
       go : Dec (j ≡ k) → j ≡ k
       go (yes e) = e
-      go (no n) = last (one-lists-other j k i (b.inN j (λ q. nj (sym q ∙ ej))).0 (b.inN k (λ q. nk (sym q ∙ ek))).0 n ej ek)
+      go (no n) = last (one-lists-other j k i (b.in_n j (λ q. nj (sym q ∙ ej))).0 (b.in_n k (λ q. nk (sym q ∙ ek))).0 n ej ek)
 
 -- with the timers
 module _ (p : Params) (s : View) (i : Inv p s) where
   -- the heartbeat of a live emitter is on
-  pub emitter-beats : (j a : ℕ) → Live s j → (s.node j).emitter ≡ a → a ≢ j → Live s a → (s.node a).heartbeatOn ≡ true
+  pub emitter-beats : (j a : ℕ) → Live s j → (s.node j).emitter ≡ a → a ≢ j → Live s a → (s.node a).heartbeat_on ≡ true
   emitter-beats j a lj ej ne la =
-      let b = i.base.inN j (λ e. ne (sym ej ∙ e)) in
+      let b = i.base.in_n j (λ e. ne (sym ej ∙ e)) in
       ((i.timers a la).on (not-alone p s i.base j a lj ne b.0 (rw ej at b.1))).1

@@ -18,7 +18,7 @@ use Rattle.ring.proofs.Lists.{listed-none}
 use Rattle.ring.proofs.Gaps.{gap, gap-far, gap-out, gap≥1, gap≤n}
 use Rattle.model.proofs.InvariantKept.{Opened}
 use Rattle.model.proofs.RangesKept.{Shape, shape}
-use Rattle.model.proofs.Viewed.{P, view, isOn, tickOf}
+use Rattle.model.proofs.Viewed.{P, view, is_on, tick_of}
 
 start-now : (p : Plan) → (start p).last ≡ 0
 unfolding start
@@ -69,7 +69,7 @@ module _ (p : Plan) (ac : EndsInE p) where
     live = λ j. live0 j;
     empty = λ j k. em j k (shape p pl j);
     unmarked = λ j k. um j k (shape p pl j);
-    inN = λ j. iN j (shape p pl j);
+    in_n = λ j. i_n j (shape p pl j);
     before = λ j k. bf j k (shape p pl j);
     mutual-l = λ j. ml j (shape p pl j);
     mutual-r = λ j. mr j (shape p pl j);
@@ -95,9 +95,9 @@ module _ (p : Plan) (ac : EndsInE p) where
       um j k (inl x) = rw x.2 (listed-none k)
       um j k (inr x) = rw x.0 (listed-none k)
 
-      iN : (j : ℕ) → Shape p pl j → (nd j).emitter ≢ j → (j < p.n) × ((nd j).emitter < p.n)
-      iN j (inl x) n = rw (em-is j x.2) (x.1, open-back-below p.n (order_of p) io j x.1)
-      iN j (inr x) n = absurd (n (rw x.0))
+      i_n : (j : ℕ) → Shape p pl j → (nd j).emitter ≢ j → (j < p.n) × ((nd j).emitter < p.n)
+      i_n j (inl x) n = rw (em-is j x.2) (x.1, open-back-below p.n (order_of p) io j x.1)
+      i_n j (inr x) n = absurd (n (rw x.0))
 
       bf : (j k : ℕ) → Shape p pl j → gap p.n io j (nd j).emitter ≤ gap p.n io j k
       bf j k (inl x) = rw (em-is j x.2) (open-back-nearest p.n (order_of p) io j x.1 k)
@@ -122,14 +122,14 @@ module _ (p : Plan) (ac : EndsInE p) where
           rw (ob-is j x.2, em-is (behind j) there) (back-next p.n 0 (order_of p) io j x.1 (listed-none j))
       mr j (inr x) = let e : (nd j).observer ≡ j = ap (λ (a : Node). a.observer) x.0 in rw (e, x.0)
 
-      ww : (j : ℕ) → Shape p pl j → (nd j).emitter ≢ j → (isOn (nd j).watch ≡ true) × (tickOf (nd j).watch ≡ p.w)
+      ww : (j : ℕ) → Shape p pl j → (nd j).emitter ≢ j → (is_on (nd j).watch ≡ true) × (tick_of (nd j).watch ≡ p.w)
       ww j (inl x) n = rw x.2 (refl, refl)
       ww j (inr x) n = absurd (n (rw x.0))
 
-      hh : (j : ℕ) → Shape p pl j → (nd j).emitter ≢ j → (isOn (nd j).heartbeat ≡ true) × (tickOf (nd j).heartbeat ≡ p.h)
+      hh : (j : ℕ) → Shape p pl j → (nd j).emitter ≢ j → (is_on (nd j).heartbeat ≡ true) × (tick_of (nd j).heartbeat ≡ p.h)
       hh j (inl x) n = rw x.2 (refl, refl)
       hh j (inr x) n = absurd (n (rw x.0))
 
-      of : (j : ℕ) → Shape p pl j → (nd j).emitter ≡ j → (isOn (nd j).watch ≡ false) × (isOn (nd j).heartbeat ≡ false)
+      of : (j : ℕ) → Shape p pl j → (nd j).emitter ≡ j → (is_on (nd j).watch ≡ false) × (is_on (nd j).heartbeat ≡ false)
       of j (inl x) n = absurd (open-back-other p.n (order_of p) io j x.1 x.0 (sym (em-is j x.2) ∙ n))
       of j (inr x) n = rw x.0 (refl, refl)

@@ -18,8 +18,8 @@ use Rattle.model.proofs.OneNode.{OnEach, each}
 use Rattle.model.proofs.WatchKept.{stays, stays0, came0, other-kind}
 
 -- the crashed nodes as a list
-abbrev pub crashedIn : View → ℕ → Bool
-crashedIn s k = not (s.node k).alive
+abbrev pub crashed_in : View → ℕ → Bool
+crashed_in s k = not (s.node k).alive
 
 -- what a quiet event leaves of a node
 pub record Core (n n' : Seen) : Type 0 where
@@ -72,7 +72,7 @@ module _ (p : Params) where
   pub record Unnoticed (z c q : ℕ) (s : View) : Type 0 where
     pub up : Up s q
     pub dead : Dead s z
-    pub zN : z < p.N
+    pub z_n : z < p.N
     pub at : p.c z ≡ c
     pub of : (s.node q).emitter ≡ z
     pub lists : (j k : ℕ) → Up s j → Dead s k → k ≢ z → Lists s j k
@@ -88,9 +88,9 @@ module _ (p : Params) where
 
   -- how q's watch, set to two time-outs at T, comes back under one
   pub data Rests (s : View) (T q r : ℕ) : Type 0 where
-    byObserver : Coming s O r (T + p.D) → Rests s T q r
-    byTimer : (s.node r).observer ≡ q → (s.node r).heartbeat ≤ T + p.D → Rests s T q r
-    byHeartbeat : (m : InFlight) → m ∈ s.flight → m.kind ≡ H → m.from ≡ r → m.to ≡ q → m.due ≤ T + p.D + p.D → Rests s T q r
+    by_observer : Coming s O r (T + p.D) → Rests s T q r
+    by_timer : (s.node r).observer ≡ q → (s.node r).heartbeat ≤ T + p.D → Rests s T q r
+    by_heartbeat : (m : InFlight) → m ∈ s.flight → m.kind ≡ H → m.from ≡ r → m.to ≡ q → m.due ≤ T + p.D + p.D → Rests s T q r
     rested : (s.node q).watch ≤ s.last + p.W → Rests s T q r
 
   -- z is known to q since T; f is the live node before, m the count of live nodes
@@ -99,7 +99,7 @@ module _ (p : Params) where
     pub dead : Dead s z
     pub knows : Marks s q z
     pub early : T + 1 ≤ c + p.W + p.D
-    pub count : p.cnt (crashedIn s) ≡ m
+    pub count : p.cnt (crashed_in s) ≡ m
     pub em-is : (j : ℕ) → (s.node j).emitter ≡ f j
     pub two : f q ≢ q
     pub lists : (j k : ℕ) → Up s j → Dead s k → k ≢ z → Lists s j k
@@ -127,10 +127,10 @@ module _ (p : Params) where
         → ((s'.node j).heartbeat ≡ (s.node j).heartbeat)
         ⊎ ((m : InFlight) × (m ∈ s'.flight) × (m.kind ≡ H) × (m.from ≡ j) × (m.to ≡ (s.node j).observer)
         × (m.due ≤ (s.node j).heartbeat + p.D))
-    pub keepH : (m : InFlight) → m ∈ s.flight → m.kind ≡ H → Live s m.to → (s.node m.to).emitter ≡ m.from
+    pub keep_h : (m : InFlight) → m ∈ s.flight → m.kind ≡ H → Live s m.to → (s.node m.to).emitter ≡ m.from
         → (m ∈ s'.flight) ⊎ ((s'.node m.to).watch ≡ t + p.W)
-    pub keepO : (m : InFlight) → m ∈ s.flight → m.kind ≡ O → Live s m.to → m ∈ s'.flight
-    pub keepR : (m : InFlight) → m ∈ s.flight → m.kind ≡ R → Live s m.to → (m ∈ s'.flight) ⊎ Marks s m.to m.subject
+    pub keep_o : (m : InFlight) → m ∈ s.flight → m.kind ≡ O → Live s m.to → m ∈ s'.flight
+    pub keep_r : (m : InFlight) → m ∈ s.flight → m.kind ≡ R → Live s m.to → (m ∈ s'.flight) ⊎ Marks s m.to m.subject
 
   module _ (s s' : View) (i : Inv p s) where
     -- a message that changes no node
@@ -140,7 +140,7 @@ module _ (p : Params) where
 
       still-quiet : (m.kind ≡ H → Live s m.to → (s.node m.to).emitter ≡ m.from → ⊥) → (m.kind ≡ O → Live s m.to → ⊥)
           → (m.kind ≡ R → Live s m.to → Marks s m.to m.subject) → Quiet s s' m.due
-      still-quiet noH noO noR = record {
+      still-quiet no_h no_o no_r = record {
         last' = f.last';
         t≥ = i.base.m-due m has;
         core = λ j. core_is (still j);
@@ -149,15 +149,15 @@ module _ (p : Params) where
         came = λ g h. inl (came0 s.flight g (f.came g h));
         watch = λ j. inl (ap (λ n. n.watch) (still j));
         heartbeat = λ j. inl (ap (λ n. n.heartbeat) (still j));
-        keepH = λ g h k l q. inl (stays s'.flight m g (f.keep g h) (λ r. noH (rw r at k) (rw r at l) (rw r at q)));
-        keepO = λ g h k l. stays s'.flight m g (f.keep g h) (λ r. noO (rw r at k) (rw r at l));
-        keepR = λ g h k l. kR g k l (f.keep g h);
+        keep_h = λ g h k l q. inl (stays s'.flight m g (f.keep g h) (λ r. no_h (rw r at k) (rw r at l) (rw r at q)));
+        keep_o = λ g h k l. stays s'.flight m g (f.keep g h) (λ r. no_o (rw r at k) (rw r at l));
+        keep_r = λ g h k l. k_r g k l (f.keep g h);
       }
         where
-          kR : (g : InFlight) → g.kind ≡ R → Live s g.to → (g ∈ (m ∷ [])) ⊎ (g ∈ s'.flight)
+          k_r : (g : InFlight) → g.kind ≡ R → Live s g.to → (g ∈ (m ∷ [])) ⊎ (g ∈ s'.flight)
               → (g ∈ s'.flight) ⊎ Marks s g.to g.subject
-          kR g k l (inr h) = inl h
-          kR g k l (inl h) = inr (let r : g ≡ m = Memᴰ.eq_of_singleton h in rw r (noR (rw r at k) (rw r at l)))
+          k_r g k l (inr h) = inl h
+          k_r g k l (inl h) = inr (let r : g ≡ m = Memᴰ.eq_of_singleton h in rw r (no_r (rw r at k) (rw r at l)))
 
     pub drop-quiet : (m : InFlight) → Drop p s s' m → Quiet s s' m.due
     drop-quiet m e =
@@ -195,9 +195,9 @@ module _ (p : Params) where
           (λ j n n'. (n'.watch ≡ n.watch) ⊎ ((n'.watch ≡ m.due + p.W) × (p.planned n.emitter ≡ true → m.due < p.c n.emitter + p.D)))
           (inr (refl, rw e.of (i.base.m-from m e.has))) (λ j. inl refl);
       heartbeat = λ j. inl (all (λ j n n'. n'.heartbeat ≡ n.heartbeat) refl (λ j. refl) j);
-      keepH = λ g h k l q. kH g (e.frame.keep g h);
-      keepO = λ g h k l. stays s'.flight m g (e.frame.keep g h) (other-kind g m O H k e.kind (omega arith));
-      keepR = λ g h k l. inl (stays s'.flight m g (e.frame.keep g h) (other-kind g m R H k e.kind (omega arith)));
+      keep_h = λ g h k l q. k_h g (e.frame.keep g h);
+      keep_o = λ g h k l. stays s'.flight m g (e.frame.keep g h) (other-kind g m O H k e.kind (omega arith));
+      keep_r = λ g h k l. inl (stays s'.flight m g (e.frame.keep g h) (other-kind g m R H k e.kind (omega arith)));
     }
       where
         all : OnEach s s' m.to (beaten p (s.node m.to) list' m.due)
@@ -207,9 +207,9 @@ module _ (p : Params) where
         told k (inl h) = inl h
         told k (inr h) = inr record { m = m; has = e.has; kind = e.kind; carries = h.0 }
 
-        kH : (g : InFlight) → (g ∈ (m ∷ [])) ⊎ (g ∈ s'.flight) → (g ∈ s'.flight) ⊎ ((s'.node g.to).watch ≡ m.due + p.W)
-        kH g (inr h) = inl h
-        kH g (inl h) = inr (let r : g ≡ m = Memᴰ.eq_of_singleton h in rw (r, e.frame.here))
+        k_h : (g : InFlight) → (g ∈ (m ∷ [])) ⊎ (g ∈ s'.flight) → (g ∈ s'.flight) ⊎ ((s'.node g.to).watch ≡ m.due + p.W)
+        k_h g (inr h) = inl h
+        k_h g (inl h) = inr (let r : g ≡ m = Memᴰ.eq_of_singleton h in rw (r, e.frame.here))
 
     pub sends-quiet : (t x : ℕ) (m : InFlight) → Sends p s s' t x m → Quiet s s' t
     sends-quiet t x m e = record {
@@ -224,9 +224,9 @@ module _ (p : Params) where
           all (λ j n n'. (n'.heartbeat ≡ n.heartbeat)
           ⊎ ((g : InFlight) × (g ∈ s'.flight) × (g.kind ≡ H) × (g.from ≡ j) × (g.to ≡ n.observer) × (g.due ≤ n.heartbeat + p.D)))
           (inr (m, e.frame.add m (Memᴰ.head refl), e.kind, e.by, e.to, omega (arith, e.within, e.due))) (λ j. inl refl);
-      keepH = λ g h k l q. inl (stays0 s'.flight g (e.frame.keep g h));
-      keepO = λ g h k l. stays0 s'.flight g (e.frame.keep g h);
-      keepR = λ g h k l. inl (stays0 s'.flight g (e.frame.keep g h));
+      keep_h = λ g h k l q. inl (stays0 s'.flight g (e.frame.keep g h));
+      keep_o = λ g h k l. stays0 s'.flight g (e.frame.keep g h);
+      keep_r = λ g h k l. inl (stays0 s'.flight g (e.frame.keep g h));
     }
       where
         all : OnEach s s' x (sending p (s.node x) t)

@@ -8,7 +8,7 @@ use Rattle.node.specs.Node.{H, O, R}
 use Rattle.model.specs.Platform.{InFlight}
 use Rattle.model.proofs.Events.{View, Live, Dead, Lists, Marks, ◌∈◌, Params}
 use Rattle.model.proofs.Invariant.{Inv}
-use Rattle.model.proofs.Phases.{Told, Copied, Up, Coming, Calm, Unnoticed, Spreading, Rests, byObserver, byTimer, byHeartbeat, rested, Quiet}
+use Rattle.model.proofs.Phases.{Told, Copied, Up, Coming, Calm, Unnoticed, Spreading, Rests, by_observer, by_timer, by_heartbeat, rested, Quiet}
 
 module _ (p : Params) (s s' : View) (t : ℕ) (i : Inv p s) (e : Quiet p s s' t) where
   up' : (j : ℕ) → Up p s' j → Up p s j
@@ -88,7 +88,7 @@ module _ (p : Params) (s s' : View) (t : ℕ) (i : Inv p s) (e : Quiet p s s' t)
     unnoticed-quiet = record {
       up = up q a.up;
       dead = (e.core z).alive ∙ a.dead;
-      zN = a.zN;
+      z_n = a.z_n;
       at = a.at;
       of = (e.core q).emitter ∙ a.of;
       lists = λ j k u d ne. lst j k (a.lists j k (up' j u) (dead' k d) ne);
@@ -103,11 +103,11 @@ module _ (p : Params) (s s' : View) (t : ℕ) (i : Inv p s) (e : Quiet p s s' t)
     }
 
   module _ (z c T q m : ℕ) (f : ℕ → ℕ) (b : Spreading p z c T q m f s) where
-    flyO : (y u : ℕ) → Live s y → Coming p s O y u → Coming p s' O y u
-    flyO y u l g = record { m = g.m; has = e.keepO g.m g.has g.kind (rw g.to l); kind = g.kind; to = g.to; due = g.due }
+    fly_o : (y u : ℕ) → Live s y → Coming p s O y u → Coming p s' O y u
+    fly_o y u l g = record { m = g.m; has = e.keep_o g.m g.has g.kind (rw g.to l); kind = g.kind; to = g.to; due = g.due }
 
-    flyR : (y u : ℕ) → Live s y → Coming p s R y u → Marks s' y z ⊎ Coming p s' R y u
-    flyR y u l g = go (e.keepR g.m g.has g.kind (rw g.to l))
+    fly_r : (y u : ℕ) → Live s y → Coming p s R y u → Marks s' y z ⊎ Coming p s' R y u
+    fly_r y u l g = go (e.keep_r g.m g.has g.kind (rw g.to l))
       where
         go : (g.m ∈ s'.flight) ⊎ Marks s g.m.to g.m.subject → Marks s' y z ⊎ Coming p s' R y u
         go (inl h) = inr record { m = g.m; has = h; kind = g.kind; to = g.to; due = g.due }
@@ -116,7 +116,7 @@ module _ (p : Params) (s s' : View) (t : ℕ) (i : Inv p s) (e : Quiet p s s' t)
     b-ob : (j : ℕ) → Up p s j → (Up p s (s.node j).observer × (f (s.node j).observer ≡ j)) ⊎ ((f q ≡ j) × Coming p s O j (T + p.D))
         → (Up p s' (s.node j).observer × (f (s.node j).observer ≡ j)) ⊎ ((f q ≡ j) × Coming p s' O j (T + p.D))
     b-ob j u (inl h) = inl (up _ h.0, h.1)
-    b-ob j u (inr h) = inr (h.0, flyO j _ u.1 h.1)
+    b-ob j u (inr h) = inr (h.0, fly_o j _ u.1 h.1)
 
     b-old : (g : InFlight) (k : ℕ) → g.kind ≡ k → k ≢ H → g ∈ s'.flight → g ∈ s.flight
     b-old g k q n h = go (e.came g h)
@@ -127,22 +127,22 @@ module _ (p : Params) (s s' : View) (t : ℕ) (i : Inv p s) (e : Quiet p s s' t)
 
     b-relay : (x y u : ℕ) → Up p s y → Marks s y z ⊎ Coming p s R y u → Marks s' y z ⊎ Coming p s' R y u
     b-relay x y u l (inl h) = inl (mrk y z h)
-    b-relay x y u l (inr g) = flyR y u l.1 g
+    b-relay x y u l (inr g) = fly_r y u l.1 g
 
     b-wq : Rests p s T q (f q) → Rests p s' T q (f q)
-    b-wq (byObserver g) = byObserver (flyO (f q) _ (b.emitter q b.up).1 g)
-    b-wq (byTimer o h) = go (e.heartbeat (f q))
+    b-wq (by_observer g) = by_observer (fly_o (f q) _ (b.emitter q b.up).1 g)
+    b-wq (by_timer o h) = go (e.heartbeat (f q))
       where
         go : ((s'.node (f q)).heartbeat ≡ (s.node (f q)).heartbeat)
             ⊎ ((g : InFlight) × (g ∈ s'.flight) × (g.kind ≡ H) × (g.from ≡ f q) × (g.to ≡ (s.node (f q)).observer)
             × (g.due ≤ (s.node (f q)).heartbeat + p.D))
             → Rests p s' T q (f q)
-        go (inl r) = byTimer ((e.core (f q)).observer ∙ o) (omega arith)
-        go (inr r) = byHeartbeat r.0 r.1 r.2 r.3 (r.4 ∙ o) (omega (arith, r.5))
-    b-wq (byHeartbeat g h k fr to d) = go (e.keepH g h k (rw to b.up.1) (rw to (b.em-is q ∙ sym fr)))
+        go (inl r) = by_timer ((e.core (f q)).observer ∙ o) (omega arith)
+        go (inr r) = by_heartbeat r.0 r.1 r.2 r.3 (r.4 ∙ o) (omega (arith, r.5))
+    b-wq (by_heartbeat g h k fr to d) = go (e.keep_h g h k (rw to b.up.1) (rw to (b.em-is q ∙ sym fr)))
       where
         go : (g ∈ s'.flight) ⊎ ((s'.node g.to).watch ≡ t + p.W) → Rests p s' T q (f q)
-        go (inl o) = byHeartbeat g o k fr to d
+        go (inl o) = by_heartbeat g o k fr to d
         go (inr r) = rested (let r' : (s'.node q).watch ≡ t + p.W = rw to at r in omega (arith, e.last'))
     b-wq (rested h) = rested (watch q h)
 

@@ -43,7 +43,7 @@ module _ (p : Params) (s s' : View) (i : Inv p s) where
         heartbeat = λ k. absurd (omega (arith, e.rs.kinds g h));
         observer = λ k. absurd (omega (arith, e.rs.kinds g h));
         report = λ k. rw (e.rs.subject g h) report-late;
-        N = λ k. (rw (e.rs.each g h).by (i.base.m-N m e.has e.kind).1, (e.rs.each g h).inN);
+        N = λ k. (rw (e.rs.each g h).by (i.base.m-N m e.has e.kind).1, (e.rs.each g h).in_n);
         carried = λ q. absurd (omega (arith, e.rs.kinds g h));
       };
     }

@@ -20,7 +20,7 @@ use Rattle.model.proofs.OneNode.{OnEach, each}
 use Rattle.model.proofs.WatchKept.{came0, stays, other-kind}
 use Rattle.model.proofs.ObserverDelivered.{observer-all}
 use Rattle.model.proofs.ReportDelivered.{report-all, report-alike}
-use Rattle.model.proofs.Phases.{span, crashedIn, Up, Coming, Calm, Spreading, Rests, byObserver, byTimer, byHeartbeat, rested}
+use Rattle.model.proofs.Phases.{span, crashed_in, Up, Coming, Calm, Spreading, Rests, by_observer, by_timer, by_heartbeat, rested}
 use Rattle.model.proofs.WatchExpires.{exact, first}
 
 pub iter-up : (p : Params) (s : View) (f : ℕ → ℕ) → ((j : ℕ) → Up p s j → Up p s (f j)) → (d y : ℕ) → Up p s y → Up p s (iter f d y)
@@ -28,11 +28,11 @@ iter-up p s f up zero y u = u
 iter-up p s f up (suc d) y u = iter-up p s f up d (f y) (up y u)
 
 module _ (p : Params) (s : View) (i : Inv p s) (z c T q m : ℕ) (f : ℕ → ℕ) (b : Spreading p z c T q m f s) where
-  first-f : First p.gap p.N (crashedIn s) f
+  first-f : First p.gap p.N (crashed_in s) f
   first-f = rw (sym (fun_ext b.em-is)) (first p s i.base (λ j u. rw (b.em-is j) (b.emitter j u)))
 
   pub hop : (y : ℕ) → Up p s y → (d : ℕ) × (d < m) × (iter f d y ≡ q)
-  hop y u = rw b.count at (p.hops (crashedIn s) f first-f y q u.0 (ap not u.1) b.up.0 (ap not b.up.1))
+  hop y u = rw b.count at (p.hops (crashed_in s) f first-f y q u.0 (ap not u.1) b.up.0 (ap not b.up.1))
 
   module _ (u : ℕ) (pend : (g : InFlight) → g ∈ s.flight → u ≤ g.due) where
     abbrev pub Known : ℕ → Type 0
@@ -69,7 +69,7 @@ module _ (p : Params) (s : View) (i : Inv p s) (z c T q m : ℕ) (f : ℕ → �
 
   -- nothing is left before u, and u is late enough
   pub settled : (u : ℕ) → c + span p m ≤ u → ((g : InFlight) → g ∈ s.flight → u ≤ g.due)
-      → ((j : ℕ) → Live s j → (s.node j).heartbeatOn ≡ true → u ≤ (s.node j).heartbeat) → Calm p s
+      → ((j : ℕ) → Live s j → (s.node j).heartbeat_on ≡ true → u ≤ (s.node j).heartbeat) → Calm p s
   settled u cu pend pendh = record {
     lists = λ j k uj d. ls j k uj d (ℕ_discrete k z);
     emitter = λ j uj. rw (b.em-is j) (b.emitter j uj);
@@ -103,14 +103,14 @@ module _ (p : Params) (s : View) (i : Inv p s) (z c T q m : ℕ) (f : ℕ → �
               at0 (suc d) dm r = omega arith
 
       wq : Rests p s T q (f q) → (s.node q).watch ≤ s.last + p.W
-      wq (byObserver g) = absurd (omega (arith, pend g.m g.has, g.due, b.early))
-      wq (byTimer o h) =
+      wq (by_observer g) = absurd (omega (arith, pend g.m g.has, g.due, b.early))
+      wq (by_timer o h) =
           absurd (omega (
             arith,
             pendh (f q) (b.emitter q b.up).1 (emitter-beats p s i q (f q) b.up.1 (b.em-is q) b.two (b.emitter q b.up).1),
             b.early,
           ))
-      wq (byHeartbeat g h k fr to d) = absurd (omega (arith, pend g h, b.early, mul-le-mul_right p.D log≥))
+      wq (by_heartbeat g h k fr to d) = absurd (omega (arith, pend g h, b.early, mul-le-mul_right p.D log≥))
       wq (rested h) = h
 
       ws : (j : ℕ) → Up p s j → (s.node j).emitter ≢ j → Dec (j ≡ q) → (s.node j).watch ≤ s.last + p.W
@@ -187,7 +187,7 @@ module _ (p : Params) (s : View) (i : Inv p s) (z c T q m : ℕ) (f : ℕ → �
       reports = λ h x k. b.reports h (w-old h x) k;
       relay = λ x y d j n ux lx hd dj uy hy bm. w-relay y _ (b.relay x y d j n (w-up' x ux) (rw (w-mark x) at lx) hd dj (w-up' y uy) hy bm);
       watch = λ j u n ne. rw (w-w j, e.frame.last') (omega (arith, i.base.m-due g e.has, b.watch j (w-up' j u) n (λ r. ne (w-em j ∙ r))));
-      wq = byTimer (rw (sym (b.observers g e.has e.kind).1, e.frame.here) (b.observers g e.has e.kind).0)
+      wq = by_timer (rw (sym (b.observers g e.has e.kind).1, e.frame.here) (b.observers g e.has e.kind).0)
           (rw (sym (b.observers g e.has e.kind).1, e.frame.here) (b.observers g e.has e.kind).2);
     }
 
@@ -249,7 +249,7 @@ module _ (p : Params) (s : View) (i : Inv p s) (z c T q m : ℕ) (f : ℕ → �
     r_last : g.due ≤ T + p.log m * p.D
     r_last = r-time0 (hop g.to ux).0 (p.log m) (hop g.to ux).2 (omega (arith, (hop g.to ux).1, p.log_is m)) (hop g.to ux).1
 
-    list-is : list' ≡ crashedIn s
+    list-is : list' ≡ crashed_in s
     list-is = exact s list' (λ k h. sound k (e.adds.only k h)) full
       where
         sound : (k : ℕ) → Lists s g.to k ⊎ (k ≡ g.subject) → Dead s k
@@ -290,7 +290,7 @@ module _ (p : Params) (s : View) (i : Inv p s) (z c T q m : ℕ) (f : ℕ → �
         t = let below : 2 ^ n < p.cnt list' = rw (list-is, b.count) bm in e.rs.complete n (omega arith)
 
         tgt : p.ahead list' g.to (2 ^ n) ≡ y
-        tgt = rw (list-is, sym r, sym hy) (p.ahead-is (crashedIn s) f first-f y (2 ^ n) uy.0 (ap not uy.1) (rw b.count bm))
+        tgt = rw (list-is, sym r, sym hy) (p.ahead-is (crashed_in s) f first-f y (2 ^ n) uy.0 (ap not uy.1) (rw b.count bm))
 
     r-ofly : (y u : ℕ) → Coming p s O y u → Coming p s' O y u
     r-ofly y u h =
@@ -308,9 +308,9 @@ module _ (p : Params) (s : View) (i : Inv p s) (z c T q m : ℕ) (f : ℕ → �
     r-obs j (inr h) = inr (h.0, r-ofly j _ h.1)
 
     r-rest : Rests p s T q (f q) → Rests p s' T q (f q)
-    r-rest (byObserver h) = byObserver (r-ofly (f q) _ h)
-    r-rest (byTimer o h) = byTimer (r-ob (f q) ∙ o) (omega (arith, r-h (f q)))
-    r-rest (byHeartbeat h x k fr to d) = byHeartbeat h (stays s'.flight g h (e.frame.keep h x) (other-kind h g H R k e.kind (omega arith))) k fr to d
+    r-rest (by_observer h) = by_observer (r-ofly (f q) _ h)
+    r-rest (by_timer o h) = by_timer (r-ob (f q) ∙ o) (omega (arith, r-h (f q)))
+    r-rest (by_heartbeat h x k fr to d) = by_heartbeat h (stays s'.flight g h (e.frame.keep h x) (other-kind h g H R k e.kind (omega arith))) k fr to d
     r-rest (rested h) = rested (omega (arith, r-w q, e.frame.last', i.base.m-due g e.has))
 
     pub report-spreading : Spreading p z c T q m f s'

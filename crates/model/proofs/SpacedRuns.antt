@@ -14,7 +14,7 @@ use Rattle.model.proofs.Invariant.{Inv}
 use Rattle.model.proofs.EveryEvent.{live-not-dead}
 use Rattle.model.proofs.EmitterLeft.{leaves-late}
 use Rattle.model.proofs.InvariantKept.{step-inv, Opened, opened-inv}
-use Rattle.model.proofs.Phases.{span, crashedIn, Up, Calm, Unnoticed, Spreading, Quiet, drop-quiet, idle-quiet, beat-quiet, sends-quiet}
+use Rattle.model.proofs.Phases.{span, crashed_in, Up, Calm, Unnoticed, Spreading, Quiet, drop-quiet, idle-quiet, beat-quiet, sends-quiet}
 use Rattle.model.proofs.QuietEvents.{calm-quiet, unnoticed-quiet, spreading-quiet}
 use Rattle.model.proofs.CrashFromCalm.{crash-calm}
 use Rattle.model.proofs.WatchExpires.{moves-spreading, alone-calm}
@@ -40,7 +40,7 @@ module _ (p : Params) where
   -- where the step is a crash, it comes S ticks or more after the one before
   abbrev pub SpacedStep : (s s' : View) → Step p s s' → Last → Type 0
   SpacedStep s s' (crash t k e) none = Unit {0}
-  SpacedStep s s' (crash t k e) (at c) = c + span p (p.cnt (crashedIn s)) ≤ t
+  SpacedStep s s' (crash t k e) (at c) = c + span p (p.cnt (crashed_in s)) ≤ t
   SpacedStep s s' (drop m e) l = Unit {0}
   SpacedStep s s' (idle m e) l = Unit {0}
   SpacedStep s s' (beat m a e) l = Unit {0}
@@ -60,10 +60,10 @@ module _ (p : Params) where
     spreading : {c : ℕ} → (z T q m : ℕ) (f : ℕ → ℕ) → Spreading p z c T q m f s → Phase s (at c)
 
   -- where nothing is left before S ticks after the last crash, all is calm
-  pub late-calm : (s : View) (c u : ℕ) → Inv p s → Phase s (at c) → c + span p (p.cnt (crashedIn s)) ≤ u
+  pub late-calm : (s : View) (c u : ℕ) → Inv p s → Phase s (at c) → c + span p (p.cnt (crashed_in s)) ≤ u
       → ((g : InFlight) → g ∈ s.flight → u ≤ g.due)
-      → ((j : ℕ) → Live s j → (s.node j).watchOn ≡ true → u ≤ (s.node j).watch)
-      → ((j : ℕ) → Live s j → (s.node j).heartbeatOn ≡ true → u ≤ (s.node j).heartbeat) → Calm p s
+      → ((j : ℕ) → Live s j → (s.node j).watch_on ≡ true → u ≤ (s.node j).watch)
+      → ((j : ℕ) → Live s j → (s.node j).heartbeat_on ≡ true → u ≤ (s.node j).heartbeat) → Calm p s
   late-calm s c u i (calm x) cu pm pw ph = x
   late-calm s c u i (unnoticed z q a) cu pm pw ph =
       absurd (omega (arith, a.wq, pw q a.up.1 ((i.timers q a.up.1).on (λ r. live-not-dead a.up.1 (rw (sym r ∙ a.of) a.dead))).0))
@@ -86,7 +86,7 @@ module _ (p : Params) where
     no-leaving : (t x : ℕ) (g : List InFlight) (a : ℕ → Bool) (y : ℕ) → Leaves p s t x g a y
         → ((j : ℕ) → Up p s j → Up p s (s.node j).emitter) → ⊥
     no-leaving t x g a y e up =
-        live-not-dead (up x ((i.base.inN x e.apart).0, e.live)).1 (leaves-late p s s' i t x g a y e).dead
+        live-not-dead (up x ((i.base.in_n x e.apart).0, e.live)).1 (leaves-late p s s' i t x g a y e).dead
 
     pub step-phase : (l : Last) (e : Step p s s') → SpacedStep s s' e l → Phase s l → Phase s' (after s s' e l)
     step-phase none (crash t k e) sp (calm x) = crashes t k e x
@@ -112,19 +112,19 @@ module _ (p : Params) where
   pub opened-calm : (s : View) → Opened p s → Calm p s
   opened-calm s o = record {
     lists = λ j k u d. absurd (live-not-dead (o.live k) d);
-    emitter = λ j u. (emN j u.0 (ℕ_discrete (s.node j).emitter j), o.live _);
-    observer = λ j u. ((obN j u.0 (ℕ_discrete (s.node j).observer j), o.live _), o.mutual-r j);
+    emitter = λ j u. (em_n j u.0 (ℕ_discrete (s.node j).emitter j), o.live _);
+    observer = λ j u. ((ob_n j u.0 (ℕ_discrete (s.node j).observer j), o.live _), o.mutual-r j);
     kinds = λ g h. absurd (Memᴰ.not-nil (rw o.flight at h));
     watch = λ j u n. omega (arith, (o.watch j n).1);
   }
     where
-      emN : (j : ℕ) → j < p.N → Dec ((s.node j).emitter ≡ j) → (s.node j).emitter < p.N
-      emN j h (yes r) = rw r h
-      emN j h (no n) = (o.inN j n).1
+      em_n : (j : ℕ) → j < p.N → Dec ((s.node j).emitter ≡ j) → (s.node j).emitter < p.N
+      em_n j h (yes r) = rw r h
+      em_n j h (no n) = (o.in_n j n).1
 
-      obN : (j : ℕ) → j < p.N → Dec ((s.node j).observer ≡ j) → (s.node j).observer < p.N
-      obN j h (yes r) = rw r h
-      obN j h (no n) = (o.inN (s.node j).observer (λ q. n (sym q ∙ o.mutual-r j))).0
+      ob_n : (j : ℕ) → j < p.N → Dec ((s.node j).observer ≡ j) → (s.node j).observer < p.N
+      ob_n j h (yes r) = rw r h
+      ob_n j h (no n) = (o.in_n (s.node j).observer (λ q. n (sym q ∙ o.mutual-r j))).0
 
   pub run-inv : {s : View} {l : Last} → Run s l → Inv p s
   run-inv (opened {s = s} o) = opened-inv p s o
@@ -160,10 +160,10 @@ module _ (p : Params) where
   -- nothing is left before u
   pub record Passed (s : View) (u : ℕ) : Type 0 where
     pub flight : (g : InFlight) → g ∈ s.flight → u ≤ g.due
-    pub watch : (j : ℕ) → Live s j → (s.node j).watchOn ≡ true → u ≤ (s.node j).watch
-    pub heartbeat : (j : ℕ) → Live s j → (s.node j).heartbeatOn ≡ true → u ≤ (s.node j).heartbeat
+    pub watch : (j : ℕ) → Live s j → (s.node j).watch_on ≡ true → u ≤ (s.node j).watch
+    pub heartbeat : (j : ℕ) → Live s j → (s.node j).heartbeat_on ≡ true → u ≤ (s.node j).heartbeat
 
-  pub settles : {s : View} {c : ℕ} → Run s (at c) → Passed s (c + span p (p.cnt (crashedIn s))) → (j : ℕ) → Up p s j → SettledIn s j
+  pub settles : {s : View} {c : ℕ} → Run s (at c) → Passed s (c + span p (p.cnt (crashed_in s))) → (j : ℕ) → Up p s j → SettledIn s j
   settles {s} {c} r ps j u = record {
     sound = λ k h. (i.base.listed j k h).dead;
     full = λ k d. cm.lists j k u d;
@@ -174,4 +174,4 @@ module _ (p : Params) where
       i = run-inv r
 
       cm : Calm p s
-      cm = late-calm s c (c + span p (p.cnt (crashedIn s))) i (run-phase r) (omega arith) ps.flight ps.watch ps.heartbeat
+      cm = late-calm s c (c + span p (p.cnt (crashed_in s))) i (run-phase r) (omega arith) ps.flight ps.watch ps.heartbeat

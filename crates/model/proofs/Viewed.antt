@@ -20,9 +20,9 @@ use Rattle.node.proofs.Learning.{learnt-only, learnt-takes}
 use Rattle.node.proofs.Sends.{report-of, report-to, target-apart}
 use Rattle.plans.specs.Plan.{Crash, Plan, hits, order_of}
 use Rattle.model.specs.Platform.{InFlight, State, alive, numbered, node_of, taken}
-use Rattle.plans.specs.Plain.{noCrash, Plain}
+use Rattle.plans.specs.Plain.{no_crash, Plain}
 use Rattle.model.specs.Range.{EndsInE, NotBefore, Sound}
-use Rattle.ring.proofs.Unlisted.{countBy, aheadBy}
+use Rattle.ring.proofs.Unlisted.{count_by, ahead_by}
 use Rattle.ring.proofs.GoingBack.{hops, ahead-iter}
 use Rattle.ring.proofs.Lists.{listing-keeps, listing-lists, listing-only, merging-keeps, merging-takes, merging-only}
 use Rattle.ring.proofs.Gaps.{gap, gap≥1, gap≤n, gap-inj, gap-cyc, gap-add}
@@ -33,13 +33,13 @@ use Rattle.model.proofs.RangesKept.{delay-ok, Given, numbered-in, numbered-has, 
 
 -- ---- rows as a function of the node
 
-unfoldable pub tickIn : List Crash → ℕ → ℕ
-tickIn [] k = 0
-tickIn (r ∷ rs) k = cond (eqb r.node k) r.tick (tickIn rs k)
+unfoldable pub tick_in : List Crash → ℕ → ℕ
+tick_in [] k = 0
+tick_in (r ∷ rs) k = cond (eqb r.node k) r.tick (tick_in rs k)
 
 pub tick-of : (rows : List Crash) (z : Crash) (i k : ℕ) → ((a b : ℕ) → a < b → b < length rows → (get_or rows a z).node ≢ (get_or rows b z).node)
-    → i < length rows → (get_or rows i z).node ≡ k → tickIn rows k ≡ (get_or rows i z).tick
-unfolding tickIn
+    → i < length rows → (get_or rows i z).node ≡ k → tick_in rows k ≡ (get_or rows i z).tick
+unfolding tick_in
 tick-of [] z i k o h e = absurd (omega arith)
 tick-of (r ∷ rs) z zero k o h e = rw (eq-eqb r.node k e)
 tick-of (r ∷ rs) z (suc i) k o h e =
@@ -54,7 +54,7 @@ module _ (p : Plan) (ac : EndsInE p) where
   o = pl.order
 
   pub planned-N : (k : ℕ) → hits p.crashes k ≡ true → k < p.n
-  planned-N k h = let w = hit-where p.crashes noCrash k h in rw (sym w.2) (pl.node w.0 w.1)
+  planned-N k h = let w = hit-where p.crashes no_crash k h in rw (sym w.2) (pl.node w.0 w.1)
 
   abbrev pub P : Params
   P = record {
@@ -63,7 +63,7 @@ module _ (p : Plan) (ac : EndsInE p) where
     W = p.w;
     D = p.d;
     planned = hits p.crashes;
-    c = tickIn p.crashes;
+    c = tick_in p.crashes;
     planned-N = planned-N;
     gap = gap p.n o;
     gap≥1 = gap≥1 p.n o;
@@ -71,8 +71,8 @@ module _ (p : Plan) (ac : EndsInE p) where
     gap-inj = gap-inj p.n o;
     gap-cyc = gap-cyc p.n o;
     gap-add = gap-add p.n o;
-    cnt = countBy p.n;
-    ahead = λ l x k. aheadBy (order_of p) l (place (order_of p) x) k;
+    cnt = count_by p.n;
+    ahead = λ l x k. ahead_by (order_of p) l (place (order_of p) x) k;
     hops = λ l f fs. hops p.n o l f fs;
     ahead-is = λ l f fs. ahead-iter p.n o l f fs;
     log = jumps;
@@ -83,19 +83,19 @@ module _ (p : Plan) (ac : EndsInE p) where
 
 -- ---- a timer, a node and a state
 
-abbrev pub isOn : ℕ → Bool
-isOn zero = false
-isOn (suc t) = true
+abbrev pub is_on : ℕ → Bool
+is_on zero = false
+is_on (suc t) = true
 
-abbrev pub tickOf : ℕ → ℕ
-tickOf zero = 0
-tickOf (suc t) = t
+abbrev pub tick_of : ℕ → ℕ
+tick_of zero = 0
+tick_of (suc t) = t
 
-pub on-is : (v : ℕ) → isOn v ≡ true → v ≡ suc (tickOf v)
+pub on-is : (v : ℕ) → is_on v ≡ true → v ≡ suc (tick_of v)
 on-is zero h = absurd (true≢false (sym h))
 on-is (suc t) h = refl
 
-pub on_of : (v t : ℕ) → v ≡ suc t → (isOn v ≡ true) × (tickOf v ≡ t)
+pub on_of : (v t : ℕ) → v ≡ suc t → (is_on v ≡ true) × (tick_of v ≡ t)
 on_of v t e = rw e (refl, refl)
 
 abbrev pub seen : Bool → Node → Seen
@@ -103,10 +103,10 @@ seen b a = record {
   alive = b;
   emitter = a.emitter;
   observer = a.observer;
-  watchOn = isOn a.watch;
-  watch = tickOf a.watch;
-  heartbeatOn = isOn a.heartbeat;
-  heartbeat = tickOf a.heartbeat;
+  watch_on = is_on a.watch;
+  watch = tick_of a.watch;
+  heartbeat_on = is_on a.heartbeat;
+  heartbeat = tick_of a.heartbeat;
   list = listed a.list;
   mark = listed a.mark;
 }
@@ -123,19 +123,19 @@ module _ (p : Plan) (ac : EndsInE p) (s : State) (r : Sound p s) where
     message≥ = nb.message;
     watch≥ = λ j l o. late (node_of s j).watch o (nb.watch j l);
     heartbeat≥ = λ j l o. late (node_of s j).heartbeat o (nb.heartbeat j l);
-    crash≥ = λ k l q. cr k l (hit-where p.crashes noCrash k q);
+    crash≥ = λ k l q. cr k l (hit-where p.crashes no_crash k q);
   }
     where
-      late : (v : ℕ) → isOn v ≡ true → (v ≢ 0 → t < v) → t ≤ tickOf v
-      late v o f = let e : v ≡ suc (tickOf v) = on-is v o in omega (arith, f (λ z. off v z o))
+      late : (v : ℕ) → is_on v ≡ true → (v ≢ 0 → t < v) → t ≤ tick_of v
+      late v o f = let e : v ≡ suc (tick_of v) = on-is v o in omega (arith, f (λ z. off v z o))
         where
-          off : (v : ℕ) → v ≡ 0 → isOn v ≡ true → ⊥
+          off : (v : ℕ) → v ≡ 0 → is_on v ≡ true → ⊥
           off v z o = omega (arith, on-is v o)
 
-      cr : (k : ℕ) → alive p s.done k ≡ true → (i : ℕ) × (i < length p.crashes) × ((get_or p.crashes i noCrash).node ≡ k)
-          → c ≤ tickIn p.crashes k
+      cr : (k : ℕ) → alive p s.done k ≡ true → (i : ℕ) × (i < length p.crashes) × ((get_or p.crashes i no_crash).node ≡ k)
+          → c ≤ tick_in p.crashes k
       cr k l w =
-          rw (tick-of p.crashes noCrash w.0 k ac.plain.once w.1 w.2)
+          rw (tick-of p.crashes no_crash w.0 k ac.plain.once w.1 w.2)
           (nb.crash w.0 (undone p ac.plain s.done w.0 w.1 (rw w.2 l)) w.1)
 
   -- a turn of one node
@@ -145,10 +145,10 @@ module _ (p : Plan) (ac : EndsInE p) (s : State) (r : Sound p s) where
       → ((g : InFlight) → Memᴰ g rest → Memᴰ g s.flight)
       → Frame Q (view p s) (view p (taken p s t x rest u)) t x n' gone (numbered p t x s.next u.sends)
   unfolding taken
-  frame t x gone rest u n' xN a b e kp cm = record {
+  frame t x gone rest u n' x_n a b e kp cm = record {
     last' = refl;
-    here = ap (seen (alive p s.done x)) (here p ac.plain s r t a b x xN rest u) ∙ e;
-    other = λ j ne. ap (seen (alive p s.done j)) (other p ac.plain s r t a b x xN rest u j ne);
+    here = ap (seen (alive p s.done x)) (here p ac.plain s r t a b x x_n rest u) ∙ e;
+    other = λ j ne. ap (seen (alive p s.done j)) (other p ac.plain s r t a b x x_n rest u j ne);
     keep = λ g h. k g (kp g h);
     came = λ g h. c g (Memᴰ.append_cases rest h);
     add = λ g h. Memᴰ.append_right rest h;
@@ -168,7 +168,7 @@ module _ (p : Plan) (ac : EndsInE p) (s : State) (r : Sound p s) where
       c g (inr h) = inr h
 
   -- reports of k to the forward targets of x, by a list d that does not have it
-  module _ (x t k d nr : ℕ) (xN : x < p.n) (un : listed d x ≡ false) where
+  module _ (x t k d nr : ℕ) (x_n : x < p.n) (un : listed d x ≡ false) where
     abbrev ring : List ℕ
     ring = order_of p
 
@@ -203,13 +203,13 @@ module _ (p : Plan) (ac : EndsInE p) (s : State) (r : Sound p s) where
           by = g.given.from;
           after = omega (arith, g.given.due, dl.0);
           within = omega (arith, g.given.due, dl.1);
-          self = target-apart p.n ring ac.plain.order x xN d un m.to g.target;
-          inN = target_below p.n d ring ac.plain.order (place ring x) m.to g.target;
+          self = target-apart p.n ring ac.plain.order x x_n d un m.to g.target;
+          in_n = target_below p.n d ring ac.plain.order (place ring x) m.to g.target;
         }
 
     -- a jump below the count leads to a target
-    jump-target : (b : ℕ) → 2 ^ b < countBy p.n (listed d) → Memᴰ (aheadBy ring (listed d) (place ring x) (2 ^ b)) to
-    unfolding ahead unlisted count aheadBy countBy
+    jump-target : (b : ℕ) → 2 ^ b < count_by p.n (listed d) → Memᴰ (ahead_by ring (listed d) (place ring x) (2 ^ b)) to
+    unfolding ahead unlisted count ahead_by count_by
     jump-target b h = ahead-target ring d (place ring x) b (rw ac.plain.order.size h)
 
     pub told : Reports Q x t k (listed d) out

@@ -10,16 +10,16 @@ use native.Mathlib.Decide.{ℕ_discrete, dec_lt}
 use Rattle.node.specs.Node.{O, R}
 use Rattle.model.specs.Platform.{InFlight}
 use Rattle.ring.proofs.GoingBack.{iter, First}
-use Rattle.model.proofs.Events.{View, Live, Dead, Lists, Marks, ◌∈◌, Params, Cause, byExpiry, byReport, Leaves, Moves, Alone}
+use Rattle.model.proofs.Events.{View, Live, Dead, Lists, Marks, ◌∈◌, Params, Cause, by_expiry, by_report, Leaves, Moves, Alone}
 use Rattle.model.proofs.Invariant.{Base, Inv}
 use Rattle.model.proofs.EveryEvent.{live-not-dead, not-true, Alike, GoneBy}
 use Rattle.model.proofs.OneState.{live-unlisted}
 use Rattle.model.proofs.OneNode.{each}
 use Rattle.model.proofs.WatchKept.{came0}
 use Rattle.model.proofs.EmitterLeft.{leaves-late, leaves-list', leaves-dead, leaves-between, moves-alike, moves-sames, alone-alike, alone-N}
-use Rattle.model.proofs.Phases.{crashedIn, Up, Coming, Calm, Unnoticed, Spreading, byObserver}
+use Rattle.model.proofs.Phases.{crashed_in, Up, Coming, Calm, Unnoticed, Spreading, by_observer}
 
-pub X-live : (s : View) (k : ℕ) → crashedIn s k ≡ false → Live s k
+pub X-live : (s : View) (k : ℕ) → crashed_in s k ≡ false → Live s k
 X-live s k h = go (s.node k).alive h
   where
     go : (b : Bool) → not b ≡ false → b ≡ true
@@ -27,7 +27,7 @@ X-live s k h = go (s.node k).alive h
     go false h = absurd (true≢false h)
 
 -- a list that holds the crashed nodes and no live one
-pub exact : (s : View) (l : ℕ → Bool) → ((k : ℕ) → l k ≡ true → Dead s k) → ((k : ℕ) → Dead s k → l k ≡ true) → l ≡ crashedIn s
+pub exact : (s : View) (l : ℕ → Bool) → ((k : ℕ) → l k ≡ true → Dead s k) → ((k : ℕ) → Dead s k → l k ≡ true) → l ≡ crashed_in s
 exact s l sound full = fun_ext (λ k. go k (s.node k).alive refl)
   where
     go : (k : ℕ) (b : Bool) → (s.node k).alive ≡ b → l k ≡ not (s.node k).alive
@@ -36,24 +36,24 @@ exact s l sound full = fun_ext (λ k. go k (s.node k).alive refl)
 
 -- where every live node observes a live one, the emitter is the live node before
 pub first : (p : Params) (s : View) → Base p s → ((j : ℕ) → Up p s j → Up p s (s.node j).emitter)
-    → First p.gap p.N (crashedIn s) (λ j. (s.node j).emitter)
+    → First p.gap p.N (crashed_in s) (λ j. (s.node j).emitter)
 first p s b up = record {
-  inN = λ y yN h. (up y (yN, X-live s y h)).0;
-  unlisted = λ y yN h. ap not (up y (yN, X-live s y h)).1;
-  passed = λ y yN h k g. ap not (b.listed y k (b.between y k g)).dead;
+  in_n = λ y y_n h. (up y (y_n, X-live s y h)).0;
+  unlisted = λ y y_n h. ap not (up y (y_n, X-live s y h)).1;
+  passed = λ y y_n h k g. ap not (b.listed y k (b.between y k g)).dead;
 }
 
 module _ (p : Params) (s s' : View) (i : Inv p s) (i' : Inv p s') (z c q : ℕ) (a : Unnoticed p z c q s) where
   module _ (t x : ℕ) (gone : List InFlight) (list' : ℕ → Bool) (y : ℕ) (e : Leaves p s t x gone list' y) where
-    xN : x < p.N
-    xN = (i.base.inN x e.apart).0
+    x_n : x < p.N
+    x_n = (i.base.in_n x e.apart).0
 
     pub x-q : x ≡ q
     x-q = go (ℕ_discrete x q)
       where
         go : Dec (x ≡ q) → x ≡ q
         go (yes r) = r
-        go (no n) = absurd (live-not-dead (a.emitter x (xN, e.live) n).1 (leaves-late p s s' i t x gone list' y e).dead)
+        go (no n) = absurd (live-not-dead (a.emitter x (x_n, e.live) n).1 (leaves-late p s s' i t x gone list' y e).dead)
 
     x-em : (s.node x).emitter ≡ z
     x-em = rw x-q a.of
@@ -69,11 +69,11 @@ module _ (p : Params) (s s' : View) (i : Inv p s) (i' : Inv p s') (z c q : ℕ) 
     x-early = go gone e.cause
       where
         go : (gone : List InFlight) → Cause p s t x gone → t + 1 ≤ c + p.W + p.D
-        go _ (byExpiry on due none) = omega (arith, a.wq, ap (λ j. (s.node j).watch) x-q)
-        go _ (byReport m h to k about due) = absurd ((a.kinds m h).1 k)
+        go _ (by_expiry on due none) = omega (arith, a.wq, ap (λ j. (s.node j).watch) x-q)
+        go _ (by_report m h to k about due) = absurd ((a.kinds m h).1 k)
 
     y-up : Up p s y
-    y-up = (e.back.inN, go (s.node y).alive refl)
+    y-up = (e.back.in_n, go (s.node y).alive refl)
       where
         go : (b : Bool) → (s.node y).alive ≡ b → (s.node y).alive ≡ true
         go true r = r
@@ -89,24 +89,24 @@ module _ (p : Params) (s s' : View) (i : Inv p s) (i' : Inv p s') (z c q : ℕ) 
         far : Dec (p.gap x z < p.gap x r) → Dec (p.gap x r < p.gap x z) → p.gap x z < p.gap x r
         far (yes h) d = h
         far (no n) (yes h) = absurd (live-unlisted p s i.base x r (i.base.between x r (rw x-em h)) a.prev.1)
-        far (no n) (no m) = absurd (live-not-dead a.prev.1 (rw (sym (p.gap-inj x z r xN (omega arith))) a.dead))
+        far (no n) (no m) = absurd (live-not-dead a.prev.1 (rw (sym (p.gap-inj x z r x_n (omega arith))) a.dead))
 
         far' : p.gap x z < p.gap x r
         far' = far (dec_lt (p.gap x z) (p.gap x r)) (dec_lt (p.gap x r) (p.gap x z))
 
         gr : p.gap x r ≡ p.gap x z + p.gap z r
-        gr = p.gap-add x z r xN a.zN a.prev.0 far'
+        gr = p.gap-add x z r x_n a.z_n a.prev.0 far'
 
         past : p.gap x z < p.gap x y
         past = rw x-em at e.back.past
 
         gy : p.gap x y ≡ p.gap x z + p.gap z y
-        gy = p.gap-add x z y xN a.zN y-up.0 past
+        gy = p.gap-add x z y x_n a.z_n y-up.0 past
 
         go : Dec (p.gap z y < p.gap z r) → Dec (p.gap z r < p.gap z y) → y ≡ r
         go (yes h) d = absurd (live-unlisted p s i.base z y (i.base.between z y h) y-up.1)
         go (no n) (yes h) = absurd (leaves-dead p s s' i t x gone list' y e r (e.back.passed r (rw x-em far') (omega (arith, gr, gy))) a.prev.1)
-        go (no n) (no m) = p.gap-inj z y r a.zN (omega arith)
+        go (no n) (no m) = p.gap-inj z y r a.z_n (omega arith)
 
   module _ (t x : ℕ) (gone : List InFlight) (list' mark' : ℕ → Bool) (y : ℕ) (o : InFlight) (out : List InFlight)
       (e : Moves p s s' t x gone list' mark' y o out) where
@@ -129,7 +129,7 @@ module _ (p : Params) (s s' : View) (i : Inv p s) (i' : Inv p s') (z c q : ℕ) 
     dead k d = (moves-sames p s s' i t x gone list' mark' y o out e k).alive ∙ d
 
     fx : Up p s x
-    fx = (xN t x gone list' y e.leaves, e.leaves.live)
+    fx = (x_n t x gone list' y e.leaves, e.leaves.live)
 
     em-up : (j : ℕ) → Up p s' j → Up p s' (s'.node j).emitter
     em-up j u = go (ℕ_discrete j x)
@@ -138,7 +138,7 @@ module _ (p : Params) (s s' : View) (i : Inv p s) (i' : Inv p s') (z c q : ℕ) 
         go (yes r) = rw (r, em-x) (up y (y-up t x gone list' y e.leaves))
         go (no n) = rw (e.frame.other j n) (up _ (a.emitter j (up' j u) (λ r. n (r ∙ sym (x-q t x gone list' y e.leaves)))))
 
-    list-is : list' ≡ crashedIn s'
+    list-is : list' ≡ crashed_in s'
     list-is =
         exact s' list' (λ k h. dead k (go k (leaves-list' p s s' i t x gone list' y e.leaves k h)))
         (λ k d. full t x gone list' y e.leaves k (dead' k d))
@@ -157,7 +157,7 @@ module _ (p : Params) (s s' : View) (i : Inv p s) (i' : Inv p s') (z c q : ℕ) 
         go (inr k) (inr h) = Memᴰ.cases_cons h
 
     m : ℕ
-    m = p.cnt (crashedIn s')
+    m = p.cnt (crashed_in s')
 
     obs : (j : ℕ) → Up p s' j → (Up p s (s.node j).observer × ((s.node (s.node j).observer).emitter ≡ j)) ⊎ ((s.node z).emitter ≡ j)
         → (Up p s' (s.node j).observer × ((s'.node (s.node j).observer).emitter ≡ j))
@@ -174,7 +174,7 @@ module _ (p : Params) (s s' : View) (i : Inv p s) (i' : Inv p s') (z c q : ℕ) 
             absurd (live-not-dead (up' j u).1 (rw (sym ezj) a.dead))
 
     relay : (g w d j b : ℕ) → Up p s' g → Marks s' g z → d < 2 ^ j → Up p s' w → iter (λ j. (s'.node j).emitter) (2 ^ b) w ≡ g
-        → 2 ^ b < p.cnt (crashedIn s') → Coming p s' R w (t + (j + 1) * p.D)
+        → 2 ^ b < p.cnt (crashed_in s') → Coming p s' R w (t + (j + 1) * p.D)
     relay g w d j b ug lg dj uw hw bm =
         record {
           m = r.0;
@@ -194,9 +194,9 @@ module _ (p : Params) (s s' : View) (i : Inv p s) (i' : Inv p s') (z c q : ℕ) 
         tgt : p.ahead list' x (2 ^ b) ≡ w
         tgt =
             rw (list-is, sym (gx (ℕ_discrete g x)), sym hw)
-            (p.ahead-is (crashedIn s') _ (first p s' i'.base em-up) w (2 ^ b) uw.0 (ap not uw.1) bm)
+            (p.ahead-is (crashed_in s') _ (first p s' i'.base em-up) w (2 ^ b) uw.0 (ap not uw.1) bm)
 
-    pub moves-spreading : Spreading p z c t x (p.cnt (crashedIn s')) (λ j. (s'.node j).emitter) s'
+    pub moves-spreading : Spreading p z c t x (p.cnt (crashed_in s')) (λ j. (s'.node j).emitter) s'
     moves-spreading = record {
       up = up x fx;
       dead = dead z a.dead;
@@ -212,7 +212,7 @@ module _ (p : Params) (s s' : View) (i : Inv p s) (i' : Inv p s') (z c q : ℕ) 
       reports = λ g h k. fr g k (sent g h (inr k));
       relay = λ g w d j b ug lg hd dj uw hw bm. inr (relay g w d j b ug lg dj uw hw bm);
       watch = λ j u n ne. ws j u n ne;
-      wq = byObserver record { m = o; has = e.frame.add o (Memᴰ.head refl); kind = e.o-kind; to = e.o-to ∙ sym em-x; due = e.o-within };
+      wq = by_observer record { m = o; has = e.frame.add o (Memᴰ.head refl); kind = e.o-kind; to = e.o-to ∙ sym em-x; due = e.o-within };
     }
       where
         fo : (g : InFlight) → g.kind ≡ O → (g ≡ o) ⊎ (g ∈ out) → (g.from ≡ x) × (g.to ≡ (s'.node x).emitter) × (g.due ≤ t + p.D)
@@ -220,7 +220,7 @@ module _ (p : Params) (s s' : View) (i : Inv p s) (i' : Inv p s') (z c q : ℕ) 
         fo g k (inr h) = absurd (omega (arith, e.rs.kinds g h))
 
         fr : (g : InFlight) → g.kind ≡ R → (g ≡ o) ⊎ (g ∈ out)
-            → (g.subject ≡ z) × (g.due ≤ t + (p.log (p.cnt (crashedIn s')) + 1) * p.D)
+            → (g.subject ≡ z) × (g.due ≤ t + (p.log (p.cnt (crashed_in s')) + 1) * p.D)
         fr g k (inl r) = absurd (omega (arith, e.o-kind, ap (λ m. m.kind) r))
         fr g k (inr h) = (e.rs.subject g h ∙ x-em t x gone list' y e.leaves, omega (arith, (e.rs.each g h).within))
 

@@ -9,7 +9,7 @@ use native.Mathlib.Omega.{arith}
 use Rattle.node.specs.Node.{H, O}
 use Rattle.model.specs.Platform.{InFlight}
 use Rattle.model.proofs.Events.{Seen, View, Live, ◌∈◌, Params}
-use Rattle.model.proofs.Invariant.{Answered, Covered, byHeartbeat, byTimer, byObserver, byCrash}
+use Rattle.model.proofs.Invariant.{Answered, Covered, by_heartbeat, by_timer, by_observer, by_crash}
 
 -- the rest of a list of messages after one of them, g, left
 pub stays : (l : List InFlight) (g m : InFlight) → (m ∈ (g ∷ [])) ⊎ (m ∈ l) → (m ≡ g → ⊥) → m ∈ l
@@ -41,10 +41,10 @@ module _ (p : Params) where
       → ((m : InFlight) → m ∈ l → m.kind ≡ H → m.from ≡ i → m.to ≡ j → m ∈ l')
       → (n.alive ≡ true → (m : InFlight) → m ∈ l → m.kind ≡ O → m.from ≡ j → m.to ≡ i → m ∈ l')
       → Covered p l' j i w' n'
-  covered-map l l' j i w w' n n' (byHeartbeat m h k f t d) ww s kH kO = byHeartbeat m (kH m h k f t) k f t (omega arith)
-  covered-map l l' j i w w' n n' (byTimer a o d) ww s kH kO = byTimer (s.alive ∙ a) (s.observer ∙ o) (omega (arith, s.heartbeat))
-  covered-map l l' j i w w' n n' (byObserver a m h k f t d) ww s kH kO = byObserver (s.alive ∙ a) m (kO a m h k f t) k f t (omega arith)
-  covered-map l l' j i w w' n n' (byCrash a d) ww s kH kO = byCrash (s.alive ∙ a) (omega arith)
+  covered-map l l' j i w w' n n' (by_heartbeat m h k f t d) ww s k_h k_o = by_heartbeat m (k_h m h k f t) k f t (omega arith)
+  covered-map l l' j i w w' n n' (by_timer a o d) ww s k_h k_o = by_timer (s.alive ∙ a) (s.observer ∙ o) (omega (arith, s.heartbeat))
+  covered-map l l' j i w w' n n' (by_observer a m h k f t d) ww s k_h k_o = by_observer (s.alive ∙ a) m (k_o a m h k f t) k f t (omega arith)
+  covered-map l l' j i w w' n n' (by_crash a d) ww s k_h k_o = by_crash (s.alive ∙ a) (omega arith)
 
   pub answered-map : (s s' : View) → Answered s → ((j : ℕ) → Live s' j → Live s j) → ((j : ℕ) → (s'.node j).emitter ≡ (s.node j).emitter)
       → ((j : ℕ) → (s'.node j).observer ≡ (s.node j).observer)

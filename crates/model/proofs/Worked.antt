@@ -8,21 +8,21 @@ use mathlib.Core.Option.{none, some}
 use Prim.Native.Nat.{ℕ, suc, ◌+◌, ◌≤◌, ◌<◌}
 use native.Mathlib.Omega.{arith}
 use lib.ListN.{get_or}
-use Rattle.ring.specs.Ring.{keep, numbers, among, eachOnce, listed, listing, unlisting, merging, unlisted, passing, round, place, ahead}
-use Rattle.ring.specs.Ring.{firstUnlisted, back, next, count, powers, jumps, targets, listingAll}
+use Rattle.ring.specs.Ring.{keep, numbers, among, each_once, listed, listing, unlisting, merging, unlisted, passing, round, place, ahead}
+use Rattle.ring.specs.Ring.{first_unlisted, back, next, count, powers, jumps, targets, listing_all}
 use Rattle.node.specs.declared.Node.{Node}
-use Rattle.node.specs.Node.{due, R, reports, opening, learnt, onHeartbeat, onObserver, onReport, onHeartbeatDue, onMessage, leaving}
-use Rattle.logline.specs.Line.{letterR, letterK}
-use Rattle.model.specs.Platform.{alive, survivors, start, crashEntries, messageEntries, timerEntry, timerEntries, pending, earlier, first, up_to}
-use Rattle.model.specs.Platform.{InFlight, State, message, messageAt, nextSurvivor, survivorBefore, crashedList}
-use Rattle.model.specs.Platform.{nextEvent, delayIn, delayOf, numbered, node_of, taken, without, received, apply, fits, tried, try, left, steps, after}
-use Rattle.plans.specs.Plan.{Crash, Plan, within, startRanges, longEnough, crashRange, risingFrom, rising, later, hits, noneTwice, crashOrder}
-use Rattle.plans.specs.Plan.{withCrashed, ringOrder, order_of, ringTest, ringCount, ringRange, delayOrder, fewDelays, every, crashTest, delayTest, planTest}
+use Rattle.node.specs.Node.{due, R, reports, opening, learnt, on_heartbeat, on_observer, on_report, on_heartbeat_due, on_message, leaving}
+use Rattle.logline.specs.Line.{letter_r, letter_k}
+use Rattle.model.specs.Platform.{alive, survivors, start, crash_entries, message_entries, timer_entry, timer_entries, pending, earlier, first, up_to}
+use Rattle.model.specs.Platform.{InFlight, State, message, message_at, next_survivor, survivor_before, crashed_list}
+use Rattle.model.specs.Platform.{next_event, delay_in, delay_of, numbered, node_of, taken, without, received, apply, fits, tried, try, left, steps, after}
+use Rattle.plans.specs.Plan.{Crash, Plan, within, start_ranges, long_enough, crash_range, rising_from, rising, later, hits, none_twice, crash_order}
+use Rattle.plans.specs.Plan.{with_crashed, ring_order, order_of, ring_test, ring_count, ring_range, delay_order, few_delays, every, crash_test, delay_test, plan_test}
 use Rattle.plans.specs.Plain.{Plain}
 use Rattle.plans.proofs.Facts.{plan-plain}
 use Rattle.model.specs.Range.{EndsInE, NotBefore}
-use Rattle.model.specs.Lines.{line, other_of, moves, messageDeed, deed_of, deedLines, eventLines}
-use Rattle.model.specs.Claims.{Safe, S, settledBy, Spaced, NoneLeftBefore, SettledAt, Settles, joinedBy, NoneLeftBy, JoinedAt, Joins, completeBy}
+use Rattle.model.specs.Lines.{line, other_of, moves, message_deed, deed_of, deed_lines, event_lines}
+use Rattle.model.specs.Claims.{Safe, S, settled_by, Spaced, NoneLeftBefore, SettledAt, Settles, joined_by, NoneLeftBy, JoinedAt, Joins, complete_by}
 use Rattle.model.specs.Claims.{Completes}
 use Rattle.model.proofs.NextEvent.{Best, best}
 use Rattle.model.proofs.RangesKept.{after-range}
@@ -56,22 +56,22 @@ end_of ring k = let a : Node = node_of (after (four ring) 200) k in a.emitter �
 pub record Ends (ring : List ℕ) (fields : List (List ℕ)) : Type 0 where
   pub nodes : map (end_of ring) (0 ∷ 1 ∷ 3 ∷ []) ≡ fields
   pub done : (after (four ring) 200).done ≡ 1
-  pub by : settledBy (four ring) 0 ≡ 17
-  pub end : nextEvent (four ring) (after (four ring) 200) ≡ none
+  pub by : settled_by (four ring) 0 ≡ 17
+  pub end : next_event (four ring) (after (four ring) 200) ≡ none
 
 -- nodes 0, 1 and 3 list node 2, and are neighbours in the ring 0, 1, 3; in the shuffled one, in the ring 0, 3, 1
 pub four-ends : Ends [] ((3 ∷ 1 ∷ 4 ∷ []) ∷ (0 ∷ 3 ∷ 4 ∷ []) ∷ (1 ∷ 0 ∷ 4 ∷ []) ∷ [])
     × Ends shuffled ((1 ∷ 3 ∷ 4 ∷ []) ∷ (3 ∷ 0 ∷ 4 ∷ []) ∷ (0 ∷ 1 ∷ 4 ∷ []) ∷ [])
-unfolding four end_of keep numbers listed listing unlisting merging unlisted passing round place ahead firstUnlisted back next count powers jumps
-    targets reports opening learnt onHeartbeat onObserver onReport onHeartbeatDue leaving onMessage ringOrder order_of hits among alive survivors start
-    crashEntries messageEntries timerEntry timerEntries pending earlier first up_to nextEvent delayIn delayOf numbered taken without received apply
-    fits tried try left steps after S settledBy
+unfolding four end_of keep numbers listed listing unlisting merging unlisted passing round place ahead first_unlisted back next count powers jumps
+    targets reports opening learnt on_heartbeat on_observer on_report on_heartbeat_due leaving on_message ring_order order_of hits among alive survivors start
+    crash_entries message_entries timer_entry timer_entries pending earlier first up_to next_event delay_in delay_of numbered taken without received apply
+    fits tried try left steps after S settled_by
 four-ends =
     (record { nodes = refl; done = refl; by = refl; end = refl }, record { nodes = refl; done = refl; by = refl; end = refl })
 
 pub four-plan : EndsInE (four []) × EndsInE (four shuffled)
-unfolding four planTest startRanges within longEnough ringTest ringCount ringRange crashTest every crashRange crashOrder rising
-    risingFrom noneTwice eachOnce hits among delayTest delayOrder fewDelays
+unfolding four plan_test start_ranges within long_enough ring_test ring_count ring_range crash_test every crash_range crash_order rising
+    rising_from none_twice each_once hits among delay_test delay_order few_delays
 four-plan = (plan-ends (four []) refl refl, plan-ends (four shuffled) refl refl)
 
 -- the same by the theorem: its hypotheses are met
@@ -122,8 +122,8 @@ pub record Rejoins (ring : List ℕ) (events : ℕ) (early late : List (List ℕ
   pub tick : (after (trip ring) events).last ≡ 11
   pub nodes : map (neighbours ring 200) (0 ∷ 4 ∷ 5 ∷ []) ≡ late
   pub done : (after (trip ring) 200).done ≡ 3
-  pub by : joinedBy (trip ring) 2 ≡ 14
-  pub end : nextEvent (trip ring) (after (trip ring) 200) ≡ none
+  pub by : joined_by (trip ring) 2 ≡ 14
+  pub end : next_event (trip ring) (after (trip ring) 200) ≡ none
 
 -- the neighbours of 0, 4 and 5 in the ring 0, 4, 5
 abbrev pub rejoined : List (List ℕ)
@@ -132,18 +132,18 @@ rejoined = (5 ∷ 4 ∷ []) ∷ (0 ∷ 5 ∷ []) ∷ (4 ∷ 0 ∷ []) ∷ []
 -- node 4, in the mixed ring node 5, has come to observe the survivor before it, whose observer is still a crashed node; then all are joined
 pub trip-ends : Rejoins [] 81 ((5 ∷ 1 ∷ []) ∷ (0 ∷ 5 ∷ []) ∷ (4 ∷ 0 ∷ []) ∷ []) rejoined
     × Rejoins mixed 82 ((5 ∷ 4 ∷ []) ∷ (0 ∷ 1 ∷ []) ∷ (4 ∷ 0 ∷ []) ∷ []) rejoined
-unfolding trip neighbours keep numbers listed listing unlisting merging unlisted passing round place ahead firstUnlisted back next count powers jumps
-    targets reports opening learnt onHeartbeat onObserver onReport onHeartbeatDue leaving onMessage ringOrder order_of hits among alive start
-    crashEntries messageEntries timerEntry timerEntries pending earlier first up_to nextEvent delayIn delayOf numbered taken without received apply
-    fits tried try left steps after joinedBy
+unfolding trip neighbours keep numbers listed listing unlisting merging unlisted passing round place ahead first_unlisted back next count powers jumps
+    targets reports opening learnt on_heartbeat on_observer on_report on_heartbeat_due leaving on_message ring_order order_of hits among alive start
+    crash_entries message_entries timer_entry timer_entries pending earlier first up_to next_event delay_in delay_of numbered taken without received apply
+    fits tried try left steps after joined_by
 trip-ends = (
   record { not_yet = refl; tick = refl; nodes = refl; done = refl; by = refl; end = refl },
   record { not_yet = refl; tick = refl; nodes = refl; done = refl; by = refl; end = refl },
 )
 
 pub trip-plan : EndsInE (trip []) × EndsInE (trip mixed)
-unfolding trip planTest startRanges within longEnough ringTest ringCount ringRange crashTest every crashRange crashOrder rising
-    risingFrom later noneTwice eachOnce hits among delayTest delayOrder fewDelays
+unfolding trip plan_test start_ranges within long_enough ring_test ring_count ring_range crash_test every crash_range crash_order rising
+    rising_from later none_twice each_once hits among delay_test delay_order few_delays
 trip-plan = (plan-ends (trip []) refl refl, plan-ends (trip mixed) refl refl)
 
 -- the same by the theorem: its hypotheses are met
@@ -167,10 +167,10 @@ pub trip-joins : (j : ℕ) → j < 6
 trip-joins j h =
     (joins [] _ _ _ trip-plan.0 trip-ends.0 j h, joins mixed _ _ _ trip-plan.1 trip-ends.1 j h)
 
-next-is-4 : nextSurvivor (trip []) (after (trip []) 81).done 0 ≡ 4
-unfolding trip keep numbers listed listing unlisting merging unlisted passing round place ahead firstUnlisted back next count powers jumps targets
-    reports opening learnt onHeartbeat onObserver onReport onHeartbeatDue leaving onMessage ringOrder order_of hits among alive nextSurvivor start
-    crashEntries messageEntries timerEntry timerEntries pending earlier first up_to nextEvent delayIn delayOf numbered taken without received apply
+next-is-4 : next_survivor (trip []) (after (trip []) 81).done 0 ≡ 4
+unfolding trip keep numbers listed listing unlisting merging unlisted passing round place ahead first_unlisted back next count powers jumps targets
+    reports opening learnt on_heartbeat on_observer on_report on_heartbeat_due leaving on_message ring_order order_of hits among alive next_survivor start
+    crash_entries message_entries timer_entry timer_entries pending earlier first up_to next_event delay_in delay_of numbered taken without received apply
     fits tried try left steps after
 next-is-4 = refl
 
@@ -194,34 +194,34 @@ lost =
     record { n = 5; h = 3; w = 5; d = 2; end = 92; ring = []; crashes = at 4 1 ∷ at 5 3 ∷ at 5 4 ∷ []; delays = [] }
 
 -- the lists of nodes 0 and 2, the survivors, after some events
-unfoldable pub twoLists : ℕ → List ℕ
-twoLists events = map (λ k. (node_of (after lost events) k).list) (0 ∷ 2 ∷ [])
+unfoldable pub two_lists : ℕ → List ℕ
+two_lists events = map (λ k. (node_of (after lost events) k).list) (0 ∷ 2 ∷ [])
 
 -- node 0 lists 3 and 4, node 2 also 1; by the 54th event, a heartbeat of node 2 at tick 24, node 0 lists it too, but has no report of it
 pub record Brought : Type 0 where
-  pub short : twoLists 53 ≡ 24 ∷ 26 ∷ []
-  pub heard : twoLists 54 ≡ 26 ∷ 26 ∷ []
+  pub short : two_lists 53 ≡ 24 ∷ 26 ∷ []
+  pub heard : two_lists 54 ≡ 26 ∷ 26 ∷ []
   pub tick : (after lost 54).last ≡ 24
   pub unreported : (node_of (after lost 200) 0).mark ≡ 24
-  pub full : twoLists 200 ≡ 26 ∷ 26 ∷ []
+  pub full : two_lists 200 ≡ 26 ∷ 26 ∷ []
   pub done : (after lost 200).done ≡ 3
-  pub by : completeBy lost 2 ≡ 42
-  pub end : nextEvent lost (after lost 200) ≡ none
+  pub by : complete_by lost 2 ≡ 42
+  pub end : next_event lost (after lost 200) ≡ none
 
 pub lost-ends : Brought
-unfolding lost twoLists keep numbers listed listing unlisting merging unlisted passing round place ahead firstUnlisted back next count powers jumps
-    targets reports opening learnt onHeartbeat onObserver onReport onHeartbeatDue leaving onMessage ringOrder order_of hits among alive survivors start
-    crashEntries messageEntries timerEntry timerEntries pending earlier first up_to nextEvent delayIn delayOf numbered taken without received apply
-    fits tried try left steps after joinedBy completeBy
+unfolding lost two_lists keep numbers listed listing unlisting merging unlisted passing round place ahead first_unlisted back next count powers jumps
+    targets reports opening learnt on_heartbeat on_observer on_report on_heartbeat_due leaving on_message ring_order order_of hits among alive survivors start
+    crash_entries message_entries timer_entry timer_entries pending earlier first up_to next_event delay_in delay_of numbered taken without received apply
+    fits tried try left steps after joined_by complete_by
 lost-ends = record { short = refl; heard = refl; tick = refl; unreported = refl; full = refl; done = refl; by = refl; end = refl }
 
 pub lost-plan : EndsInE lost
-unfolding lost planTest startRanges within longEnough ringTest ringCount ringRange crashTest every crashRange crashOrder rising
-    risingFrom later noneTwice eachOnce hits among delayTest delayOrder fewDelays
+unfolding lost plan_test start_ranges within long_enough ring_test ring_count ring_range crash_test every crash_range crash_order rising
+    rising_from later none_twice each_once hits among delay_test delay_order few_delays
 lost-plan = plan-ends lost refl refl
 
 -- the same by the theorem: its hypotheses are met
-pub lost-completes : (j : ℕ) → j < 5 → alive lost (after lost 200).done j ≡ true → (node_of (after lost 200) j).list ≡ crashedList lost 3
+pub lost-completes : (j : ℕ) → j < 5 → alive lost (after lost 200).done j ≡ true → (node_of (after lost 200) j).list ≡ crashed_list lost 3
 unfolding Best lost NoneLeftBy NoneLeftBefore
 lost-completes j h l =
     let pl : Plain lost = lost-plan.plain in
@@ -229,7 +229,7 @@ lost-completes j h l =
     let over : NotBefore lost s 93 93 93 = subst (Best lost pl s) lost-ends.end (best lost pl s) in
     let left : NoneLeftBefore lost s 43 = λ e m. omega (arith, none-left-before lost pl s 93 over e m) in
     (completing lost lost-plan 200).complete 2 lost-ends.done (subst (NoneLeftBy lost s) (sym lost-ends.by) left) j h l
-    ∙ ap (crashedList lost) lost-ends.done
+    ∙ ap (crashed_list lost) lost-ends.done
 
 -- ---- a file in which a node leaves its emitter by report: P,9,3,10,7,47 with six crashes. Node 6 takes node 2 at tick 46, by its expired
 -- watch; the 167th event, at tick 47, is a report of node 2
@@ -240,8 +240,8 @@ nine =
     record { n = 9; h = 3; w = 10; d = 7; end = 47; ring = []; crashes = at 2 4 ∷ at 2 8 ∷ at 10 2 ∷ at 11 5 ∷ at 15 1 ∷ at 28 3 ∷ []; delays = [] }
 
 pub nine-plan : EndsInE nine
-unfolding nine planTest startRanges within longEnough ringTest ringCount ringRange crashTest every crashRange crashOrder rising
-    risingFrom later noneTwice eachOnce hits among delayTest delayOrder fewDelays
+unfolding nine plan_test start_ranges within long_enough ring_test ring_count ring_range crash_test every crash_range crash_order rising
+    rising_from later none_twice each_once hits among delay_test delay_order few_delays
 nine-plan = plan-ends nine refl refl
 
 -- node 6 after some events
@@ -249,24 +249,24 @@ unfoldable pub six : ℕ → Node
 six e = node_of (after nine e) 6
 
 -- kind, receiver and subject of the first message in flight
-unfoldable pub firstIn : State → List ℕ
-firstIn s = let m : InFlight = messageAt s 0 in m.kind ∷ m.to ∷ m.subject ∷ []
+unfoldable pub first_in : State → List ℕ
+first_in s = let m : InFlight = message_at s 0 in m.kind ∷ m.to ∷ m.subject ∷ []
 
 -- the report moves node 6 on to node 1, the next one back, and gives that 2 × W from tick 47
 pub record SixLeaves : Type 0 where
   pub observes-2 : six 166 ≡ record { emitter = 2; observer = 7; watch = due 66; heartbeat = due 48; list = 56; mark = 56 }
-  pub message-next : nextEvent nine (after nine 166) ≡ some (record { tick = 47; event = message 0 })
-  pub report-of-2 : firstIn (after nine 166) ≡ R ∷ 6 ∷ 2 ∷ []
+  pub message-next : next_event nine (after nine 166) ≡ some (record { tick = 47; event = message 0 })
+  pub report-of-2 : first_in (after nine 166) ≡ R ∷ 6 ∷ 2 ∷ []
   pub observes-1 : six 167 ≡ record { emitter = 1; observer = 7; watch = due 67; heartbeat = due 48; list = 60; mark = 60 }
   -- and it passes node 2 alone, the one just left: nodes 3, 4 and 5 were passed in moves before
-  pub lines : eventLines nine (after nine 166) (after nine 167) (record { tick = 47; event = message 0 })
-      ≡ line letterR 47 6 2 60 ∷ line letterK 47 6 1 60 ∷ []
+  pub lines : event_lines nine (after nine 166) (after nine 167) (record { tick = 47; event = message 0 })
+      ≡ line letter_r 47 6 2 60 ∷ line letter_k 47 6 1 60 ∷ []
 
 pub six-leaves : SixLeaves
-unfolding nine six firstIn keep numbers listed listing unlisting merging unlisted passing round place ahead firstUnlisted back next count powers jumps
-    targets reports learnt opening onHeartbeat onObserver onReport onHeartbeatDue leaving onMessage ringOrder order_of hits among alive survivors start
-    crashEntries messageEntries timerEntry timerEntries pending earlier first up_to nextEvent delayIn delayOf numbered taken without received apply
-    fits tried try left steps after other_of moves messageDeed deed_of deedLines
+unfolding nine six first_in keep numbers listed listing unlisting merging unlisted passing round place ahead first_unlisted back next count powers jumps
+    targets reports learnt opening on_heartbeat on_observer on_report on_heartbeat_due leaving on_message ring_order order_of hits among alive survivors start
+    crash_entries message_entries timer_entry timer_entries pending earlier first up_to next_event delay_in delay_of numbered taken without received apply
+    fits tried try left steps after other_of moves message_deed deed_of deed_lines
 six-leaves = record { observes-2 = refl; message-next = refl; report-of-2 = refl; observes-1 = refl; lines = refl }
 
 -- ---- a file with W one below H + D: P,3,2,2,1,9 and C,1,0. At tick 2 node 2 lists node 1, which is live; at the end each of the two survivors
@@ -275,34 +275,34 @@ six-leaves = record { observes-2 = refl; message-next = refl; report-of-2 = refl
 unfoldable pub short : Plan
 short = record { n = 3; h = 2; w = 2; d = 1; end = 9; ring = []; crashes = record { tick = 1; node = 0 } ∷ []; delays = [] }
 
-abbrev shortEnd : State
-shortEnd = after short 40
+abbrev short_end : State
+short_end = after short 40
 
 pub record ShortEnds : Type 0 where
   -- a run file may hold it, and one tick more would be enough
-  pub taken : planTest short ≡ true
+  pub taken : plan_test short ≡ true
   pub one_less : short.w + 1 ≡ short.h + short.d
-  pub done : shortEnd.done ≡ 1
+  pub done : short_end.done ≡ 1
   -- nodes 1 and 2 are live, and 1 lists 0 and 2 and observes itself
-  pub live-1 : alive short shortEnd.done 1 ≡ true
-  pub live-2 : alive short shortEnd.done 2 ≡ true
-  pub list : (node_of shortEnd 1).list ≡ 5
-  pub lists-2 : listed (node_of shortEnd 1).list 2 ≡ true
-  pub emitter : (node_of shortEnd 1).emitter ≡ 1
+  pub live-1 : alive short short_end.done 1 ≡ true
+  pub live-2 : alive short short_end.done 2 ≡ true
+  pub list : (node_of short_end 1).list ≡ 5
+  pub lists-2 : listed (node_of short_end 1).list 2 ≡ true
+  pub emitter : (node_of short_end 1).emitter ≡ 1
   -- where it should list 0 alone and observe 2
-  pub dead : crashedList short shortEnd.done ≡ 1
-  pub before : survivorBefore short shortEnd.done 1 ≡ 2
-  pub settled : settledBy short 0 ≡ 6
-  pub joined : joinedBy short 0 ≡ 6
-  pub complete : completeBy short 0 ≡ 9
-  pub end : nextEvent short shortEnd ≡ none
+  pub dead : crashed_list short short_end.done ≡ 1
+  pub before : survivor_before short short_end.done 1 ≡ 2
+  pub settled : settled_by short 0 ≡ 6
+  pub joined : joined_by short 0 ≡ 6
+  pub complete : complete_by short 0 ≡ 9
+  pub end : next_event short short_end ≡ none
 
 pub short-ends : ShortEnds
-unfolding short keep numbers listed listing unlisting merging unlisted passing round place ahead firstUnlisted back next count powers jumps targets
-    reports opening learnt onHeartbeat onObserver onReport onHeartbeatDue leaving onMessage ringOrder order_of hits among alive survivors start
-    crashEntries messageEntries timerEntry timerEntries pending earlier first up_to nextEvent delayIn delayOf numbered taken without received apply
-    fits tried try left steps after S settledBy joinedBy completeBy survivorBefore crashedList withCrashed listingAll
-    planTest startRanges within ringTest crashTest every crashRange crashOrder rising risingFrom noneTwice eachOnce delayTest delayOrder fewDelays
+unfolding short keep numbers listed listing unlisting merging unlisted passing round place ahead first_unlisted back next count powers jumps targets
+    reports opening learnt on_heartbeat on_observer on_report on_heartbeat_due leaving on_message ring_order order_of hits among alive survivors start
+    crash_entries message_entries timer_entry timer_entries pending earlier first up_to next_event delay_in delay_of numbered taken without received apply
+    fits tried try left steps after S settled_by joined_by complete_by survivor_before crashed_list with_crashed listing_all
+    plan_test start_ranges within ring_test crash_test every crash_range crash_order rising rising_from none_twice each_once delay_test delay_order few_delays
 short-ends = record {
   taken = refl;
   one_less = refl;
@@ -321,7 +321,7 @@ short-ends = record {
 }
 
 -- so W at least H + D is needed for each of the four claims
-pub none-holds : (Safe short shortEnd → ⊥) × (Settles short shortEnd → ⊥) × (Joins short shortEnd → ⊥) × (Completes short shortEnd → ⊥)
+pub none-holds : (Safe short short_end → ⊥) × (Settles short short_end → ⊥) × (Joins short short_end → ⊥) × (Completes short short_end → ⊥)
 unfolding Best short Spaced NoneLeftBy NoneLeftBefore
 none-holds = (
   λ h. true≢false (sym f.live-2 ∙ h.unlisted 1 2 f.lists-2),
@@ -339,8 +339,8 @@ none-holds = (
     spaced-1 : Spaced short 1
     spaced-1 i l = absurd (omega arith)
 
-    over : NotBefore short shortEnd 10 10 10
-    over = subst (Best short pl shortEnd) f.end (best short pl shortEnd)
+    over : NotBefore short short_end 10 10 10
+    over = subst (Best short pl short_end) f.end (best short pl short_end)
 
-    by : {u v : ℕ} → v ≡ u → u ≤ 10 → NoneLeftBefore short shortEnd v
-    by e l x m = omega (arith, none-left-before short pl shortEnd 10 over x m)
+    by : {u v : ℕ} → v ≡ u → u ≤ 10 → NoneLeftBefore short short_end v
+    by e l x m = omega (arith, none-left-before short pl short_end 10 over x m)

@@ -4,7 +4,7 @@
 use Rattle.std.specs.Prelude.{◌≡◌, true, false, ℕ, suc, ◌+◌, ◌-◌, ◌*◌, ◌^◌, ◌≤◌, ◌<◌}
 use mathlib.Core.List.{List, Memᴰ}
 use Rattle.ring.specs.Ring.{listed, jumps}
-use Rattle.model.specs.Platform.{State, Entry, crashEntry, alive, survivors, nextSurvivor, survivorBefore, crashedList, node_of, pending, steps, after}
+use Rattle.model.specs.Platform.{State, Entry, crash_entry, alive, survivors, next_survivor, survivor_before, crashed_list, node_of, pending, steps, after}
 use Rattle.plans.specs.Plain.{row_at}
 use Rattle.model.specs.Range.{Sound, InRange}
 use Rattle.plans.specs.Plan.{Crash, Plan}
@@ -16,7 +16,7 @@ pub record CrashedAmong (p : Plan) (es : List Entry) (k : ℕ) : Type 0 where
   pub row : Crash
   pub planned : Memᴰ row p.crashes
   pub node : row.node ≡ k
-  pub among : Memᴰ (crashEntry row) es
+  pub among : Memᴰ (crash_entry row) es
 
 -- after these events, the nodes that `alive` calls dead are exactly those
 pub record CrashedAre (p : Plan) (es : List Entry) (s : State) : Type 0 where
@@ -45,12 +45,12 @@ unfoldable pub S : Plan → ℕ → ℕ
 S p m = p.w + (K m + 2) * p.d
 
 -- the tick until which S is counted from the crash of C line i: its survivors are those of the first i + 1 lines
-unfoldable pub settledBy : Plan → ℕ → ℕ
-settledBy p i = (row_at p i).tick + S p (survivors p (suc i))
+unfoldable pub settled_by : Plan → ℕ → ℕ
+settled_by p i = (row_at p i).tick + S p (survivors p (suc i))
 
 -- Each of the first k crashes came at least S ticks after the one before.
 unfoldable pub Spaced : Plan → ℕ → Type 0
-Spaced p k = (i : ℕ) → suc i < k → settledBy p i ≤ (row_at p (suc i)).tick
+Spaced p k = (i : ℕ) → suc i < k → settled_by p i ≤ (row_at p (suc i)).tick
 
 -- No event due before u is left: planned crashes, messages and timers of live nodes, those beyond the end tick too.
 unfoldable pub NoneLeftBefore : Plan → State → ℕ → Type 0
@@ -58,21 +58,21 @@ NoneLeftBefore p s u = (e : Entry) → Memᴰ e (pending p s) → u ≤ e.tick
 
 -- node j lists exactly the crashed nodes, observes the survivor before it and emits to the next one
 pub record SettledAt (p : Plan) (s : State) (j : ℕ) : Type 0 where
-  pub list : (node_of s j).list ≡ crashedList p s.done
-  pub emitter : (node_of s j).emitter ≡ survivorBefore p s.done j
-  pub observer : (node_of s j).observer ≡ nextSurvivor p s.done j
+  pub list : (node_of s j).list ≡ crashed_list p s.done
+  pub emitter : (node_of s j).emitter ≡ survivor_before p s.done j
+  pub observer : (node_of s j).observer ≡ next_survivor p s.done j
 
 -- Where i + 1 crashes are done, each at least S ticks after the one before, and S ticks have passed since the last, every
 -- survivor is settled.
 pub record Settles (p : Plan) (s : State) : Type 0 where
-  pub settled : (i : ℕ) → s.done ≡ suc i → Spaced p (suc i) → NoneLeftBefore p s (settledBy p i)
+  pub settled : (i : ℕ) → s.done ≡ suc i → Spaced p (suc i) → NoneLeftBefore p s (settled_by p i)
       → (j : ℕ) → j < p.n → alive p s.done j ≡ true → SettledAt p s j
 
 -- ---- request 106: 'many deaths close together', however close
 
 -- c + 2 × W × f + D, where C line i is the last one done: c is its tick, and f, 'nodes crashed in all', is i + 1
-unfoldable pub joinedBy : Plan → ℕ → ℕ
-joinedBy p i = (row_at p i).tick + 2 * p.w * suc i + p.d
+unfoldable pub joined_by : Plan → ℕ → ℕ
+joined_by p i = (row_at p i).tick + 2 * p.w * suc i + p.d
 
 -- No event due by u is left, as from the end of tick u on.
 unfoldable pub NoneLeftBy : Plan → State → ℕ → Type 0
@@ -80,25 +80,25 @@ NoneLeftBy p s u = NoneLeftBefore p s (suc u)
 
 -- node j's 'emitter and observer are the neighbouring survivors'
 pub record JoinedAt (p : Plan) (s : State) (j : ℕ) : Type 0 where
-  pub emitter : (node_of s j).emitter ≡ survivorBefore p s.done j
-  pub observer : (node_of s j).observer ≡ nextSurvivor p s.done j
+  pub emitter : (node_of s j).emitter ≡ survivor_before p s.done j
+  pub observer : (node_of s j).observer ≡ next_survivor p s.done j
 
 -- Where i + 1 crashes are done, whenever they came, and no event due by that tick is left, every survivor's emitter and observer are
 -- the neighbouring survivors.
 pub record Joins (p : Plan) (s : State) : Type 0 where
-  pub joined : (i : ℕ) → s.done ≡ suc i → NoneLeftBy p s (joinedBy p i)
+  pub joined : (i : ℕ) → s.done ≡ suc i → NoneLeftBy p s (joined_by p i)
       → (j : ℕ) → j < p.n → alive p s.done j ≡ true → JoinedAt p s j
 
 -- ---- request 107: then the lists 'all equal the crashed nodes'
 
 -- (m − 1) × (H + D) ticks 'after the bound of #106', where C line i is the last one done and m nodes survive
-unfoldable pub completeBy : Plan → ℕ → ℕ
-completeBy p i = joinedBy p i + (survivors p (suc i) - 1) * (p.h + p.d)
+unfoldable pub complete_by : Plan → ℕ → ℕ
+complete_by p i = joined_by p i + (survivors p (suc i) - 1) * (p.h + p.d)
 
 -- Where i + 1 crashes are done, whenever they came, and no event due by that tick is left, every survivor lists exactly the crashed nodes.
 pub record Completes (p : Plan) (s : State) : Type 0 where
-  pub complete : (i : ℕ) → s.done ≡ suc i → NoneLeftBy p s (completeBy p i)
-      → (j : ℕ) → j < p.n → alive p s.done j ≡ true → (node_of s j).list ≡ crashedList p s.done
+  pub complete : (i : ℕ) → s.done ≡ suc i → NoneLeftBy p s (complete_by p i)
+      → (j : ℕ) → j < p.n → alive p s.done j ≡ true → (node_of s j).list ≡ crashed_list p s.done
 
 -- ---- nothing that the rules lead to is out of range, whatever W
 

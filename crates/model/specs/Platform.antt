@@ -5,9 +5,9 @@ use Rattle.std.proofs.Math.Option.{Option, none, some}
 use Rattle.ring.specs.Ring.{keep, numbers, round, place, none as nobody}
 use Rattle.node.specs.declared.Node.{Node}
 use Rattle.node.specs.declared.Message.{Message}
-use Rattle.node.specs.Node.{Turn, silent, alone, opening, onMessage, onWatchDue, onHeartbeatDue}
-use Rattle.plans.specs.Plan.{Crash, Delay, Plan, hits, withCrashed, order_of}
-use Rattle.limits.specs.Limits.{mostInFlight, logRoom}
+use Rattle.node.specs.Node.{Turn, silent, alone, opening, on_message, on_watch_due, on_heartbeat_due}
+use Rattle.plans.specs.Plan.{Crash, Delay, Plan, hits, with_crashed, order_of}
+use Rattle.limits.specs.Limits.{most_in_flight, log_room}
 
 -- ---- the state
 
@@ -35,12 +35,12 @@ pub record State : Type 0 where
 abbrev pub node_of : State → ℕ → Node
 node_of s x = get_or s.nodes x (alone x 0 0)
 
-abbrev pub noMessage : InFlight
-noMessage = record { number = 0; kind = 0; from = 0; to = 0; subject = 0; due = 0; list = 0 }
+abbrev pub no_message : InFlight
+no_message = record { number = 0; kind = 0; from = 0; to = 0; subject = 0; due = 0; list = 0 }
 
 -- the message in flight at a place
-abbrev pub messageAt : State → ℕ → InFlight
-messageAt s i = get_or s.flight i noMessage
+abbrev pub message_at : State → ℕ → InFlight
+message_at s i = get_or s.flight i no_message
 
 -- ---- who is live, where the first `done` C lines are done
 
@@ -53,16 +53,16 @@ unfoldable pub survivors : Plan → ℕ → ℕ
 survivors p done = length (keep (alive p done) (numbers 0 p.n))
 
 -- the next survivor is the first one ahead in the ring; a lone survivor is it to itself
-unfoldable pub nextSurvivor : Plan → ℕ → ℕ → ℕ
-nextSurvivor p done j = get_or (keep (alive p done) (round (order_of p) (suc (place (order_of p) j)))) 0 nobody
+unfoldable pub next_survivor : Plan → ℕ → ℕ → ℕ
+next_survivor p done j = get_or (keep (alive p done) (round (order_of p) (suc (place (order_of p) j)))) 0 nobody
 
 -- the survivor before is the first one going back
-unfoldable pub survivorBefore : Plan → ℕ → ℕ → ℕ
-survivorBefore p done j = get_or (keep (alive p done) (reverse (round (order_of p) (place (order_of p) j)))) 0 nobody
+unfoldable pub survivor_before : Plan → ℕ → ℕ → ℕ
+survivor_before p done j = get_or (keep (alive p done) (reverse (round (order_of p) (place (order_of p) j)))) 0 nobody
 
 -- the crashed nodes as a dead list
-unfoldable pub crashedList : Plan → ℕ → ℕ
-crashedList p done = withCrashed 0 (take done p.crashes)
+unfoldable pub crashed_list : Plan → ℕ → ℕ
+crashed_list p done = with_crashed 0 (take done p.crashes)
 
 -- ---- opening
 
@@ -88,32 +88,32 @@ abbrev pub entry : ℕ → Event → Entry
 entry t e = record { tick = t; event = e }
 
 -- a C line's event
-abbrev pub crashEntry : Crash → Entry
-crashEntry r = entry r.tick (crash r.node)
+abbrev pub crash_entry : Crash → Entry
+crash_entry r = entry r.tick (crash r.node)
 
 -- 1. crashes planned, by node: C lines rise by tick, then node
-unfoldable pub crashEntries : List Crash → List Entry
-crashEntries [] = []
-crashEntries (r ∷ rs) = crashEntry r ∷ crashEntries rs
+unfoldable pub crash_entries : List Crash → List Entry
+crash_entries [] = []
+crash_entries (r ∷ rs) = crash_entry r ∷ crash_entries rs
 
 -- 2. messages, by message number; i is the place of the first
-unfoldable pub messageEntries : ℕ → List InFlight → List Entry
-messageEntries i [] = []
-messageEntries i (m ∷ ms) = entry m.due (message i) ∷ messageEntries (suc i) ms
+unfoldable pub message_entries : ℕ → List InFlight → List Entry
+message_entries i [] = []
+message_entries i (m ∷ ms) = entry m.due (message i) ∷ message_entries (suc i) ms
 
 -- a timer, where it is on
-unfoldable pub timerEntry : ℕ → Event → List Entry
-timerEntry zero e = []
-timerEntry (suc t) e = entry t e ∷ []
+unfoldable pub timer_entry : ℕ → Event → List Entry
+timer_entry zero e = []
+timer_entry (suc t) e = entry t e ∷ []
 
 -- 3. timers of live nodes, by node, watch before heartbeat; i is the number of the first node
-unfoldable pub timerEntries : Plan → ℕ → ℕ → List Node → List Entry
-timerEntries p done i [] = []
-timerEntries p done i (n ∷ ns) =
-    cond (alive p done i) (timerEntry n.watch (watch i) ++ timerEntry n.heartbeat (heartbeat i)) [] ++ timerEntries p done (suc i) ns
+unfoldable pub timer_entries : Plan → ℕ → ℕ → List Node → List Entry
+timer_entries p done i [] = []
+timer_entries p done i (n ∷ ns) =
+    cond (alive p done i) (timer_entry n.watch (watch i) ++ timer_entry n.heartbeat (heartbeat i)) [] ++ timer_entries p done (suc i) ns
 
 unfoldable pub pending : Plan → State → List Entry
-pending p s = crashEntries (drop s.done p.crashes) ++ (messageEntries 0 s.flight ++ timerEntries p s.done 0 s.nodes)
+pending p s = crash_entries (drop s.done p.crashes) ++ (message_entries 0 s.flight ++ timer_entries p s.done 0 s.nodes)
 
 -- ---- the next event: the first of these in the earliest tick that has one
 
@@ -130,24 +130,24 @@ unfoldable pub up_to : ℕ → Option Entry → Option Entry
 up_to end none = none
 up_to end (some e) = cond (leb e.tick end) (some e) none
 
-unfoldable pub nextEvent : Plan → State → Option Entry
-nextEvent p s = up_to p.end (first (pending p s))
+unfoldable pub next_event : Plan → State → Option Entry
+next_event p s = up_to p.end (first (pending p s))
 
 -- ---- what an event does
 
 -- the delay of a message: that of its L line, or D
-unfoldable pub delayIn : ℕ → List Delay → ℕ → ℕ
-delayIn d [] number = d
-delayIn d (r ∷ rs) number = cond (eqb r.number number) r.delay (delayIn d rs number)
+unfoldable pub delay_in : ℕ → List Delay → ℕ → ℕ
+delay_in d [] number = d
+delay_in d (r ∷ rs) number = cond (eqb r.number number) r.delay (delay_in d rs number)
 
-unfoldable pub delayOf : Plan → ℕ → ℕ
-delayOf p number = delayIn p.d p.delays number
+unfoldable pub delay_of : Plan → ℕ → ℕ
+delay_of p number = delay_in p.d p.delays number
 
 -- the messages that node x sends at tick t, numbered from k on in order of sending, each due at t + its delay
 unfoldable pub numbered : Plan → ℕ → ℕ → ℕ → List Message → List InFlight
 numbered p t x k [] = []
 numbered p t x k (m ∷ ms) =
-    record { number = k; kind = m.kind; from = x; to = m.to; subject = m.subject; due = t + delayOf p k; list = m.list } ∷ numbered p t x (suc k) ms
+    record { number = k; kind = m.kind; from = x; to = m.to; subject = m.subject; due = t + delay_of p k; list = m.list } ∷ numbered p t x (suc k) ms
 
 -- node x has taken a turn at tick t; `rest` is what is left of the messages in flight, and what it sends joins them
 unfoldable pub taken : Plan → State → ℕ → ℕ → List InFlight → Turn → State
@@ -166,14 +166,14 @@ without i l = take i l ++ drop (suc i) l
 -- a message is delivered; to a crashed node it is dropped
 unfoldable pub received : Plan → State → ℕ → InFlight → Turn
 received p s t m =
-    cond (alive p s.done m.to) (onMessage (order_of p) p.w t m.to m.kind m.from m.subject m.list (node_of s m.to))
+    cond (alive p s.done m.to) (on_message (order_of p) p.w t m.to m.kind m.from m.subject m.list (node_of s m.to))
     (silent (node_of s m.to))
 
 unfoldable pub apply : Plan → State → ℕ → Event → State
 apply p s t (crash k) = record { done = suc s.done; last = t; next = s.next; nodes = s.nodes; flight = s.flight }
-apply p s t (message i) = taken p s t (messageAt s i).to (without i s.flight) (received p s t (messageAt s i))
-apply p s t (watch x) = taken p s t x s.flight (onWatchDue (order_of p) p.w t x (node_of s x))
-apply p s t (heartbeat x) = taken p s t x s.flight (onHeartbeatDue p.h t (node_of s x))
+apply p s t (message i) = taken p s t (message_at s i).to (without i s.flight) (received p s t (message_at s i))
+apply p s t (watch x) = taken p s t x s.flight (on_watch_due (order_of p) p.w t x (node_of s x))
+apply p s t (heartbeat x) = taken p s t x s.flight (on_heartbeat_due p.h t (node_of s x))
 
 -- ---- events done
 
@@ -184,14 +184,14 @@ pub data Outcome : Type 0 where
   refused : Outcome
 
 unfoldable pub fits : State → Bool
-fits s = leb (length s.flight) mostInFlight
+fits s = leb (length s.flight) most_in_flight
 
 unfoldable pub tried : Plan → State → Option Entry → Outcome
 tried p s none = ended
 tried p s (some e) = let s' : State = apply p s e.tick e.event in cond (fits s') (did e s') refused
 
 unfoldable pub try : Plan → State → Outcome
-try p s = tried p s (nextEvent p s)
+try p s = tried p s (next_event p s)
 
 unfoldable pub left : State → Outcome → State
 left s (did e s') = s'
@@ -204,18 +204,18 @@ steps p zero s = s
 steps p (suc k) s = steps p k (left s (try p s))
 
 -- how many of k tries do an event: those before the first that does none
-unfoldable pub eventCount : Plan → ℕ → State → ℕ
-eventCount p zero s = zero
-eventCount p (suc k) s = elim (try p s) [ did e s' ↦ suc (eventCount p k s') | ended ↦ zero | refused ↦ zero ]
+unfoldable pub event_count : Plan → ℕ → State → ℕ
+event_count p zero s = zero
+event_count p (suc k) s = elim (try p s) [ did e s' ↦ suc (event_count p k s') | ended ↦ zero | refused ↦ zero ]
 
 -- the events that k tries from s do, in order
-unfoldable pub eventsFrom : Plan → ℕ → State → List Entry
-eventsFrom p zero s = []
-eventsFrom p (suc k) s = elim (try p s) [ did e s' ↦ e ∷ eventsFrom p k s' | ended ↦ [] | refused ↦ [] ]
+unfoldable pub events_from : Plan → ℕ → State → List Entry
+events_from p zero s = []
+events_from p (suc k) s = elim (try p s) [ did e s' ↦ e ∷ events_from p k s' | ended ↦ [] | refused ↦ [] ]
 
 -- the first e events of a file; where it has fewer, all of them
-unfoldable pub firstEvents : Plan → ℕ → List Entry
-firstEvents p e = eventsFrom p e (start p)
+unfoldable pub first_events : Plan → ℕ → List Entry
+first_events p e = events_from p e (start p)
 
 -- the state after them
 unfoldable pub after : Plan → ℕ → State
@@ -230,9 +230,9 @@ pub data Ending : Type 0 where
   finished : Ending
   overfull : Ending
 
-unfoldable pub runAnswer : Plan → ℕ → State → Ending
-runAnswer p zero s = elim (nextEvent p s) [ none ↦ finished | some e ↦ spent ]
-runAnswer p (suc k) s = elim (try p s) [ did e s' ↦ runAnswer p k s' | ended ↦ finished | refused ↦ overfull ]
+unfoldable pub run_answer : Plan → ℕ → State → Ending
+run_answer p zero s = elim (next_event p s) [ none ↦ finished | some e ↦ spent ]
+run_answer p (suc k) s = elim (try p s) [ did e s' ↦ run_answer p k s' | ended ↦ finished | refused ↦ overfull ]
 
 -- a step with a log part of some length; a run with a budget
 pub data SizedCall : Type 0 where
@@ -241,7 +241,7 @@ pub data SizedCall : Type 0 where
 
 -- what a call does to the state
 unfoldable pub called : Plan → SizedCall → State → State
-called p (step room) s = cond (ltb room logRoom) s (left s (try p s))
+called p (step room) s = cond (ltb room log_room) s (left s (try p s))
 called p (run budget) s = steps p budget s
 
 unfoldable pub calls : Plan → List SizedCall → State → State
@@ -250,7 +250,7 @@ calls p (c ∷ cs) s = calls p cs (called p c s)
 
 -- how many events a call asks for: a step not refused by 9 one, a run its budget
 unfoldable pub asks : SizedCall → ℕ
-asks (step room) = cond (ltb room logRoom) 0 1
+asks (step room) = cond (ltb room log_room) 0 1
 asks (run budget) = budget
 
 unfoldable pub asked : List SizedCall → ℕ
@@ -259,4 +259,4 @@ asked (c ∷ cs) = asks c + asked cs
 
 -- e, from the plan and the calls alone: none goes past the last event up to the end tick, nor past one that is refused by 8
 unfoldable pub events : Plan → List SizedCall → ℕ
-events p cs = eventCount p (asked cs) (start p)
+events p cs = event_count p (asked cs) (start p)

@@ -3,10 +3,10 @@
 use Rattle.std.specs.Prelude.{◌≡◌, ◌≢◌, Bool, true, cond, not, ◌&&◌, ℕ, suc, ◌+◌, ◌≤◌, ◌<◌, eqb, leb, ltb, length, drop}
 use mathlib.Core.List.{List, [], ◌∷◌, Memᴰ}
 use Rattle.node.specs.declared.Node.{Node}
-use Rattle.limits.specs.Limits.{mostInFlight, mostNext}
-use Rattle.plans.specs.Plan.{Crash, Plan, planTest}
+use Rattle.limits.specs.Limits.{most_in_flight, most_next}
+use Rattle.plans.specs.Plan.{Crash, Plan, plan_test}
 use Rattle.plans.specs.Plain.{row_at, Plain}
-use Rattle.node.specs.Range.{NodeRange, LiveRange, Known, Carried, nodeTest, liveTest, timersTest, kindTest, carriedTest}
+use Rattle.node.specs.Range.{NodeRange, LiveRange, Known, Carried, node_test, live_test, timers_test, kind_test, carried_test}
 use Rattle.model.specs.Platform.{InFlight, State, alive, node_of}
 
 -- ---- a plan
@@ -49,45 +49,45 @@ pub record Sound (p : Plan) (s : State) : Type 0 where
   pub live : (j : ℕ) → alive p s.done j ≡ true → LiveRange j (node_of s j)
   pub flying : (m : InFlight) → Memᴰ m s.flight → FlightRange p s.last m
   pub rises : Rises 0 s.next s.flight
-  pub few : length s.flight ≤ mostInFlight
+  pub few : length s.flight ≤ most_in_flight
   pub past : NotBefore p s s.last s.last s.last
 
 pub record InRange (p : Plan) (s : State) : Type 0 where
   pub sound : Sound p s
-  pub cap : s.next ≤ mostNext
+  pub cap : s.next ≤ most_next
 
 -- ---- the same as computed tests, for number 7
 
 -- node i, which is a: if it is live, it has nothing about itself, and no timer of it is overdue
-abbrev pub nodeHere : Plan → ℕ → ℕ → ℕ → Node → Bool
-nodeHere p done t i a = nodeTest p.n p.h p.w t a && cond (alive p done i) (liveTest i a && timersTest t a) true
+abbrev pub node_here : Plan → ℕ → ℕ → ℕ → Node → Bool
+node_here p done t i a = node_test p.n p.h p.w t a && cond (alive p done i) (live_test i a && timers_test t a) true
 
 -- the nodes from number i on
-unfoldable pub nodesTest : Plan → ℕ → ℕ → ℕ → List Node → Bool
-nodesTest p done t i [] = true
-nodesTest p done t i (a ∷ ns) = nodeHere p done t i a && nodesTest p done t (suc i) ns
+unfoldable pub nodes_test : Plan → ℕ → ℕ → ℕ → List Node → Bool
+nodes_test p done t i [] = true
+nodes_test p done t i (a ∷ ns) = node_here p done t i a && nodes_test p done t (suc i) ns
 
-unfoldable pub messageTest : Plan → ℕ → InFlight → Bool
-messageTest p t m =
-    kindTest m.kind && (ltb m.from p.n && (ltb m.to p.n && (ltb m.subject p.n
-    && (not (eqb m.from m.to) && (leb t m.due && (leb m.due (t + p.d) && carriedTest p.n m.kind m.list))))))
+unfoldable pub message_test : Plan → ℕ → InFlight → Bool
+message_test p t m =
+    kind_test m.kind && (ltb m.from p.n && (ltb m.to p.n && (ltb m.subject p.n
+    && (not (eqb m.from m.to) && (leb t m.due && (leb m.due (t + p.d) && carried_test p.n m.kind m.list))))))
 
 -- messages whose numbers rise from lo on and are below hi
-unfoldable pub flightTest : Plan → ℕ → ℕ → ℕ → List InFlight → Bool
-flightTest p t lo hi [] = leb lo hi
-flightTest p t lo hi (m ∷ ms) = leb lo m.number && (messageTest p t m && flightTest p t (suc m.number) hi ms)
+unfoldable pub flight_test : Plan → ℕ → ℕ → ℕ → List InFlight → Bool
+flight_test p t lo hi [] = leb lo hi
+flight_test p t lo hi (m ∷ ms) = leb lo m.number && (message_test p t m && flight_test p t (suc m.number) hi ms)
 
 -- the first undone crash is not before t
-unfoldable pub undoneTest : ℕ → List Crash → Bool
-undoneTest t [] = true
-undoneTest t (r ∷ rs) = leb t r.tick
+unfoldable pub undone_test : ℕ → List Crash → Bool
+undone_test t [] = true
+undone_test t (r ∷ rs) = leb t r.tick
 
-unfoldable pub soundTest : Plan → State → Bool
-soundTest p s =
+unfoldable pub sound_test : Plan → State → Bool
+sound_test p s =
     leb s.done (length p.crashes) && (leb s.last p.end && (eqb (length s.nodes) p.n
-    && (nodesTest p s.done s.last 0 s.nodes && (flightTest p s.last 0 s.next s.flight
-    && (leb (length s.flight) mostInFlight && undoneTest s.last (drop s.done p.crashes))))))
+    && (nodes_test p s.done s.last 0 s.nodes && (flight_test p s.last 0 s.next s.flight
+    && (leb (length s.flight) most_in_flight && undone_test s.last (drop s.done p.crashes))))))
 
 -- what a store holds is in range: a plan that a run file may hold, and a state in range
-unfoldable pub storeTest : Plan → State → Bool
-storeTest p s = planTest p && (soundTest p s && leb s.next mostNext)
+unfoldable pub store_test : Plan → State → Bool
+store_test p s = plan_test p && (sound_test p s && leb s.next most_next)

@@ -11,8 +11,8 @@ use Rattle.ring.proofs.Counts.{length-targets, jumps-count-le, take_row}
 use Rattle.node.specs.declared.Message.{Message}
 use Rattle.node.specs.declared.Node.{Node}
 use Rattle.node.specs.declared.Turned.{Turned}
-use Rattle.node.specs.Node.{Turn, turn, R, message, reports, sending, places, turned, withPassed, relayed}
-use Rattle.limits.specs.Limits.{mostSent}
+use Rattle.node.specs.Node.{Turn, turn, R, message, reports, sending, places, turned, with_passed, relayed}
+use Rattle.limits.specs.Limits.{most_sent}
 
 -- ---- a loop that puts reports
 
@@ -99,11 +99,11 @@ unfolding turned
 turned-count t u e = ap (λ (x : Turned). x.count) e
 
 -- a turn of which it is said how many listed nodes were passed
-pub turned-passed : (t t' : Turned) (n : Node) (ms : List Message) (k : ℕ) → t ≡ turned (sending n ms) → t' ≡ withPassed t k
+pub turned-passed : (t t' : Turned) (n : Node) (ms : List Message) (k : ℕ) → t ≡ turned (sending n ms) → t' ≡ with_passed t k
     → t' ≡ turned (turn n ms k)
-unfolding withPassed turned
-turned-passed t t' n ms k e w = w ∙ ap (λ (x : Turned). withPassed x k) e
+unfolding with_passed turned
+turned-passed t t' n ms k e w = w ∙ ap (λ (x : Turned). with_passed x k) e
 
 pub turned-sends : (t : Turned) (u : Turn) → t ≡ turned u → take t.count t.sent ≡ u.sends
 unfolding turned places
-turned-sends t u e = rw e (take_at u.sends (replicate (mostSent - length u.sends) none) (length u.sends) refl)
+turned-sends t u e = rw e (take_at u.sends (replicate (most_sent - length u.sends) none) (length u.sends) refl)

@@ -11,9 +11,9 @@ use lib.ListN.{length}
 use Rattle.ring.specs.Ring.{listed, listing, merging, place, targets}
 use Rattle.node.specs.declared.Message.{Message}
 use Rattle.node.specs.declared.Node.{Node}
-use Rattle.node.specs.Node.{Turn, due, H, O, R, message, beat, reports, silent, sending, alone, withObserver, withWatch, withHeartbeat, with_list}
-use Rattle.node.specs.Node.{withMark, turn, ringed, leftList, leftMark, newEmitter, passedOver, moved, leaving}
-use Rattle.node.specs.Node.{opening, learnt, onHeartbeat, onObserver, onReport, onHeartbeatDue, onMessage}
+use Rattle.node.specs.Node.{Turn, due, H, O, R, message, beat, reports, silent, sending, alone, with_observer, with_watch, with_heartbeat, with_list}
+use Rattle.node.specs.Node.{with_mark, turn, ringed, left_list, left_mark, new_emitter, passed_over, moved, leaving}
+use Rattle.node.specs.Node.{opening, learnt, on_heartbeat, on_observer, on_report, on_heartbeat_due, on_message}
 use Rattle.node.specs.Range.{Known}
 
 -- ---- opening
@@ -35,57 +35,57 @@ module _ (order : List ℕ) (h w me : ℕ) where
 
 module _ (w tick me from list : ℕ) (n : Node) where
   -- the list after an H of the emitter: what it carries is added, without the node itself and the sender
-  abbrev pub heardList : ℕ
-  heardList = merging n.list (learnt me from list)
+  abbrev pub heard_list : ℕ
+  heard_list = merging n.list (learnt me from list)
 
   pub data Heard : Turn → Type 0 where
-    renews : n.emitter ≡ from → Heard (silent (with_list (withWatch n (due (tick + w))) heardList))
+    renews : n.emitter ≡ from → Heard (silent (with_list (with_watch n (due (tick + w))) heard_list))
     unheard : n.emitter ≢ from → Heard (silent n)
 
-  pub heard : Heard (onHeartbeat w tick me from list n)
-  unfolding onHeartbeat
+  pub heard : Heard (on_heartbeat w tick me from list n)
+  unfolding on_heartbeat
   heard = go (eqb n.emitter from) refl
     where
-      go : (b : Bool) → eqb n.emitter from ≡ b → Heard (silent (cond b (with_list (withWatch n (due (tick + w))) heardList) n))
+      go : (b : Bool) → eqb n.emitter from ≡ b → Heard (silent (cond b (with_list (with_watch n (due (tick + w))) heard_list) n))
       go true e = renews (eqb-true n.emitter from e)
       go false e = unheard (eqb-false n.emitter from e)
 
 -- ---- message O
 
-pub observed : (tick from : ℕ) (n : Node) → onObserver tick from n ≡ silent (withHeartbeat (withObserver n from) (due tick))
-unfolding onObserver
+pub observed : (tick from : ℕ) (n : Node) → on_observer tick from n ≡ silent (with_heartbeat (with_observer n from) (due tick))
+unfolding on_observer
 observed tick from n = refl
 
 -- ---- leaving the emitter
 
 module _ (order : List ℕ) (w tick me : ℕ) (n : Node) where
   -- what a node sends that has moved: O to the new emitter, then R of the old one to the forward targets
-  abbrev pub movedSends : List Message
-  movedSends = message O (newEmitter order n) 0 ∷ reports n.emitter (targets order (leftList n) (place order me))
+  abbrev pub moved_sends : List Message
+  moved_sends = message O (new_emitter order n) 0 ∷ reports n.emitter (targets order (left_list n) (place order me))
 
   pub data Left : Turn → Type 0 where
-    stops : newEmitter order n ≡ me → Left (turn (alone me (leftList n) (leftMark n)) [] (passedOver order n))
-    moves : newEmitter order n ≢ me → Left (turn (moved w tick (newEmitter order n) n) movedSends (passedOver order n))
+    stops : new_emitter order n ≡ me → Left (turn (alone me (left_list n) (left_mark n)) [] (passed_over order n))
+    moves : new_emitter order n ≢ me → Left (turn (moved w tick (new_emitter order n) n) moved_sends (passed_over order n))
 
   pub left : Left (leaving order w tick me n)
   unfolding leaving
-  left = go (eqb (newEmitter order n) me) refl
+  left = go (eqb (new_emitter order n) me) refl
     where
-      go : (b : Bool) → eqb (newEmitter order n) me ≡ b
-          → Left (cond b (turn (alone me (leftList n) (leftMark n)) [] (passedOver order n))
-          (turn (moved w tick (newEmitter order n) n) movedSends (passedOver order n)))
-      go true e = stops (eqb-true (newEmitter order n) me e)
-      go false e = moves (eqb-false (newEmitter order n) me e)
+      go : (b : Bool) → eqb (new_emitter order n) me ≡ b
+          → Left (cond b (turn (alone me (left_list n) (left_mark n)) [] (passed_over order n))
+          (turn (moved w tick (new_emitter order n) n) moved_sends (passed_over order n)))
+      go true e = stops (eqb-true (new_emitter order n) me e)
+      go false e = moves (eqb-false (new_emitter order n) me e)
 
 -- ---- message R
 
 module _ (order : List ℕ) (w tick me subject : ℕ) (n : Node) where
   -- the node with the subject listed and marked, and what it sends then
-  abbrev pub toldNode : Node
-  toldNode = withMark (with_list n (listing n.list subject)) (listing n.mark subject)
+  abbrev pub told_node : Node
+  told_node = with_mark (with_list n (listing n.list subject)) (listing n.mark subject)
 
-  abbrev pub toldSends : List Message
-  toldSends = reports subject (targets order (listing n.list subject) (place order me))
+  abbrev pub told_sends : List Message
+  told_sends = reports subject (targets order (listing n.list subject) (place order me))
 
   -- a subject that is marked already or the node itself changes nothing; the emitter is left; any other is listed, marked and reported to
   -- the forward targets
@@ -93,14 +93,14 @@ module _ (order : List ℕ) (w tick me subject : ℕ) (n : Node) where
     known : listed n.mark subject ≡ true → Reported (silent n)
     own : subject ≡ me → Reported (silent n)
     leaves : listed n.mark subject ≡ false → subject ≢ me → subject ≡ n.emitter → (u : Turn) → Left order w tick me n u → Reported u
-    relays : listed n.mark subject ≡ false → subject ≢ me → subject ≢ n.emitter → Reported (sending toldNode toldSends)
+    relays : listed n.mark subject ≡ false → subject ≢ me → subject ≢ n.emitter → Reported (sending told_node told_sends)
 
-  pub reported : Reported (onReport order w tick me subject n)
-  unfolding onReport
+  pub reported : Reported (on_report order w tick me subject n)
+  unfolding on_report
   reported = go (listed n.mark subject) (eqb subject me) (eqb subject n.emitter) refl refl refl
     where
       go : (a b c : Bool) → listed n.mark subject ≡ a → eqb subject me ≡ b → eqb subject n.emitter ≡ c
-          → Reported (cond (a || b) (silent n) (cond c (leaving order w tick me n) (sending toldNode toldSends)))
+          → Reported (cond (a || b) (silent n) (cond c (leaving order w tick me n) (sending told_node told_sends)))
       go true b c e f g = known e
       go false true c e f g = own (eqb-true subject me f)
       go false false true e f g = leaves e (eqb-false subject me f) (eqb-true subject n.emitter g) _ (left order w tick me n)
@@ -111,16 +111,16 @@ module _ (order : List ℕ) (w tick me subject : ℕ) (n : Node) where
 module _ (order : List ℕ) (w tick me kind from subject list : ℕ) (n : Node) where
   pub data Messaged : Turn → Type 0 where
     beats : kind ≡ H → (u : Turn) → Heard w tick me from list n u → Messaged u
-    observes : kind ≡ O → Messaged (silent (withHeartbeat (withObserver n from) (due tick)))
+    observes : kind ≡ O → Messaged (silent (with_heartbeat (with_observer n from) (due tick)))
     tells : kind ≢ H → kind ≢ O → (u : Turn) → Reported order w tick me subject n u → Messaged u
 
-  pub messaged : Messaged (onMessage order w tick me kind from subject list n)
-  unfolding onMessage onObserver
+  pub messaged : Messaged (on_message order w tick me kind from subject list n)
+  unfolding on_message on_observer
   messaged = go (eqb kind H) (eqb kind O) refl refl
     where
       go : (a b : Bool) → eqb kind H ≡ a → eqb kind O ≡ b
-          → Messaged (cond a (onHeartbeat w tick me from list n) (cond b (onObserver tick from n) (onReport order w tick me subject n)))
-      go true b e f = beats (eqb-true kind H e) (onHeartbeat w tick me from list n) (heard w tick me from list n)
+          → Messaged (cond a (on_heartbeat w tick me from list n) (cond b (on_observer tick from n) (on_report order w tick me subject n)))
+      go true b e f = beats (eqb-true kind H e) (on_heartbeat w tick me from list n) (heard w tick me from list n)
       go false true e f = observes (eqb-true kind O f)
       go false false e f = tells (eqb-false kind H e) (eqb-false kind O f) _ (reported order w tick me subject n)
 
@@ -131,22 +131,22 @@ other-is-report kind (inr (inr e)) h o = e
 
 -- only a report's subject counts
 pub subject-counts : (order : List ℕ) (w tick me kind from subject list : ℕ) (n : Node) → Known kind
-    → onMessage order w tick me kind from (cond (eqb kind R) subject 0) list n ≡ onMessage order w tick me kind from subject list n
-unfolding onMessage
+    → on_message order w tick me kind from (cond (eqb kind R) subject 0) list n ≡ on_message order w tick me kind from subject list n
+unfolding on_message
 subject-counts order w tick me kind from subject list n (inl e) = rw e
 subject-counts order w tick me kind from subject list n (inr (inl e)) = rw e
 subject-counts order w tick me kind from subject list n (inr (inr e)) = rw e
 
 -- only a heartbeat's list counts
 pub list_counts : (order : List ℕ) (w tick me kind from subject list : ℕ) (n : Node) → Known kind
-    → onMessage order w tick me kind from subject (cond (eqb kind H) list 0) n ≡ onMessage order w tick me kind from subject list n
-unfolding onMessage
+    → on_message order w tick me kind from subject (cond (eqb kind H) list 0) n ≡ on_message order w tick me kind from subject list n
+unfolding on_message
 list_counts order w tick me kind from subject list n (inl e) = rw e
 list_counts order w tick me kind from subject list n (inr (inl e)) = rw e
 list_counts order w tick me kind from subject list n (inr (inr e)) = rw e
 
 -- ---- timers
 
-pub beaten : (h tick : ℕ) (n : Node) → onHeartbeatDue h tick n ≡ sending (withHeartbeat n (due (tick + h))) (beat n.observer n.list ∷ [])
-unfolding onHeartbeatDue
+pub beaten : (h tick : ℕ) (n : Node) → on_heartbeat_due h tick n ≡ sending (with_heartbeat n (due (tick + h))) (beat n.observer n.list ∷ [])
+unfolding on_heartbeat_due
 beaten h tick n = refl

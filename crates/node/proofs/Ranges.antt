@@ -9,7 +9,7 @@ use native.Mathlib.Omega.{arith}
 use borrow.Author.Tests.{eqb-false}
 use lib.ListN.{length}
 use lib.Pow.{pow_pos}
-use Rattle.limits.specs.Limits.{mostNodes, mostSent}
+use Rattle.limits.specs.Limits.{most_nodes, most_sent}
 use Rattle.ring.specs.Ring.{listed, part_of, place, targets, InOrder}
 use Rattle.ring.proofs.Lists.{listing-lt, listing-lists, listing-other, listed-none, merging-lt, merging-keeps, merging-neither}
 use Rattle.ring.proofs.Lists.{part_none, part-more, part-listing}
@@ -19,10 +19,10 @@ use Rattle.ring.proofs.Neighbours.{open-back-below, open-back-other, open-next-b
 use Rattle.ring.proofs.Passed.{from-below}
 use Rattle.node.specs.declared.Message.{Message}
 use Rattle.node.specs.declared.Node.{Node}
-use Rattle.node.specs.Node.{Turn, off, H, O, R, message, reports, silent, leftList, leftMark, newEmitter, passedOver}
-use Rattle.node.specs.Node.{opening, onHeartbeat, onObserver, onReport, onHeartbeatDue, onWatchDue, onMessage}
+use Rattle.node.specs.Node.{Turn, off, H, O, R, message, reports, silent, left_list, left_mark, new_emitter, passed_over}
+use Rattle.node.specs.Node.{opening, on_heartbeat, on_observer, on_report, on_heartbeat_due, on_watch_due, on_message}
 use Rattle.node.specs.Range.{NodeRange, LiveRange, NotOverdue, Known}
-use Rattle.node.proofs.Moves.{Opened, joins, starts-alone, opened, heardList, Heard, renews, unheard, heard, observed}
+use Rattle.node.proofs.Moves.{Opened, joins, starts-alone, opened, heard_list, Heard, renews, unheard, heard, observed}
 use Rattle.node.proofs.Moves.{Left, stops, moves, left, Reported, known, own, leaves, relays, reported, beaten}
 use Rattle.node.proofs.Learning.{learnt-lt, learnt-not-sender, learnt-not-me}
 use Rattle.node.proofs.Sends.{Sendable, carries-none, reports-sendable, left-few, told-few}
@@ -46,7 +46,7 @@ pub record Took (n h w last t me : ℕ) (a : Node) (u : Turn) : Type 0 where
   pub live : LiveRange me u.node
   pub timers : NotOverdue t a → NotOverdue t u.node
   pub sends : (v : Message) → Memᴰ v u.sends → Sendable n me v
-  pub few : length u.sends ≤ mostSent
+  pub few : length u.sends ≤ most_sent
   pub passed : u.passed < n
 
 module _ (n : ℕ) (order : List ℕ) (io : InOrder n order) (me : ℕ) (below : me < n) where
@@ -88,8 +88,8 @@ module _ (n : ℕ) (order : List ℕ) (io : InOrder n order) (me : ℕ) (below :
 
   -- ---- a turn
 
-  module _ (few : n ≤ mostNodes) (h w last t : ℕ) (a : Node) (f : NodeRange n h w last a) (l : LiveRange me a) where
-    order-few : length order ≤ mostNodes
+  module _ (few : n ≤ most_nodes) (h w last t : ℕ) (a : Node) (f : NodeRange n h w last a) (l : LiveRange me a) where
+    order-few : length order ≤ most_nodes
     order-few = rw io.size few
 
     pub silent-took : Took n h w last t me a (silent a)
@@ -103,11 +103,11 @@ module _ (n : ℕ) (order : List ℕ) (io : InOrder n order) (me : ℕ) (below :
           passed = omega arith;
         }
 
-    pub heartbeat-took : (from list : ℕ) → from ≢ me → list < 2 ^ n → Took n h w last t me a (onHeartbeat w t me from list a)
-    heartbeat-took from list ne lN = go (onHeartbeat w t me from list a) (heard w t me from list a)
+    pub heartbeat-took : (from list : ℕ) → from ≢ me → list < 2 ^ n → Took n h w last t me a (on_heartbeat w t me from list a)
+    heartbeat-took from list ne l_n = go (on_heartbeat w t me from list a) (heard w t me from list a)
       where
-        within : heardList w t me from list a < 2 ^ n
-        within = merging-lt n a.list _ f.list (learnt-lt me from list n lN)
+        within : heard_list w t me from list a < 2 ^ n
+        within = merging-lt n a.list _ f.list (learnt-lt me from list n l_n)
 
         go : (u : Turn) → Heard w t me from list a u → Took n h w last t me a u
         go u (unheard e) = silent-took
@@ -133,11 +133,11 @@ module _ (n : ℕ) (order : List ℕ) (io : InOrder n order) (me : ℕ) (below :
           passed = omega arith;
         }
 
-    pub observer-took : (from : ℕ) → from < n → from ≢ me → Took n h w last t me a (onObserver t from a)
-    observer-took from fN ne = rw (observed t from a) (record {
+    pub observer-took : (from : ℕ) → from < n → from ≢ me → Took n h w last t me a (on_observer t from a)
+    observer-took from f_n ne = rw (observed t from a) (record {
       fields = λ late. record {
         emitter = f.emitter;
-        observer = fN;
+        observer = f_n;
         list = f.list;
         unlisted = f.unlisted;
         mark = f.mark;
@@ -153,35 +153,35 @@ module _ (n : ℕ) (order : List ℕ) (io : InOrder n order) (me : ℕ) (below :
 
     -- leaving an emitter that is another node
     module _ (ne : a.emitter ≢ me) where
-      left-unlisted : listed (leftList a) me ≡ false
+      left-unlisted : listed (left_list a) me ≡ false
       left-unlisted = listing-other a.list a.emitter me ne l.lists
 
-      new-emitter : Found n io (listed (leftList a)) me (gap n io me a.emitter) (newEmitter order a)
-      new-emitter = found_back n (leftList a) order io me below left-unlisted a.emitter f.emitter ne (listing-lists a.list a.emitter)
+      new-emitter : Found n io (listed (left_list a)) me (gap n io me a.emitter) (new_emitter order a)
+      new-emitter = found_back n (left_list a) order io me below left-unlisted a.emitter f.emitter ne (listing-lists a.list a.emitter)
 
-      few-passed : passedOver order a < n
-      few-passed = from-below n (leftList a) order io a.emitter f.emitter (count-some n (leftList a) order io me below left-unlisted)
+      few-passed : passed_over order a < n
+      few-passed = from-below n (left_list a) order io a.emitter f.emitter (count-some n (left_list a) order io me below left-unlisted)
 
-      within : leftList a < 2 ^ n
+      within : left_list a < 2 ^ n
       within = listing-lt n a.list a.emitter f.list f.emitter
 
-      left-mark : part_of (leftMark a) (leftList a) ≡ true
+      left-mark : part_of (left_mark a) (left_list a) ≡ true
       left-mark = part-listing n a.mark a.list a.emitter f.list f.emitter f.mark
 
-      sent : (v : Message) → newEmitter order a ≢ me
-          → (v ≡ message O (newEmitter order a) 0) ⊎ Memᴰ v (reports a.emitter (targets order (leftList a) (place order me)))
+      sent : (v : Message) → new_emitter order a ≢ me
+          → (v ≡ message O (new_emitter order a) 0) ⊎ Memᴰ v (reports a.emitter (targets order (left_list a) (place order me)))
           → Sendable n me v
       sent v other (inl e) =
           rw e (record {
             kind = inr (inl refl);
-            to = new-emitter.inN;
+            to = new-emitter.in_n;
             apart = other;
             subject = omega arith;
             about = λ q. absurd (eqb-false O R refl q);
             list = carries-none n O;
           })
       sent v other (inr m) =
-          reports-sendable n order io me below (leftList a) left-unlisted a.emitter f.emitter (listing-lists a.list a.emitter) v m
+          reports-sendable n order io me below (left_list a) left-unlisted a.emitter f.emitter (listing-lists a.list a.emitter) v m
 
       left-took : (u : Turn) → Left order w t me a u → Took n h w last t me a u
       left-took u (stops e) = record {
@@ -202,7 +202,7 @@ module _ (n : ℕ) (order : List ℕ) (io : InOrder n order) (me : ℕ) (below :
       }
       left-took u (moves other) = record {
         fields = λ late. record {
-          emitter = new-emitter.inN;
+          emitter = new-emitter.in_n;
           observer = f.observer;
           list = within;
           unlisted = new-emitter.unlisted;
@@ -221,10 +221,10 @@ module _ (n : ℕ) (order : List ℕ) (io : InOrder n order) (me : ℕ) (below :
       pub left-moves : (u : Turn) → Left order w t me a u → a.emitter ≢ u.node.emitter
       left-moves u (stops e) q = ne q
       left-moves u (moves other) q =
-          true≢false (sym (listing-lists a.list a.emitter) ∙ (ap (listed (leftList a)) q ∙ new-emitter.unlisted))
+          true≢false (sym (listing-lists a.list a.emitter) ∙ (ap (listed (left_list a)) q ∙ new-emitter.unlisted))
 
-    report-took : (subject : ℕ) → subject < n → Took n h w last t me a (onReport order w t me subject a)
-    report-took subject sN = go (onReport order w t me subject a) (reported order w t me subject a)
+    report-took : (subject : ℕ) → subject < n → Took n h w last t me a (on_report order w t me subject a)
+    report-took subject s_n = go (on_report order w t me subject a) (reported order w t me subject a)
       where
         go : (u : Turn) → Reported order w t me subject a u → Took n h w last t me a u
         go u (known e) = silent-took
@@ -236,27 +236,27 @@ module _ (n : ℕ) (order : List ℕ) (io : InOrder n order) (me : ℕ) (below :
               fields = λ late. record {
                 emitter = f.emitter;
                 observer = f.observer;
-                list = listing-lt n a.list subject f.list sN;
+                list = listing-lt n a.list subject f.list s_n;
                 unlisted = listing-other a.list subject a.emitter other f.unlisted;
-                mark = part-listing n a.mark a.list subject f.list sN f.mark;
+                mark = part-listing n a.mark a.list subject f.list s_n f.mark;
                 watch = omega (arith, f.watch, late);
                 heartbeat = omega (arith, f.heartbeat, late);
               };
               live = record { lists = un; observes = l.observes; sends = l.sends };
               timers = λ o. record { watch = o.watch; heartbeat = o.heartbeat };
-              sends = reports-sendable n order io me below _ un subject sN (listing-lists a.list subject);
+              sends = reports-sendable n order io me below _ un subject s_n (listing-lists a.list subject);
               few = told-few order order-few w t me subject a _ (relays e ne other);
               passed = omega arith;
             }
 
     pub message-took : (kind from subject list : ℕ) → Known kind → from < n → from ≢ me → (kind ≡ R → subject < n) → list < 2 ^ n
-        → Took n h w last t me a (onMessage order w t me kind from subject list a)
-    unfolding onMessage
-    message-took kind from subject list (inl e) fN ne sN lN = rw e (heartbeat-took from list ne lN)
-    message-took kind from subject list (inr (inl e)) fN ne sN lN = rw e (observer-took from fN ne)
-    message-took kind from subject list (inr (inr e)) fN ne sN lN = rw e (report-took subject (sN e))
+        → Took n h w last t me a (on_message order w t me kind from subject list a)
+    unfolding on_message
+    message-took kind from subject list (inl e) f_n ne s_n l_n = rw e (heartbeat-took from list ne l_n)
+    message-took kind from subject list (inr (inl e)) f_n ne s_n l_n = rw e (observer-took from f_n ne)
+    message-took kind from subject list (inr (inr e)) f_n ne s_n l_n = rw e (report-took subject (s_n e))
 
-    pub beat-took : a.heartbeat ≢ off → Took n h w last t me a (onHeartbeatDue h t a)
+    pub beat-took : a.heartbeat ≢ off → Took n h w last t me a (on_heartbeat_due h t a)
     beat-took on = rw (beaten h t a) (record {
       fields = λ late. record {
         emitter = f.emitter;
@@ -281,5 +281,5 @@ module _ (n : ℕ) (order : List ℕ) (io : InOrder n order) (me : ℕ) (below :
       passed = omega arith;
     })
 
-    pub watch-took : a.watch ≢ off → Took n h w last t me a (onWatchDue order w t me a)
+    pub watch-took : a.watch ≢ off → Took n h w last t me a (on_watch_due order w t me a)
     watch-took on = left-took (l.observes on) _ (left order w t me a)

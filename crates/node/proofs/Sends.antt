@@ -8,13 +8,13 @@ use Prim.Native.Nat.{ℕ, ◌≤◌, ◌<◌}
 use native.Mathlib.Omega.{arith}
 use lib.ListN.{length}
 use lib.Pow.{pow_pos}
-use Rattle.limits.specs.Limits.{mostNodes, mostSent}
-use Rattle.ring.specs.Ring.{rowSize, listed, listing, place, targets, InOrder}
+use Rattle.limits.specs.Limits.{most_nodes, most_sent}
+use Rattle.ring.specs.Ring.{row_size, listed, listing, place, targets, InOrder}
 use Rattle.ring.proofs.Counts.{targets-few}
 use Rattle.ring.proofs.Targets.{target_below, target-other, target-unlisted}
 use Rattle.node.specs.declared.Message.{Message}
 use Rattle.node.specs.declared.Node.{Node}
-use Rattle.node.specs.Node.{Turn, R, message, reports, leftList, onMessage}
+use Rattle.node.specs.Node.{Turn, R, message, reports, left_list, on_message}
 use Rattle.node.specs.Range.{Known, Carried}
 use Rattle.node.proofs.Messages.{length-reports}
 use Rattle.node.proofs.Moves.{Heard, renews, unheard, Left, stops, moves, Reported, known, own, leaves, relays}
@@ -54,42 +54,42 @@ module _ (n : ℕ) (order : List ℕ) (io : InOrder n order) (me : ℕ) (below :
   -- reports of a subject that the list has
   pub reports-sendable : (subject : ℕ) → subject < n → listed d subject ≡ true
       → (v : Message) → Memᴰ v (reports subject (targets order d (place order me))) → Sendable n me v
-  reports-sendable subject sN on v m =
+  reports-sendable subject s_n on v m =
       let r = report-of subject (targets order d (place order me)) v m in
       let open-y : listed d r.0 ≡ false = target-unlisted n d order io (place order me) r.0 r.1 in
       rw (← r.2) (record {
         kind = inr (inr refl);
         to = target_below n d order io (place order me) r.0 r.1;
         apart = target-apart r.0 r.1;
-        subject = sN;
+        subject = s_n;
         about = λ q e. true≢false (sym on ∙ ap (listed d) e ∙ open-y);
         list = carries-none n R;
       })
 
 -- ---- how many
 
-module _ (order : List ℕ) (few : length order ≤ mostNodes) where
-  pub reports-few : (subject d p : ℕ) → length (reports subject (targets order d p)) ≤ rowSize
+module _ (order : List ℕ) (few : length order ≤ most_nodes) where
+  pub reports-few : (subject d p : ℕ) → length (reports subject (targets order d p)) ≤ row_size
   reports-few subject d p = rw (length-reports subject (targets order d p)) (targets-few order d p few)
 
-  pub left-few : (w tick me : ℕ) (n : Node) (u : Turn) → Left order w tick me n u → length u.sends ≤ mostSent
+  pub left-few : (w tick me : ℕ) (n : Node) (u : Turn) → Left order w tick me n u → length u.sends ≤ most_sent
   left-few w tick me n u (stops e) = omega arith
-  left-few w tick me n u (moves e) = omega (arith, reports-few n.emitter (leftList n) (place order me))
+  left-few w tick me n u (moves e) = omega (arith, reports-few n.emitter (left_list n) (place order me))
 
-  pub told-few : (w tick me subject : ℕ) (n : Node) (u : Turn) → Reported order w tick me subject n u → length u.sends ≤ mostSent
+  pub told-few : (w tick me subject : ℕ) (n : Node) (u : Turn) → Reported order w tick me subject n u → length u.sends ≤ most_sent
   told-few w tick me subject n u (known e) = omega arith
   told-few w tick me subject n u (own e) = omega arith
   told-few w tick me subject n u (leaves e f g v l) = left-few w tick me n v l
   told-few w tick me subject n u (relays e f g) = omega (arith, reports-few subject (listing n.list subject) (place order me))
 
-  pub message-few : (w tick me kind from subject list : ℕ) (n : Node) → length (onMessage order w tick me kind from subject list n).sends ≤ mostSent
+  pub message-few : (w tick me kind from subject list : ℕ) (n : Node) → length (on_message order w tick me kind from subject list n).sends ≤ most_sent
   message-few w tick me kind from subject list n = go _ (messaged order w tick me kind from subject list n)
     where
-      silent-few : (u : Turn) → Heard w tick me from list n u → length u.sends ≤ mostSent
+      silent-few : (u : Turn) → Heard w tick me from list n u → length u.sends ≤ most_sent
       silent-few u (renews e) = omega arith
       silent-few u (unheard e) = omega arith
 
-      go : (u : Turn) → Messaged order w tick me kind from subject list n u → length u.sends ≤ mostSent
+      go : (u : Turn) → Messaged order w tick me kind from subject list n u → length u.sends ≤ most_sent
       go u (beats e v h) = silent-few v h
       go u (observes e) = omega arith
       go u (tells e f v r) = told-few w tick me subject n v r

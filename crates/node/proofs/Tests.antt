@@ -12,14 +12,14 @@ use lib.Pow.{pow_pos}
 use Rattle.ring.specs.Ring.{listed, part_of}
 use Rattle.node.specs.declared.Node.{Node}
 use Rattle.node.specs.Node.{H, O, R}
-use Rattle.node.specs.Range.{NodeRange, LiveRange, NotOverdue, Known, nodeTest, apart, liveTest, notOverdue, timersTest, kindTest}
-use Rattle.node.specs.Range.{Carried, carriedTest}
+use Rattle.node.specs.Range.{NodeRange, LiveRange, NotOverdue, Known, node_test, apart, live_test, not_overdue, timers_test, kind_test}
+use Rattle.node.specs.Range.{Carried, carried_test}
 
 -- ---- a node's fields
 
 module _ (n h w t : ℕ) (a : Node) where
-  pub node-facts : nodeTest n h w t a ≡ true → NodeRange n h w t a
-  unfolding nodeTest
+  pub node-facts : node_test n h w t a ≡ true → NodeRange n h w t a
+  unfolding node_test
   node-facts e =
       let u = (and-eq-true_iff _ _).0 e in
       let v = (and-eq-true_iff _ _).0 u.1 in
@@ -37,8 +37,8 @@ module _ (n h w t : ℕ) (a : Node) where
         heartbeat = leb-true _ _ r.0;
       }
 
-  pub facts-node : NodeRange n h w t a → nodeTest n h w t a ≡ true
-  unfolding nodeTest
+  pub facts-node : NodeRange n h w t a → node_test n h w t a ≡ true
+  unfolding node_test
   facts-node f =
       rw (
         lt-ltb _ _ f.emitter,
@@ -51,41 +51,41 @@ module _ (n h w t : ℕ) (a : Node) where
       )
 
   -- the answers of the code, test by test
-  pub emitter-out : n ≤ a.emitter → false ≡ nodeTest n h w t a
-  unfolding nodeTest
+  pub emitter-out : n ≤ a.emitter → false ≡ node_test n h w t a
+  unfolding node_test
   emitter-out e = rw (le-ltb a.emitter n e)
 
   module _ (e< : a.emitter < n) where
-    pub observer-out : n ≤ a.observer → false ≡ nodeTest n h w t a
-    unfolding nodeTest
+    pub observer-out : n ≤ a.observer → false ≡ node_test n h w t a
+    unfolding node_test
     observer-out o = rw (lt-ltb a.emitter n e<, le-ltb a.observer n o)
 
     module _ (o< : a.observer < n) (all : ℕ) (set : all ≡ 2 ^ n - 1) where
-      pub list-out : all < a.list → false ≡ nodeTest n h w t a
-      unfolding nodeTest
+      pub list-out : all < a.list → false ≡ node_test n h w t a
+      unfolding node_test
       list-out l = rw (lt-ltb a.emitter n e<, lt-ltb a.observer n o<, le-ltb a.list (2 ^ n) (omega arith))
 
       module _ (l≤ : a.list ≤ all) (r : Bool) (is : r ≡ listed a.list a.emitter) where
-        rest-on : nodeTest n h w t a ≡ (not r && (leb a.watch (suc (t + 2 * w)) && (leb a.heartbeat (suc (t + h)) && part_of a.mark a.list)))
-        unfolding nodeTest
+        rest-on : node_test n h w t a ≡ (not r && (leb a.watch (suc (t + 2 * w)) && (leb a.heartbeat (suc (t + h)) && part_of a.mark a.list)))
+        unfolding node_test
         rest-on =
             rw (lt-ltb a.emitter n e<, lt-ltb a.observer n o<, lt-ltb a.list (2 ^ n) (omega (arith, pow_pos n)), ← is)
 
-        pub listed-out : r ≡ true → false ≡ nodeTest n h w t a
+        pub listed-out : r ≡ true → false ≡ node_test n h w t a
         listed-out x = rw (rest-on, x)
 
         module _ (un : r ≡ false) where
-          pub watch-out : t + 2 * w + 1 < a.watch → false ≡ nodeTest n h w t a
+          pub watch-out : t + 2 * w + 1 < a.watch → false ≡ node_test n h w t a
           watch-out x = rw (rest-on, un, lt-leb a.watch (suc (t + 2 * w)) (omega arith))
 
           module _ (w≤ : a.watch ≤ t + 2 * w + 1) where
-            watch-in : nodeTest n h w t a ≡ (leb a.heartbeat (suc (t + h)) && part_of a.mark a.list)
+            watch-in : node_test n h w t a ≡ (leb a.heartbeat (suc (t + h)) && part_of a.mark a.list)
             watch-in = rw (rest-on, un, le-leb a.watch (suc (t + 2 * w)) (omega arith))
 
-            pub heartbeat-out : t + h + 1 < a.heartbeat → false ≡ nodeTest n h w t a
+            pub heartbeat-out : t + h + 1 < a.heartbeat → false ≡ node_test n h w t a
             heartbeat-out x = rw (watch-in, lt-leb a.heartbeat (suc (t + h)) (omega arith))
 
-            pub mark-last : a.heartbeat ≤ t + h + 1 → part_of a.mark a.list ≡ nodeTest n h w t a
+            pub mark-last : a.heartbeat ≤ t + h + 1 → part_of a.mark a.list ≡ node_test n h w t a
             mark-last x = rw (watch-in, le-leb a.heartbeat (suc (t + h)) (omega arith))
 
 -- ---- a live node
@@ -104,8 +104,8 @@ module _ (timer other me : ℕ) where
       go (no q) = rw (ne_eqb timer 0 q, ne_eqb other me (f q))
 
 module _ (me : ℕ) (a : Node) where
-  pub live_facts : liveTest me a ≡ true → LiveRange me a
-  unfolding liveTest
+  pub live_facts : live_test me a ≡ true → LiveRange me a
+  unfolding live_test
   live_facts e =
       let u = (and-eq-true_iff (not (listed a.list me)) _).0 e in
       let v = (and-eq-true_iff (apart a.watch a.emitter me) _).0 u.1 in
@@ -115,34 +115,34 @@ module _ (me : ℕ) (a : Node) where
         sends = apart-facts a.heartbeat a.observer me v.1;
       }
 
-  pub facts-live : LiveRange me a → liveTest me a ≡ true
-  unfolding liveTest
+  pub facts-live : LiveRange me a → live_test me a ≡ true
+  unfolding live_test
   facts-live l = rw (l.lists, facts-apart a.watch a.emitter me l.observes, facts-apart a.heartbeat a.observer me l.sends)
 
   -- the answers of the code, test by test
   module _ (r : Bool) (is : r ≡ listed a.list me) where
-    pub lists-itself : r ≡ true → false ≡ liveTest me a
-    unfolding liveTest
+    pub lists-itself : r ≡ true → false ≡ live_test me a
+    unfolding live_test
     lists-itself e = rw (← is, e)
 
     module _ (un : r ≡ false) where
-      pub observes-itself : apart a.watch a.emitter me ≡ false → false ≡ liveTest me a
-      unfolding liveTest
+      pub observes-itself : apart a.watch a.emitter me ≡ false → false ≡ live_test me a
+      unfolding live_test
       observes-itself e = rw (← is, un, e)
 
-      pub sends-last : apart a.watch a.emitter me ≡ true → apart a.heartbeat a.observer me ≡ liveTest me a
-      unfolding liveTest
+      pub sends-last : apart a.watch a.emitter me ≡ true → apart a.heartbeat a.observer me ≡ live_test me a
+      unfolding live_test
       sends-last e = rw (← is, un, e)
 
 -- ---- a timer that is not overdue
 
 module _ (t timer : ℕ) where
-  overdue-facts : notOverdue t timer ≡ true → timer ≢ 0 → t < timer
-  unfolding notOverdue
+  overdue-facts : not_overdue t timer ≡ true → timer ≢ 0 → t < timer
+  unfolding not_overdue
   overdue-facts e on = ltb-true t timer (rw (ne_eqb timer 0 on) at e)
 
-  facts-overdue : (timer ≢ 0 → t < timer) → notOverdue t timer ≡ true
-  unfolding notOverdue
+  facts-overdue : (timer ≢ 0 → t < timer) → not_overdue t timer ≡ true
+  unfolding not_overdue
   facts-overdue f = go (ℕ_discrete timer 0)
     where
       go : Dec (timer ≡ 0) → (eqb timer 0 || ltb t timer) ≡ true
@@ -150,21 +150,21 @@ module _ (t timer : ℕ) where
       go (no q) = rw (ne_eqb timer 0 q, lt-ltb t timer (f q))
 
 module _ (t : ℕ) (a : Node) where
-  pub timers-facts : timersTest t a ≡ true → NotOverdue t a
-  unfolding timersTest
+  pub timers-facts : timers_test t a ≡ true → NotOverdue t a
+  unfolding timers_test
   timers-facts e =
-      let u = (and-eq-true_iff (notOverdue t a.watch) _).0 e in
+      let u = (and-eq-true_iff (not_overdue t a.watch) _).0 e in
       record { watch = overdue-facts t a.watch u.0; heartbeat = overdue-facts t a.heartbeat u.1 }
 
-  pub facts-timers : NotOverdue t a → timersTest t a ≡ true
-  unfolding timersTest
+  pub facts-timers : NotOverdue t a → timers_test t a ≡ true
+  unfolding timers_test
   facts-timers o = rw (facts-overdue t a.watch o.watch, facts-overdue t a.heartbeat o.heartbeat)
 
 -- ---- a kind
 
 module _ (k : ℕ) where
-  pub kind-facts : kindTest k ≡ true → Known k
-  unfolding kindTest
+  pub kind-facts : kind_test k ≡ true → Known k
+  unfolding kind_test
   kind-facts e = go (eqb k H) (eqb k O) (eqb k R) refl refl refl e
     where
       go : (a b c : Bool) → eqb k H ≡ a → eqb k O ≡ b → eqb k R ≡ c → (a || (b || c)) ≡ true → Known k
@@ -173,8 +173,8 @@ module _ (k : ℕ) where
       go false false true x y z q = inr (inr (eqb-true k R z))
       go false false false x y z q = absurd (true≢false (sym q))
 
-  pub facts-kind : Known k → kindTest k ≡ true
-  unfolding kindTest
+  pub facts-kind : Known k → kind_test k ≡ true
+  unfolding kind_test
   facts-kind (inl e) = rw e
   facts-kind (inr (inl e)) = rw e
   facts-kind (inr (inr e)) = rw e
@@ -188,14 +188,14 @@ module _ (k : ℕ) where
 -- ---- a list that a message carries
 
 module _ (n kind list : ℕ) where
-  pub carried-facts : carriedTest n kind list ≡ true → Carried n kind list
-  unfolding carriedTest
+  pub carried-facts : carried_test n kind list ≡ true → Carried n kind list
+  unfolding carried_test
   carried-facts e =
       let u = (and-eq-true_iff (ltb list (2 ^ n)) _).0 e in
       record { below = ltb-true _ _ u.0; empty = λ q. eqb-true list 0 (rw (ne_eqb kind H q) at u.1) }
 
-  pub facts-carried : Carried n kind list → carriedTest n kind list ≡ true
-  unfolding carriedTest
+  pub facts-carried : Carried n kind list → carried_test n kind list ≡ true
+  unfolding carried_test
   facts-carried c = rw (lt-ltb list (2 ^ n) c.below) (go (ℕ_discrete kind H))
     where
       go : Dec (kind ≡ H) → (eqb kind H || eqb list 0) ≡ true

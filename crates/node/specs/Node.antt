@@ -3,8 +3,8 @@
 -- A timer is `off`, or `due t` where it is due at tick t. A message's kind is its letter in the log.
 use Rattle.std.specs.Prelude.{cond, ◌||◌, List, [], ◌∷◌, ◌++◌, map, ℕ, suc, ◌+◌, ◌-◌, ◌*◌, eqb, ltb, length, replicate}
 use Rattle.std.proofs.lemmas.List.Edits.{sets}
-use Rattle.limits.specs.Limits.{mostSent}
-use Rattle.ring.specs.Ring.{listed, listing, unlisting, merging, place, back, backFrom, next, targets}
+use Rattle.limits.specs.Limits.{most_sent}
+use Rattle.ring.specs.Ring.{listed, listing, unlisting, merging, place, back, back_from, next, targets}
 use Rattle.ring.specs.declared.NodeBefore.{NodeBefore}
 use Rattle.node.specs.declared.Message.{Message}
 use Rattle.node.specs.declared.Node.{Node}
@@ -48,20 +48,20 @@ reports subject nodes = map (λ to. message R to subject) nodes
 
 -- ---- a node with one field changed
 
-abbrev pub withObserver : Node → ℕ → Node
-withObserver n x = record { emitter = n.emitter; observer = x; watch = n.watch; heartbeat = n.heartbeat; list = n.list; mark = n.mark }
+abbrev pub with_observer : Node → ℕ → Node
+with_observer n x = record { emitter = n.emitter; observer = x; watch = n.watch; heartbeat = n.heartbeat; list = n.list; mark = n.mark }
 
-abbrev pub withWatch : Node → ℕ → Node
-withWatch n x = record { emitter = n.emitter; observer = n.observer; watch = x; heartbeat = n.heartbeat; list = n.list; mark = n.mark }
+abbrev pub with_watch : Node → ℕ → Node
+with_watch n x = record { emitter = n.emitter; observer = n.observer; watch = x; heartbeat = n.heartbeat; list = n.list; mark = n.mark }
 
-abbrev pub withHeartbeat : Node → ℕ → Node
-withHeartbeat n x = record { emitter = n.emitter; observer = n.observer; watch = n.watch; heartbeat = x; list = n.list; mark = n.mark }
+abbrev pub with_heartbeat : Node → ℕ → Node
+with_heartbeat n x = record { emitter = n.emitter; observer = n.observer; watch = n.watch; heartbeat = x; list = n.list; mark = n.mark }
 
 abbrev pub with_list : Node → ℕ → Node
 with_list n x = record { emitter = n.emitter; observer = n.observer; watch = n.watch; heartbeat = n.heartbeat; list = x; mark = n.mark }
 
-abbrev pub withMark : Node → ℕ → Node
-withMark n x = record { emitter = n.emitter; observer = n.observer; watch = n.watch; heartbeat = n.heartbeat; list = n.list; mark = x }
+abbrev pub with_mark : Node → ℕ → Node
+with_mark n x = record { emitter = n.emitter; observer = n.observer; watch = n.watch; heartbeat = n.heartbeat; list = n.list; mark = x }
 
 -- a node, with the messages that it sends, and how many listed nodes it passed in a search for a new emitter
 abbrev pub turn : Node → List Message → ℕ → Turn
@@ -93,22 +93,22 @@ ringed order h w me = record {
 -- ---- a node that leaves its emitter
 
 -- its list with the emitter listed, "the list after the change"
-abbrev pub leftList : Node → ℕ
-leftList n = listing n.list n.emitter
+abbrev pub left_list : Node → ℕ
+left_list n = listing n.list n.emitter
 
 -- and its mark: "listing an expired emitter sets the mark too"
-abbrev pub leftMark : Node → ℕ
-leftMark n = listing n.mark n.emitter
+abbrev pub left_mark : Node → ℕ
+left_mark n = listing n.mark n.emitter
 
 -- "the new emitter is the first unlisted node going back from it", and how many listed nodes that search passed, "the one just left included"
-abbrev pub searchLeft : List ℕ → Node → NodeBefore
-searchLeft order n = backFrom order (leftList n) n.emitter
+abbrev pub search_left : List ℕ → Node → NodeBefore
+search_left order n = back_from order (left_list n) n.emitter
 
-abbrev pub newEmitter : List ℕ → Node → ℕ
-newEmitter order n = (searchLeft order n).node
+abbrev pub new_emitter : List ℕ → Node → ℕ
+new_emitter order n = (search_left order n).node
 
-abbrev pub passedOver : List ℕ → Node → ℕ
-passedOver order n = (searchLeft order n).passed
+abbrev pub passed_over : List ℕ → Node → ℕ
+passed_over order n = (search_left order n).passed
 
 -- a node that left its emitter for another: "watch due becomes this tick + 2 × W"
 abbrev pub moved : ℕ → ℕ → ℕ → Node → Node
@@ -117,18 +117,18 @@ moved w tick emitter n = record {
   observer = n.observer;
   watch = due (tick + 2 * w);
   heartbeat = n.heartbeat;
-  list = leftList n;
-  mark = leftMark n;
+  list = left_list n;
+  mark = left_mark n;
 }
 
 -- "list the emitter", and mark it; "the new emitter is the first unlisted node going back from it. If that is the node itself, it is alone, as
 -- above. Otherwise watch due becomes this tick + 2 × W; send O to the new emitter, then R of the old one to the forward targets"
 unfoldable pub leaving : List ℕ → ℕ → ℕ → ℕ → Node → Turn
 leaving order w tick me n =
-    let list : ℕ = leftList n in
-    let emitter : ℕ = newEmitter order n in
-    let passed : ℕ = passedOver order n in
-    cond (eqb emitter me) (turn (alone me list (leftMark n)) [] passed)
+    let list : ℕ = left_list n in
+    let emitter : ℕ = new_emitter order n in
+    let passed : ℕ = passed_over order n in
+    cond (eqb emitter me) (turn (alone me list (left_mark n)) [] passed)
     (turn (moved w tick emitter n) (message O emitter 0 ∷ reports n.emitter (targets order list (place order me))) passed)
 
 -- ---- the rules
@@ -144,48 +144,48 @@ learnt me from list = unlisting (unlisting list me) from
 
 -- message H: from the emitter, watch due becomes this tick + W, and what it carries is added to the list; "nodes learnt this way aren't
 -- relayed from there". From any other node, nothing
-unfoldable pub onHeartbeat : ℕ → ℕ → ℕ → ℕ → ℕ → Node → Turn
-onHeartbeat w tick me from list n =
-    silent (cond (eqb n.emitter from) (with_list (withWatch n (due (tick + w))) (merging n.list (learnt me from list))) n)
+unfoldable pub on_heartbeat : ℕ → ℕ → ℕ → ℕ → ℕ → Node → Turn
+on_heartbeat w tick me from list n =
+    silent (cond (eqb n.emitter from) (with_list (with_watch n (due (tick + w))) (merging n.list (learnt me from list))) n)
 
 -- message O: observer becomes the sender, heartbeat due becomes this tick
-unfoldable pub onObserver : ℕ → ℕ → Node → Turn
-onObserver tick from n = silent (withHeartbeat (withObserver n from) (due tick))
+unfoldable pub on_observer : ℕ → ℕ → Node → Turn
+on_observer tick from n = silent (with_heartbeat (with_observer n from) (due tick))
 
 -- message R of a subject: marked or the node itself, nothing; the emitter, and the node leaves it "in the same event"; otherwise it is marked and
 -- listed, "also where a heartbeat named it earlier", and R of the same subject goes to the forward targets, taken with the list after the change
-unfoldable pub onReport : List ℕ → ℕ → ℕ → ℕ → ℕ → Node → Turn
-onReport order w tick me subject n =
+unfoldable pub on_report : List ℕ → ℕ → ℕ → ℕ → ℕ → Node → Turn
+on_report order w tick me subject n =
     let list : ℕ = listing n.list subject in
     cond (listed n.mark subject || eqb subject me) (silent n)
     (cond (eqb subject n.emitter) (leaving order w tick me n)
-    (sending (withMark (with_list n list) (listing n.mark subject)) (reports subject (targets order list (place order me)))))
+    (sending (with_mark (with_list n list) (listing n.mark subject)) (reports subject (targets order list (place order me)))))
 
 -- heartbeat due: send H to the observer, with the list; due becomes this tick + H
-unfoldable pub onHeartbeatDue : ℕ → ℕ → Node → Turn
-onHeartbeatDue h tick n = sending (withHeartbeat n (due (tick + h))) (beat n.observer n.list ∷ [])
+unfoldable pub on_heartbeat_due : ℕ → ℕ → Node → Turn
+on_heartbeat_due h tick n = sending (with_heartbeat n (due (tick + h))) (beat n.observer n.list ∷ [])
 
 -- watch due: the node leaves its emitter
-abbrev pub onWatchDue : List ℕ → ℕ → ℕ → ℕ → Node → Turn
-onWatchDue order w tick me n = leaving order w tick me n
+abbrev pub on_watch_due : List ℕ → ℕ → ℕ → ℕ → Node → Turn
+on_watch_due order w tick me n = leaving order w tick me n
 
 -- a message of a kind: only a report's subject counts, and only a heartbeat's list
-unfoldable pub onMessage : List ℕ → ℕ → ℕ → ℕ → ℕ → ℕ → ℕ → ℕ → Node → Turn
-onMessage order w tick me kind from subject list n =
-    cond (eqb kind H) (onHeartbeat w tick me from list n)
-    (cond (eqb kind O) (onObserver tick from n) (onReport order w tick me subject n))
+unfoldable pub on_message : List ℕ → ℕ → ℕ → ℕ → ℕ → ℕ → ℕ → ℕ → Node → Turn
+on_message order w tick me kind from subject list n =
+    cond (eqb kind H) (on_heartbeat w tick me from list n)
+    (cond (eqb kind O) (on_observer tick from n) (on_report order w tick me subject n))
 
 -- ---- what the code answers: the messages in seven places, the unused ones zero, and their count
 
 unfoldable pub places : List Message → List Message
-places ms = ms ++ replicate (mostSent - length ms) (message 0 0 0)
+places ms = ms ++ replicate (most_sent - length ms) (message 0 0 0)
 
 unfoldable pub turned : Turn → Turned
 turned u = record { node = u.node; sent = places u.sends; count = length u.sends; passed = u.passed }
 
 -- a node after a rule whose search passed so many listed nodes
-unfoldable pub withPassed : Turned → ℕ → Turned
-withPassed t passed = record { node = t.node; sent = t.sent; count = t.count; passed = passed }
+unfoldable pub with_passed : Turned → ℕ → Turned
+with_passed t passed = record { node = t.node; sent = t.sent; count = t.count; passed = passed }
 
 -- a node after a rule, with R of a subject to its forward targets after what it sends already
 unfoldable pub relayed : List ℕ → ℕ → ℕ → Turned → Turned

@@ -42,8 +42,8 @@ pub record Carried (n kind list : ℕ) : Type 0 where
 
 -- ---- the same as computed tests
 
-unfoldable pub nodeTest : ℕ → ℕ → ℕ → ℕ → Node → Bool
-nodeTest n h w t a =
+unfoldable pub node_test : ℕ → ℕ → ℕ → ℕ → Node → Bool
+node_test n h w t a =
     ltb a.emitter n && (ltb a.observer n && (ltb a.list (2 ^ n)
     && (not (listed a.list a.emitter) && (leb a.watch (due (t + 2 * w)) && (leb a.heartbeat (due (t + h))
     && part_of a.mark a.list)))))
@@ -52,19 +52,19 @@ nodeTest n h w t a =
 unfoldable pub apart : ℕ → ℕ → ℕ → Bool
 apart timer other me = eqb timer off || not (eqb other me)
 
-unfoldable pub liveTest : ℕ → Node → Bool
-liveTest me a =
+unfoldable pub live_test : ℕ → Node → Bool
+live_test me a =
     not (listed a.list me) && (apart a.watch a.emitter me && apart a.heartbeat a.observer me)
 
 -- a timer is off, or due at t or later
-unfoldable pub notOverdue : ℕ → ℕ → Bool
-notOverdue t timer = eqb timer off || ltb t timer
+unfoldable pub not_overdue : ℕ → ℕ → Bool
+not_overdue t timer = eqb timer off || ltb t timer
 
-unfoldable pub timersTest : ℕ → Node → Bool
-timersTest t a = notOverdue t a.watch && notOverdue t a.heartbeat
+unfoldable pub timers_test : ℕ → Node → Bool
+timers_test t a = not_overdue t a.watch && not_overdue t a.heartbeat
 
-unfoldable pub kindTest : ℕ → Bool
-kindTest k = eqb k H || (eqb k O || eqb k R)
+unfoldable pub kind_test : ℕ → Bool
+kind_test k = eqb k H || (eqb k O || eqb k R)
 
-unfoldable pub carriedTest : ℕ → ℕ → ℕ → Bool
-carriedTest n kind list = ltb list (2 ^ n) && (eqb kind H || eqb list 0)
+unfoldable pub carried_test : ℕ → ℕ → ℕ → Bool
+carried_test n kind list = ltb list (2 ^ n) && (eqb kind H || eqb list 0)

@@ -2,10 +2,10 @@
 // Nodes in the field and the rehearsal both run these functions.
 ghost use Rattle.std.specs.Prelude.{◌≡◌, [], ◌∷◌, ◌+◌, ◌<◌, ◌≤◌, length, take};
 ghost use Rattle.std.proofs.lemmas.List.Edits.{sets};
-ghost use Rattle.limits.specs.Limits.{mostNodes, mostH, mostW, mostTick};
-ghost use Rattle.node.specs.Node.{message, reports, silent, sending, alone, opening, onHeartbeat, onObserver, onReport, onHeartbeatDue, onWatchDue};
-ghost use Rattle.node.specs.Node.{onMessage, turned, relayed, leaving, withPassed, learnt};
-ghost use Rattle.node.specs.Range.{nodeTest, apart, liveTest};
+ghost use Rattle.limits.specs.Limits.{most_nodes, most_h, most_w, most_tick};
+ghost use Rattle.node.specs.Node.{message, reports, silent, sending, alone, opening, on_heartbeat, on_observer, on_report, on_heartbeat_due, on_watch_due};
+ghost use Rattle.node.specs.Node.{on_message, turned, relayed, leaving, with_passed, learnt};
+ghost use Rattle.node.specs.Range.{node_test, apart, live_test};
 
 // A node's fields. The mark has those of its listed nodes of which it took a report, or which it left as its emitter: a further report of them does
 // nothing. A timer is 0 where it is off, else one more than the tick at which it is due.
@@ -77,7 +77,7 @@ fn sends_one(n: Node, m: Message) -> Turned
 
 // A node after a rule whose search for a new emitter passed so many listed nodes.
 fn with_passed(t: Turned, passed: u8) -> Turned
-    ensures { result ≡ withPassed t passed }
+    ensures { result ≡ with_passed t passed }
 {
     let node = t.node;
     let sent = t.sent;
@@ -116,7 +116,7 @@ fn put_reports(
 
 // A node after a rule, with R of the subject to its forward targets after what it sends already.
 fn relay(order: &[u8], me: u8, subject: u8, t: Turned) -> Turned
-    requires { (1 ≤ length order.now) × (length order.now ≤ mostNodes) × (t.count ≤ 1) }
+    requires { (1 ≤ length order.now) × (length order.now ≤ most_nodes) × (t.count ≤ 1) }
     ensures { result ≡ relayed order.now me subject t }
 {
     let node = t.node;
@@ -152,7 +152,7 @@ fn lone(me: u8, list: u64, mark: u64) -> Node
 // Leaving the emitter: it is listed, marked and reported, and the first unlisted node going back from it becomes the emitter. The search begins at the node
 // that is left, so that it is passed too.
 fn leave_emitter(order: &[u8], w: u32, tick: u32, me: u8, n: Node) -> Turned
-    requires { (1 ≤ length order.now) × (length order.now ≤ mostNodes) × (w ≤ mostW) × (tick ≤ mostTick) × (n.emitter < mostNodes) }
+    requires { (1 ≤ length order.now) × (length order.now ≤ most_nodes) × (w ≤ most_w) × (tick ≤ most_tick) × (n.emitter < most_nodes) }
     ensures { result ≡ turned (leaving order.now w tick me n) }
 {
     let list = ring::with_listed(n.list, n.emitter);
@@ -179,7 +179,7 @@ fn leave_emitter(order: &[u8], w: u32, tick: u32, me: u8, n: Node) -> Turned
 
 // Opening, at tick 0.
 pub fn opened(order: &[u8], h: u32, w: u32, me: u8) -> Node
-    requires { (length order.now ≤ mostNodes) × (h ≤ mostH) × (w ≤ mostW) }
+    requires { (length order.now ≤ most_nodes) × (h ≤ most_h) × (w ≤ most_w) }
     ensures { result ≡ opening order.now h w me }
 {
     if order.len() <= 1 {
@@ -200,7 +200,7 @@ pub fn opened(order: &[u8], h: u32, w: u32, me: u8) -> Node
 
 // What a node takes from the list that an H carries: not itself and not the sender.
 fn learnt_from(me: u8, from: u8, list: u64) -> u64
-    requires { (me < mostNodes) × (from < mostNodes) }
+    requires { (me < most_nodes) × (from < most_nodes) }
     ensures { result ≡ learnt me from list }
 {
     let others = ring::with_unlisted(list, me);
@@ -209,8 +209,8 @@ fn learnt_from(me: u8, from: u8, list: u64) -> u64
 
 // Message H: from the emitter it renews the watch, and the nodes of the list that it carries are listed.
 pub fn on_heartbeat(w: u32, tick: u32, me: u8, from: u8, list: u64, n: Node) -> Turned
-    requires { (w ≤ mostW) × (tick ≤ mostTick) × (me < mostNodes) × (from < mostNodes) }
-    ensures { result ≡ turned (onHeartbeat w tick me from list n) }
+    requires { (w ≤ most_w) × (tick ≤ most_tick) × (me < most_nodes) × (from < most_nodes) }
+    ensures { result ≡ turned (on_heartbeat w tick me from list n) }
 {
     if n.emitter != from {
         return quiet(n);
@@ -223,8 +223,8 @@ pub fn on_heartbeat(w: u32, tick: u32, me: u8, from: u8, list: u64, n: Node) -> 
 
 // Message O: the sender is the new observer, and a heartbeat is due now.
 pub fn on_observer(tick: u32, from: u8, n: Node) -> Turned
-    requires { tick ≤ mostTick }
-    ensures { result ≡ turned (onObserver tick from n) }
+    requires { tick ≤ most_tick }
+    ensures { result ≡ turned (on_observer tick from n) }
 {
     let mut m = n;
     m.observer = from;
@@ -234,8 +234,8 @@ pub fn on_observer(tick: u32, from: u8, n: Node) -> Turned
 
 // Message R: a subject that is not marked here is marked, listed and reported on; an emitter is also left.
 pub fn on_report(order: &[u8], w: u32, tick: u32, me: u8, subject: u8, n: Node) -> Turned
-    requires { (1 ≤ length order.now) × (length order.now ≤ mostNodes) × (w ≤ mostW) × (tick ≤ mostTick) × (subject < mostNodes) }
-    ensures { result ≡ turned (onReport order.now w tick me subject n) }
+    requires { (1 ≤ length order.now) × (length order.now ≤ most_nodes) × (w ≤ most_w) × (tick ≤ most_tick) × (subject < most_nodes) }
+    ensures { result ≡ turned (on_report order.now w tick me subject n) }
 {
     if ring::is_listed(n.mark, subject) {
         return quiet(n);
@@ -254,8 +254,8 @@ pub fn on_report(order: &[u8], w: u32, tick: u32, me: u8, subject: u8, n: Node) 
 
 // Heartbeat due: H to the observer, with the list.
 pub fn on_heartbeat_due(h: u32, tick: u32, n: Node) -> Turned
-    requires { (h ≤ mostH) × (tick ≤ mostTick) }
-    ensures { result ≡ turned (onHeartbeatDue h tick n) }
+    requires { (h ≤ most_h) × (tick ≤ most_tick) }
+    ensures { result ≡ turned (on_heartbeat_due h tick n) }
 {
     let beat = Message {
         kind: b'H',
@@ -270,8 +270,8 @@ pub fn on_heartbeat_due(h: u32, tick: u32, n: Node) -> Turned
 
 // Watch due: the emitter is left.
 pub fn on_watch_due(order: &[u8], w: u32, tick: u32, me: u8, n: Node) -> Turned
-    requires { (1 ≤ length order.now) × (length order.now ≤ mostNodes) × (w ≤ mostW) × (tick ≤ mostTick) × (n.emitter < mostNodes) }
-    ensures { result ≡ turned (onWatchDue order.now w tick me n) }
+    requires { (1 ≤ length order.now) × (length order.now ≤ most_nodes) × (w ≤ most_w) × (tick ≤ most_tick) × (n.emitter < most_nodes) }
+    ensures { result ≡ turned (on_watch_due order.now w tick me n) }
 {
     leave_emitter(order, w, tick, me, n)
 }
@@ -288,9 +288,9 @@ pub fn on_message(
     list: u64,
     n: Node,
 ) -> Turned
-    requires in_bounds { (1 ≤ length order.now) × (length order.now ≤ mostNodes) × (w ≤ mostW) × (tick ≤ mostTick) × (me < mostNodes) }
-    requires from_lt_most_nodes { (from < mostNodes) × (subject < mostNodes) }
-    ensures { result ≡ turned (onMessage order.now w tick me kind from subject list n) }
+    requires in_bounds { (1 ≤ length order.now) × (length order.now ≤ most_nodes) × (w ≤ most_w) × (tick ≤ most_tick) × (me < most_nodes) }
+    requires from_lt_most_nodes { (from < most_nodes) × (subject < most_nodes) }
+    ensures { result ≡ turned (on_message order.now w tick me kind from subject list n) }
 {
     match kind {
         b'H' => on_heartbeat(w, tick, me, from, list, n),
@@ -303,8 +303,8 @@ pub fn on_message(
 
 // Whether a node's fields are in range, where the ring has n nodes and t is the last tick.
 pub fn node_in_range(n: u8, h: u32, w: u32, t: u32, a: Node) -> bool
-    requires { (1 ≤ n) × (n ≤ mostNodes) × (h ≤ mostH) × (w ≤ mostW) × (t ≤ mostTick) }
-    ensures { result ≡ nodeTest n h w t a }
+    requires { (1 ≤ n) × (n ≤ most_nodes) × (h ≤ most_h) × (w ≤ most_w) × (t ≤ most_tick) }
+    ensures { result ≡ node_test n h w t a }
 {
     if n <= a.emitter {
         return false;
@@ -339,7 +339,7 @@ fn is_apart(timer: u32, other: u8, me: u8) -> bool
 
 // Whether a live node neither lists itself, nor observes itself with the watch on, nor sends to itself with the heartbeat on.
 pub fn live_in_range(me: u8, a: Node) -> bool
-    ensures { result ≡ liveTest me a }
+    ensures { result ≡ live_test me a }
 {
     if ring::is_listed(a.list, me) {
         return false;

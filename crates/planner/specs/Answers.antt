@@ -13,67 +13,67 @@ use Rattle.platform.specs.declared.Ran.TheVariants.{Done as Finished, Spent, Ref
 use Rattle.platform.specs.declared.Wrote.{Wrote}
 use Rattle.platform.specs.declared.Wrote.TheVariants.{Bytes, Refused as Unwritten}
 use Rattle.dispatcher.specs.declared.Dispatched.{Dispatched}
-use Rattle.limits.specs.Refusals.{accepted, tooMany}
+use Rattle.limits.specs.Refusals.{accepted, too_many}
 
 -- ---- opening, with no pointer: 'Each answers its number and, for files, the line (from 1, else 0)', both in one number
 
-unfoldable pub numberAndLine : Opened → ℕ
-numberAndLine Ready = 0
-numberAndLine (Unopened number line) = number + 256 * line
+unfoldable pub number_and_line : Opened → ℕ
+number_and_line Ready = 0
+number_and_line (Unopened number line) = number + 256 * line
 
 -- ---- step: which event by its letter (E or F where none is left), its tick, node and other, and the length of its line
 
-unfoldable pub stepLetter : Stepped → ℕ → ℕ
-stepLetter (Did line size) was = line.letter
-stepLetter (Done line size) was = line.letter
-stepLetter (Unstepped number) was = was
+unfoldable pub step_letter : Stepped → ℕ → ℕ
+step_letter (Did line size) was = line.letter
+step_letter (Done line size) was = line.letter
+step_letter (Unstepped number) was = was
 
-unfoldable pub stepTick : Stepped → ℕ → ℕ
-stepTick (Did line size) was = line.tick
-stepTick (Done line size) was = line.tick
-stepTick (Unstepped number) was = was
+unfoldable pub step_tick : Stepped → ℕ → ℕ
+step_tick (Did line size) was = line.tick
+step_tick (Done line size) was = line.tick
+step_tick (Unstepped number) was = was
 
-unfoldable pub stepNode : Stepped → ℕ → ℕ
-stepNode (Did line size) was = line.node
-stepNode (Done line size) was = line.node
-stepNode (Unstepped number) was = was
+unfoldable pub step_node : Stepped → ℕ → ℕ
+step_node (Did line size) was = line.node
+step_node (Done line size) was = line.node
+step_node (Unstepped number) was = was
 
-unfoldable pub stepOther : Stepped → ℕ → ℕ
-stepOther (Did line size) was = line.other
-stepOther (Done line size) was = line.other
-stepOther (Unstepped number) was = was
+unfoldable pub step_other : Stepped → ℕ → ℕ
+step_other (Did line size) was = line.other
+step_other (Done line size) was = line.other
+step_other (Unstepped number) was = was
 
-unfoldable pub stepSize : Stepped → ℕ → ℕ
-stepSize (Did line size) was = size
-stepSize (Done line size) was = size
-stepSize (Unstepped number) was = was
+unfoldable pub step_size : Stepped → ℕ → ℕ
+step_size (Did line size) was = size
+step_size (Done line size) was = size
+step_size (Unstepped number) was = was
 
 -- ---- run: the events done, and 1 where the budget is spent and another event remains
 
 -- 'At a refused event it answers 8 with the events done', which it keeps; on 7 there are none to keep, and the number is left
-unfoldable pub runEvents : Ran → ℕ → ℕ
-runEvents (Finished events) was = events
-runEvents (Spent events) was = events
-runEvents (Unrun number events) was = cond (eqb number tooMany) events was
+unfoldable pub run_events : Ran → ℕ → ℕ
+run_events (Finished events) was = events
+run_events (Spent events) was = events
+run_events (Unrun number events) was = cond (eqb number too_many) events was
 
-unfoldable pub runSpent : Ran → ℕ → ℕ
-runSpent (Finished events) was = 0
-runSpent (Spent events) was = 1
-runSpent (Unrun number events) was = was
+unfoldable pub run_spent : Ran → ℕ → ℕ
+run_spent (Finished events) was = 0
+run_spent (Spent events) was = 1
+run_spent (Unrun number events) was = was
 
 -- ---- the run-file writer: the file's length
 
-unfoldable pub writeSize : Wrote → ℕ → ℕ
-writeSize (Bytes size) was = size
-writeSize (Unwritten number) was = was
+unfoldable pub write_size : Wrote → ℕ → ℕ
+write_size (Bytes size) was = size
+write_size (Unwritten number) was = was
 
 -- ---- the dispatcher: the turns given, the events of each of eight stores, and which are stopped; a refused call leaves them
 
-unfoldable pub dispatchTurns : Dispatched → ℕ → ℕ
-dispatchTurns a was = cond (eqb a.number accepted) a.turns was
+unfoldable pub dispatch_turns : Dispatched → ℕ → ℕ
+dispatch_turns a was = cond (eqb a.number accepted) a.turns was
 
-unfoldable pub dispatchEvents : Dispatched → List ℕ → List ℕ
-dispatchEvents a was = cond (eqb a.number accepted) a.events was
+unfoldable pub dispatch_events : Dispatched → List ℕ → List ℕ
+dispatch_events a was = cond (eqb a.number accepted) a.events was
 
-unfoldable pub dispatchStopped : Dispatched → ℕ → ℕ
-dispatchStopped a was = cond (eqb a.number accepted) a.stopped was
+unfoldable pub dispatch_stopped : Dispatched → ℕ → ℕ
+dispatch_stopped a was = cond (eqb a.number accepted) a.stopped was

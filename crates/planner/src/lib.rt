@@ -1,10 +1,10 @@
 // The platform for planners' own programs in C or Rust: opening, step, run, the run-file writer and the dispatcher on numbers and byte slices.
 // A refused call leaves the numbers behind its pointers too. include/kelbraut.h says how to use them.
 ghost use Rattle.std.specs.Prelude.{◌≡◌};
-ghost use Rattle.platform.specs.Calls.{openFile, step, run, writeFile, stepRefusal, runRefusal, writeRefusal};
-ghost use Rattle.planner.specs.Answers.{numberAndLine, stepLetter, stepTick, stepNode, stepOther, stepSize};
-ghost use Rattle.planner.specs.Answers.{runEvents, runSpent, writeSize};
-ghost use Rattle.planner.specs.Answers.{dispatchTurns, dispatchEvents, dispatchStopped};
+ghost use Rattle.platform.specs.Calls.{open_file, step, run, write_file, step_refusal, run_refusal, write_refusal};
+ghost use Rattle.planner.specs.Answers.{number_and_line, step_letter, step_tick, step_node, step_other, step_size};
+ghost use Rattle.planner.specs.Answers.{run_events, run_spent, write_size};
+ghost use Rattle.planner.specs.Answers.{dispatch_turns, dispatch_events, dispatch_stopped};
 ghost use Rattle.dispatcher.specs.Dispatch.{dispatch};
 
 use limits::{ACCEPTED, TOO_MANY};
@@ -13,8 +13,8 @@ use platform::{Opened, Ran, Stepped, Wrote};
 // Opens a store from a run file. Answers 0, or the number of the refusal and 256 times its line.
 #[unsafe(no_mangle)]
 pub extern "C" fn kelbraut_open(file: &[u8], store: &mut [u8]) -> u64
-    ensures value { result ≡ numberAndLine (openFile file.now store.old).answer }
-    ensures store_after { store.new ≡ (openFile file.now store.old).store }
+    ensures value { result ≡ number_and_line (open_file file.now store.old).answer }
+    ensures store_after { store.new ≡ (open_file file.now store.old).store }
 {
     let opened = platform::open_store(file, store);
     match opened {
@@ -32,9 +32,9 @@ pub extern "C" fn kelbraut_run(
     events: &mut u64,
     spent: &mut u64,
 ) -> u64
-    ensures value { result ≡ runRefusal (run store.old budget).answer }
-    ensures events_after { events.new ≡ runEvents (run store.old budget).answer events.old }
-    ensures spent_after { spent.new ≡ runSpent (run store.old budget).answer spent.old }
+    ensures value { result ≡ run_refusal (run store.old budget).answer }
+    ensures events_after { events.new ≡ run_events (run store.old budget).answer events.old }
+    ensures spent_after { spent.new ≡ run_spent (run store.old budget).answer spent.old }
     ensures store_after { store.new ≡ (run store.old budget).store }
 {
     let ran = platform::run(store, budget);
@@ -61,9 +61,9 @@ pub extern "C" fn kelbraut_run(
 // Puts the store's run file into a lent part. Answers the number of the refusal, 0 where there is none. Puts the file's length.
 #[unsafe(no_mangle)]
 pub extern "C" fn kelbraut_write(store: &[u8], out: &mut [u8], size: &mut u64) -> u64
-    ensures value { result ≡ writeRefusal (writeFile store.now out.old).answer }
-    ensures size_after { size.new ≡ writeSize (writeFile store.now out.old).answer size.old }
-    ensures out_after { out.new ≡ (writeFile store.now out.old).out }
+    ensures value { result ≡ write_refusal (write_file store.now out.old).answer }
+    ensures size_after { size.new ≡ write_size (write_file store.now out.old).answer size.old }
+    ensures out_after { out.new ≡ (write_file store.now out.old).out }
 {
     let wrote = platform::write_file(store, out);
     match wrote {
@@ -87,12 +87,12 @@ pub extern "C" fn kelbraut_step(
     other: &mut u64,
     size: &mut u64,
 ) -> u64
-    ensures value { result ≡ stepRefusal (step store.old log.old).answer }
-    ensures letter_after { letter.new ≡ stepLetter (step store.old log.old).answer letter.old }
-    ensures tick_after { tick.new ≡ stepTick (step store.old log.old).answer tick.old }
-    ensures node_after { node.new ≡ stepNode (step store.old log.old).answer node.old }
-    ensures other_after { other.new ≡ stepOther (step store.old log.old).answer other.old }
-    ensures size_after { size.new ≡ stepSize (step store.old log.old).answer size.old }
+    ensures value { result ≡ step_refusal (step store.old log.old).answer }
+    ensures letter_after { letter.new ≡ step_letter (step store.old log.old).answer letter.old }
+    ensures tick_after { tick.new ≡ step_tick (step store.old log.old).answer tick.old }
+    ensures node_after { node.new ≡ step_node (step store.old log.old).answer node.old }
+    ensures other_after { other.new ≡ step_other (step store.old log.old).answer other.old }
+    ensures size_after { size.new ≡ step_size (step store.old log.old).answer size.old }
     ensures store_after { store.new ≡ (step store.old log.old).store }
     ensures log_after { log.new ≡ (step store.old log.old).log }
 {
@@ -130,9 +130,9 @@ pub extern "C" fn kelbraut_dispatch(
     stopped: &mut u64,
 ) -> u64
     ensures value { result ≡ (dispatch stores.old each turns).answer.number }
-    ensures given_after { given.new ≡ dispatchTurns (dispatch stores.old each turns).answer given.old }
-    ensures events_after { events.new ≡ dispatchEvents (dispatch stores.old each turns).answer events.old }
-    ensures stopped_after { stopped.new ≡ dispatchStopped (dispatch stores.old each turns).answer stopped.old }
+    ensures given_after { given.new ≡ dispatch_turns (dispatch stores.old each turns).answer given.old }
+    ensures events_after { events.new ≡ dispatch_events (dispatch stores.old each turns).answer events.old }
+    ensures stopped_after { stopped.new ≡ dispatch_stopped (dispatch stores.old each turns).answer stopped.old }
     ensures stores_after { stores.new ≡ (dispatch stores.old each turns).part }
 {
     let answer = dispatcher::dispatch(stores, each, turns);

@@ -10,8 +10,8 @@ use native.Mathlib.Omega.{arith}
 use borrow.Author.Tests.{eqb-true, ltb-true}
 use lib.Dec.{eqb, ltb}
 use lib.ListN.{length, get_or}
-use Rattle.plans.specs.Plan.{Crash, Plan, crashRange, delayRange, risingFrom, rising, later, noneTwice, crashOrder, every, planTest}
-use Rattle.plans.specs.Plain.{noCrash, Plain}
+use Rattle.plans.specs.Plan.{Crash, Plan, crash_range, delay_range, rising_from, rising, later, none_twice, crash_order, every, plan_test}
+use Rattle.plans.specs.Plain.{no_crash, Plain}
 use Rattle.plans.proofs.Rows.{every-at, crash-row, delay-row, rows-once}
 use Rattle.plans.proofs.Tests.{tests-of, ranges, in_order}
 
@@ -28,22 +28,22 @@ later-tick a b h = go (ltb a.tick b.tick) refl (eqb a.tick b.tick) refl h
     go false e false f h = absurd (true≢false (sym h))
 
 -- each row of a list is not before the row in front of it
-rows-after : (rs : List Crash) (r : Crash) → risingFrom later r rs ≡ true → (i : ℕ) → i < length rs → r.tick ≤ (get_or rs i noCrash).tick
-unfolding risingFrom
+rows-after : (rs : List Crash) (r : Crash) → rising_from later r rs ≡ true → (i : ℕ) → i < length rs → r.tick ≤ (get_or rs i no_crash).tick
+unfolding rising_from
 rows-after [] r u i l = absurd (omega arith)
-rows-after (q ∷ rs) r u zero l = later-tick r q (and_elim_left (later r q) (risingFrom later q rs) u)
+rows-after (q ∷ rs) r u zero l = later-tick r q (and_elim_left (later r q) (rising_from later q rs) u)
 rows-after (q ∷ rs) r u (suc i) l =
-    let first = later-tick r q (and_elim_left (later r q) (risingFrom later q rs) u) in
-    let rest = rows-after rs q (and_elim_right (later r q) (risingFrom later q rs) u) i (omega arith) in
+    let first = later-tick r q (and_elim_left (later r q) (rising_from later q rs) u) in
+    let rest = rows-after rs q (and_elim_right (later r q) (rising_from later q rs) u) i (omega arith) in
     omega (arith, first, rest)
 
-rising-rest : (r : Crash) (rs : List Crash) → risingFrom later r rs ≡ true → rising later rs ≡ true
-unfolding risingFrom rising
+rising-rest : (r : Crash) (rs : List Crash) → rising_from later r rs ≡ true → rising later rs ≡ true
+unfolding rising_from rising
 rising-rest r [] h = refl
-rising-rest r (q ∷ rs) h = and_elim_right (later r q) (risingFrom later q rs) h
+rising-rest r (q ∷ rs) h = and_elim_right (later r q) (rising_from later q rs) h
 
 rows-rise : (rs : List Crash) → rising later rs ≡ true → (i j : ℕ) → i < j → j < length rs
-    → (get_or rs i noCrash).tick ≤ (get_or rs j noCrash).tick
+    → (get_or rs i no_crash).tick ≤ (get_or rs j no_crash).tick
 unfolding rising
 rows-rise [] h i j a l = absurd (omega arith)
 rows-rise (r ∷ rs) h i zero a l = absurd (omega arith)
@@ -65,13 +65,13 @@ every-member test (x ∷ rs) h r m =
 
 -- ---- a plan
 
-pub plan-plain : (p : Plan) → planTest p ≡ true → Plain p
-unfolding crashOrder
+pub plan-plain : (p : Plan) → plan_test p ≡ true → Plain p
+unfolding crash_order
 plan-plain p good =
     let t = tests-of p good in
     let r = ranges p good in
-    let row : (i : ℕ) → i < length p.crashes → ((get_or p.crashes i noCrash).tick ≤ p.end) × ((get_or p.crashes i noCrash).node < p.n) =
-    λ i l. crash-row p (get_or p.crashes i noCrash) (every-at (crashRange p) p.crashes i noCrash t.crashes l) in
+    let row : (i : ℕ) → i < length p.crashes → ((get_or p.crashes i no_crash).tick ≤ p.end) × ((get_or p.crashes i no_crash).node < p.n) =
+    λ i l. crash-row p (get_or p.crashes i no_crash) (every-at (crash_range p) p.crashes i no_crash t.crashes l) in
     record {
       n≥ = r.n-low;
       n≤ = r.n-high;
@@ -82,7 +82,7 @@ plan-plain p good =
       order = in_order p good;
       node = λ i l. (row i l).1;
       tick = λ i l. (row i l).0;
-      rising = rows-rise p.crashes (and_elim_left _ (noneTwice p.crashes) t.crash-order);
-      once = rows-once p.crashes noCrash (and_elim_right (rising later p.crashes) _ t.crash-order);
-      delay = λ x m. let f = delay-row p x (every-member (delayRange p) p.delays t.delays x m) in (f.low, f.high);
+      rising = rows-rise p.crashes (and_elim_left _ (none_twice p.crashes) t.crash-order);
+      once = rows-once p.crashes no_crash (and_elim_right (rising later p.crashes) _ t.crash-order);
+      delay = λ x m. let f = delay-row p x (every-member (delay_range p) p.delays t.delays x m) in (f.low, f.high);
     }

@@ -1,8 +1,8 @@
 -- What a run file plans, and which plans a run file may hold: document 01's 'Run file and log', document 02's #101 for the line Q.
 -- Assumes nothing.
 use Rattle.std.specs.Prelude.{Bool, true, ◌&&◌, ◌||◌, List, [], ◌∷◌, ◌++◌, map, ℕ, ◌+◌, eqb, leb, ltb, length}
-use Rattle.ring.specs.Ring.{numbers, among, eachOnce, listingAll}
-use Rattle.limits.specs.Limits.{mostNodes, mostH, mostW, mostD, mostTick, mostNumber, mostDelays}
+use Rattle.ring.specs.Ring.{numbers, among, each_once, listing_all}
+use Rattle.limits.specs.Limits.{most_nodes, most_h, most_w, most_d, most_tick, most_number, most_delays}
 
 -- a line C: node `node` crashes at tick `tick`
 pub record Crash : Type 0 where
@@ -27,12 +27,12 @@ pub record Plan : Type 0 where
   pub delays : List Delay
 
 -- the plan of a P line, without a Q line and rows
-unfoldable pub startPlan : ℕ → ℕ → ℕ → ℕ → ℕ → Plan
-startPlan n h w d end = record { n = n; h = h; w = w; d = d; end = end; ring = []; crashes = []; delays = [] }
+unfoldable pub start_plan : ℕ → ℕ → ℕ → ℕ → ℕ → Plan
+start_plan n h w d end = record { n = n; h = h; w = w; d = d; end = end; ring = []; crashes = []; delays = [] }
 
 -- a plan with a Q line, with a C line more, and with an L line more
-unfoldable pub withRing : Plan → List ℕ → Plan
-withRing p ks = record {
+unfoldable pub with_ring : Plan → List ℕ → Plan
+with_ring p ks = record {
   n = p.n;
   h = p.h;
   w = p.w;
@@ -43,8 +43,8 @@ withRing p ks = record {
   delays = p.delays;
 }
 
-unfoldable pub withCrash : Plan → Crash → Plan
-withCrash p r = record {
+unfoldable pub with_crash : Plan → Crash → Plan
+with_crash p r = record {
   n = p.n;
   h = p.h;
   w = p.w;
@@ -55,8 +55,8 @@ withCrash p r = record {
   delays = p.delays;
 }
 
-unfoldable pub withDelay : Plan → Delay → Plan
-withDelay p r = record {
+unfoldable pub with_delay : Plan → Delay → Plan
+with_delay p r = record {
   n = p.n;
   h = p.h;
   w = p.w;
@@ -68,12 +68,12 @@ withDelay p r = record {
 }
 
 -- 'the ring in that order': the numbers of the Q line, and number order where there is none
-unfoldable pub ringOrder : List ℕ → ℕ → List ℕ
-ringOrder [] n = numbers 0 n
-ringOrder (k ∷ ks) n = k ∷ ks
+unfoldable pub ring_order : List ℕ → ℕ → List ℕ
+ring_order [] n = numbers 0 n
+ring_order (k ∷ ks) n = k ∷ ks
 
 unfoldable pub order_of : Plan → List ℕ
-order_of p = ringOrder p.ring p.n
+order_of p = ring_order p.ring p.n
 
 -- all rows pass a test
 unfoldable pub every : {A : Type 0} → (A → Bool) → List A → Bool
@@ -86,89 +86,89 @@ unfoldable pub within : ℕ → ℕ → ℕ → Bool
 within low high x = leb low x && leb x high
 
 -- the ranges of a P line
-unfoldable pub startRanges : Plan → Bool
-startRanges p =
-    within 1 mostNodes p.n
-    && (within 1 mostH p.h && (within 1 mostW p.w && (within 1 mostD p.d && within 0 mostTick p.end)))
+unfoldable pub start_ranges : Plan → Bool
+start_ranges p =
+    within 1 most_nodes p.n
+    && (within 1 most_h p.h && (within 1 most_w p.w && (within 1 most_d p.d && within 0 most_tick p.end)))
 
 -- W is at least H + D; with 'W below H + D' a 'run's last line has the letter F instead of E'
-unfoldable pub longEnough : Plan → Bool
-longEnough p = leb (p.h + p.d) p.w
+unfoldable pub long_enough : Plan → Bool
+long_enough p = leb (p.h + p.d) p.w
 
 -- 'N node numbers': as many as there are nodes, and each is one
-unfoldable pub ringCount : Plan → List ℕ → Bool
-ringCount p ks = eqb (length ks) p.n
+unfoldable pub ring_count : Plan → List ℕ → Bool
+ring_count p ks = eqb (length ks) p.n
 
-unfoldable pub ringRange : Plan → List ℕ → Bool
-ringRange p ks = every (λ k. ltb k p.n) ks
+unfoldable pub ring_range : Plan → List ℕ → Bool
+ring_range p ks = every (λ k. ltb k p.n) ks
 
 -- the ranges of a C line: 'tick 0 to end', 'node not below N'
-unfoldable pub crashRange : Plan → Crash → Bool
-crashRange p r = leb r.tick p.end && ltb r.node p.n
+unfoldable pub crash_range : Plan → Crash → Bool
+crash_range p r = leb r.tick p.end && ltb r.node p.n
 
 -- the ranges of an L line
-unfoldable pub delayRange : Plan → Delay → Bool
-delayRange p r = leb r.number mostNumber && within 1 p.d r.delay
+unfoldable pub delay_range : Plan → Delay → Bool
+delay_range p r = leb r.number most_number && within 1 p.d r.delay
 
 -- ---- orders of lines
 
 -- each row but the first comes after the one before it
-unfoldable pub risingFrom : {A : Type 0} → (A → A → Bool) → A → List A → Bool
-risingFrom after r [] = true
-risingFrom after r (x ∷ xs) = after r x && risingFrom after x xs
+unfoldable pub rising_from : {A : Type 0} → (A → A → Bool) → A → List A → Bool
+rising_from after r [] = true
+rising_from after r (x ∷ xs) = after r x && rising_from after x xs
 
 unfoldable pub rising : {A : Type 0} → (A → A → Bool) → List A → Bool
 rising after [] = true
-rising after (x ∷ xs) = risingFrom after x xs
+rising after (x ∷ xs) = rising_from after x xs
 
 -- crash row b comes after a: 'rising by tick then node'
 unfoldable pub later : Crash → Crash → Bool
 later a b = ltb a.tick b.tick || (eqb a.tick b.tick && ltb a.node b.node)
 
 -- the nodes of C lines
-abbrev pub nodesOf : List Crash → List ℕ
-nodesOf rs = map (λ (r : Crash). r.node) rs
+abbrev pub nodes_of : List Crash → List ℕ
+nodes_of rs = map (λ (r : Crash). r.node) rs
 
 -- a row is of node k
 unfoldable pub hits : List Crash → ℕ → Bool
-hits rs k = among (nodesOf rs) k
+hits rs k = among (nodes_of rs) k
 
 -- a dead list with the nodes of some C lines added
-unfoldable pub withCrashed : ℕ → List Crash → ℕ
-withCrashed d rs = listingAll d (nodesOf rs)
+unfoldable pub with_crashed : ℕ → List Crash → ℕ
+with_crashed d rs = listing_all d (nodes_of rs)
 
 -- 'no node twice'
-unfoldable pub noneTwice : List Crash → Bool
-noneTwice rs = eachOnce (nodesOf rs)
+unfoldable pub none_twice : List Crash → Bool
+none_twice rs = each_once (nodes_of rs)
 
 -- the order of C lines
-unfoldable pub crashOrder : List Crash → Bool
-crashOrder rs = rising later rs && noneTwice rs
+unfoldable pub crash_order : List Crash → Bool
+crash_order rs = rising later rs && none_twice rs
 
 -- delay row b comes after a: 'rising by number'
 unfoldable pub above : Delay → Delay → Bool
 above a b = ltb a.number b.number
 
 -- the order of L lines
-unfoldable pub delayOrder : List Delay → Bool
-delayOrder rs = rising above rs
+unfoldable pub delay_order : List Delay → Bool
+delay_order rs = rising above rs
 
 -- 'at most 2,048'
-unfoldable pub fewDelays : List Delay → Bool
-fewDelays rs = leb (length rs) mostDelays
+unfoldable pub few_delays : List Delay → Bool
+few_delays rs = leb (length rs) most_delays
 
 -- ---- the whole test
 
 -- a run file may hold the plan's Q line, where it has one; its C lines and its L lines
-unfoldable pub ringTest : Plan → Bool
-ringTest p = eqb (length p.ring) 0 || (ringCount p p.ring && (ringRange p p.ring && eachOnce p.ring))
+unfoldable pub ring_test : Plan → Bool
+ring_test p = eqb (length p.ring) 0 || (ring_count p p.ring && (ring_range p p.ring && each_once p.ring))
 
-unfoldable pub crashTest : Plan → Bool
-crashTest p = every (crashRange p) p.crashes && crashOrder p.crashes
+unfoldable pub crash_test : Plan → Bool
+crash_test p = every (crash_range p) p.crashes && crash_order p.crashes
 
-unfoldable pub delayTest : Plan → Bool
-delayTest p = every (delayRange p) p.delays && (delayOrder p.delays && fewDelays p.delays)
+unfoldable pub delay_test : Plan → Bool
+delay_test p = every (delay_range p) p.delays && (delay_order p.delays && few_delays p.delays)
 
 -- a run file may hold the plan
-unfoldable pub planTest : Plan → Bool
-planTest p = startRanges p && (ringTest p && (crashTest p && delayTest p))
+unfoldable pub plan_test : Plan → Bool
+plan_test p = start_ranges p && (ring_test p && (crash_test p && delay_test p))

@@ -8,29 +8,29 @@ use native.Mathlib.Omega.{arith}
 use borrow.Author.Tests.{eq-eqb, ne_eqb}
 use lib.Dec.{eqb}
 use lib.ListN.{length, get_or, length-append}
-use Rattle.plans.specs.Plan.{Plan, planTest, startPlan}
-use Rattle.plans.specs.Plain.{noCrash, row_at}
-use Rattle.store.specs.Inside.{delayAt}
-use Rattle.runfile.specs.File.{FileAnswer, accepted, fileOf, turnedDown}
+use Rattle.plans.specs.Plan.{Plan, plan_test, start_plan}
+use Rattle.plans.specs.Plain.{no_crash, row_at}
+use Rattle.store.specs.Inside.{delay_at}
+use Rattle.runfile.specs.File.{FileAnswer, accepted, file_of, turned_down}
 use Rattle.runfile.specs.declared.Fields.{Fields}
 use Rattle.runfile.specs.declared.Outline.{Outline}
 use Rattle.runfile.specs.declared.Read.TheVariants.{Accepted as Read-as-Accepted, Refused as Read-as-Refused}
 use Rattle.runfile.specs.declared.Entry.{Entry}
-use Rattle.runfile.specs.Reader.{outlineOf, read_of, entry_at, fields_at, ringPlace, crashPlace, delayPlace}
+use Rattle.runfile.specs.Reader.{outline_of, read_of, entry_at, fields_at, ring_place, crash_place, delay_place}
 use Rattle.plans.proofs.Tests.{Ranges, ranges, few-ring, few-delays}
 use Rattle.plans.proofs.Few.{crashes-few}
 use Rattle.runfile.proofs.Refusals.{refusal-small}
 use Rattle.runfile.proofs.RoundTrip.{accepted-plan}
 use Rattle.runfile.proofs.Places.{ring-place-first, ring-place-last, crash-place-first, crash-place-last, ring-at, crash-at, delay-at}
 use Rattle.runfile.proofs.Size.{plan-size}
-use Rattle.runfile.specs.Text.{startText, ringText, headText, crashText, delayText, rowsText, planText}
+use Rattle.runfile.specs.Text.{start_text, ring_text, head_text, crash_text, delay_text, rows_text, plan_text}
 use Rattle.model.specs.Platform.{start}
-use Rattle.limits.specs.Limits.{storeSize}
-use Rattle.store.specs.Store.{encode, planIn}
+use Rattle.limits.specs.Limits.{store_size}
+use Rattle.store.specs.Store.{encode, plan_in}
 use Rattle.platform.specs.declared.Opened.TheVariants.{Ready, Refused as Unopened}
-use Rattle.platform.specs.Calls.{AfterOpen, openPlan, openAnswer, openFile}
-use Rattle.limits.specs.Refusals.{badStore}
-use Rattle.store.specs.Filling.{putRing, putCrash, putDelay, unopened, begun, Unopened as NotOpened, rowsUpTo, filled}
+use Rattle.platform.specs.Calls.{AfterOpen, open_plan, open_answer, open_file}
+use Rattle.limits.specs.Refusals.{bad_store}
+use Rattle.store.specs.Filling.{put_ring, put_crash, put_delay, unopened, begun, Unopened as NotOpened, rows_up_to, filled}
 use Rattle.platform.specs.Accepts.{planned, plan_of, Accepts}
 use Rattle.store.proofs.Filling.{none-begun, ring-begun, none_filled, crash-filled, delay-filled, all-filled}
 use Rattle.store.proofs.Opening.{begun-unopened}
@@ -39,7 +39,7 @@ module _ (file : List ℕ) (ok : Accepts file) where
   abbrev p : Plan
   p = plan_of file
 
-  pub good : planTest p ≡ true
+  pub good : plan_test p ≡ true
   good = accepted-plan file p ok
 
   -- the ranges of its P line
@@ -60,42 +60,42 @@ module _ (file : List ℕ) (ok : Accepts file) where
     pub number_fits : i < 64
     number_fits = omega (arith, ring-fits)
 
-    module _ {at : ℕ} {number : Entry} (place : at ≡ ringPlace p i) (got : number ≡ entry_at file at) where
-      got_number : number ≡ record { value = get_or p.ring i 0; next = ringPlace p (suc i) }
+    module _ {at : ℕ} {number : Entry} (place : at ≡ ring_place p i) (got : number ≡ entry_at file at) where
+      got_number : number ≡ record { value = get_or p.ring i 0; next = ring_place p (suc i) }
       got_number = got ∙ ap (entry_at file) place ∙ ring-at file p ok i (omega arith)
 
-      pub number-next : number.next ≡ ringPlace p (i + 1)
-      number-next = ap (λ (e : Entry). e.next) got_number ∙ ap (ringPlace p) (sym (add-one i))
+      pub number-next : number.next ≡ ring_place p (i + 1)
+      number-next = ap (λ (e : Entry). e.next) got_number ∙ ap (ring_place p) (sym (add-one i))
 
-      pub number_put : {s t : List ℕ} → s ≡ begun p i → t ≡ putRing s i number.value → t ≡ begun p (i + 1)
+      pub number_put : {s t : List ℕ} → s ≡ begun p i → t ≡ put_ring s i number.value → t ≡ begun p (i + 1)
       number_put before put = put ∙ rw (before, got_number) (ring-begun p bounds.n-high ring-fits i (omega arith))
 
   -- the places of the P line's end, of the Q line's end and of the first row
-  heads-small : length (headText p) ≤ 27678
-  unfolding planText
+  heads-small : length (head_text p) ≤ 27678
+  unfolding plan_text
   heads-small =
-      omega (arith, (plan-size p good).1, length-append (headText p) (rowsText crashText p.crashes ++ rowsText delayText p.delays))
+      omega (arith, (plan-size p good).1, length-append (head_text p) (rows_text crash_text p.crashes ++ rows_text delay_text p.delays))
 
-  first-row : crashPlace p 0 ≡ length (headText p)
-  unfolding crashPlace rowsText
-  first-row = ap length (append-nil (headText p))
+  first-row : crash_place p 0 ≡ length (head_text p)
+  unfolding crash_place rows_text
+  first-row = ap length (append-nil (head_text p))
 
-  pub start_small : length (startText p) < 65536
-  unfolding headText
-  start_small = omega (arith, heads-small, length-append (startText p) (ringText p.ring))
+  pub start_small : length (start_text p) < 65536
+  unfolding head_text
+  start_small = omega (arith, heads-small, length-append (start_text p) (ring_text p.ring))
 
   module _ {count : ℕ} (all : count ≡ length p.ring) where
     -- without a Q line
-    pub line-none : count ≡ 0 → {first : ℕ} → first ≡ length (startText p) → first ≡ crashPlace p 0
+    pub line-none : count ≡ 0 → {first : ℕ} → first ≡ length (start_text p) → first ≡ crash_place p 0
     line-none none e = e ∙ sym (crash-place-first p (sym all ∙ none))
 
     -- with one
-    pub line_first : {first : ℕ} → first ≡ length (startText p) → first + 1 ≡ ringPlace p 0
+    pub line_first : {first : ℕ} → first ≡ length (start_text p) → first + 1 ≡ ring_place p 0
     line_first e = ap (λ (k : ℕ). k + 1) e ∙ sym (ring-place-first p)
 
-    module _ (some : count ≡ 0 → ⊥) {end : ℕ} (at : end ≡ ringPlace p count) where
-      pub line-last : end + 1 ≡ crashPlace p 0
-      line-last = ap (λ (k : ℕ). k + 1) (at ∙ ap (ringPlace p) all) ∙ ring-place-last p (λ z. some (all ∙ z))
+    module _ (some : count ≡ 0 → ⊥) {end : ℕ} (at : end ≡ ring_place p count) where
+      pub line-last : end + 1 ≡ crash_place p 0
+      line-last = ap (λ (k : ℕ). k + 1) (at ∙ ap (ring_place p) all) ∙ ring-place-last p (λ z. some (all ∙ z))
 
       pub line_small : end < 65536
       line_small = omega (arith, line-last, first-row, heads-small)
@@ -105,31 +105,31 @@ module _ (file : List ℕ) (ok : Accepts file) where
     pub crash-fits : i < 64
     crash-fits = omega (arith, crashes-fit)
 
-    module _ {at : ℕ} {row : Fields} (place : at ≡ crashPlace p i) (got : row ≡ fields_at file at) where
+    module _ {at : ℕ} {row : Fields} (place : at ≡ crash_place p i) (got : row ≡ fields_at file at) where
       got-crash : row ≡ record
-          { first = (row_at p i).tick; second = (row_at p i).node; next = crashPlace p (suc i) }
-      got-crash = got ∙ ap (fields_at file) place ∙ crash-at file p ok noCrash i (omega arith)
+          { first = (row_at p i).tick; second = (row_at p i).node; next = crash_place p (suc i) }
+      got-crash = got ∙ ap (fields_at file) place ∙ crash-at file p ok no_crash i (omega arith)
 
-      pub crash-next : row.next ≡ crashPlace p (i + 1)
-      crash-next = ap (λ (r : Fields). r.next) got-crash ∙ ap (crashPlace p) (sym (add-one i))
+      pub crash-next : row.next ≡ crash_place p (i + 1)
+      crash-next = ap (λ (r : Fields). r.next) got-crash ∙ ap (crash_place p) (sym (add-one i))
 
-      pub crash-put : {s t : List ℕ} → s ≡ filled p i 0 → t ≡ putCrash s i row.first row.second → t ≡ filled p (i + 1) 0
-      crash-put before put = put ∙ rw (before, got-crash) (crash-filled p bounds.n-high ring-fits crashes-fit delays-fit i noCrash (omega arith))
+      pub crash-put : {s t : List ℕ} → s ≡ filled p i 0 → t ≡ put_crash s i row.first row.second → t ≡ filled p (i + 1) 0
+      crash-put before put = put ∙ rw (before, got-crash) (crash-filled p bounds.n-high ring-fits crashes-fit delays-fit i no_crash (omega arith))
 
   -- the same of an L row
   module _ (i : ℕ) {count : ℕ} (less : i < count) (all : count ≡ length p.delays) where
     pub delay-fits : i < 2048
     delay-fits = omega (arith, delays-fit)
 
-    module _ {at : ℕ} {row : Fields} (place : at ≡ delayPlace p i) (got : row ≡ fields_at file at) where
+    module _ {at : ℕ} {row : Fields} (place : at ≡ delay_place p i) (got : row ≡ fields_at file at) where
       got-delay : row ≡ record
-          { first = (delayAt p i).number; second = (delayAt p i).delay; next = delayPlace p (suc i) }
+          { first = (delay_at p i).number; second = (delay_at p i).delay; next = delay_place p (suc i) }
       got-delay = got ∙ ap (fields_at file) place ∙ delay-at file p ok (record { number = 0; delay = 0 }) i (omega arith)
 
-      pub delay-next : row.next ≡ delayPlace p (i + 1)
-      delay-next = ap (λ (r : Fields). r.next) got-delay ∙ ap (delayPlace p) (sym (add-one i))
+      pub delay-next : row.next ≡ delay_place p (i + 1)
+      delay-next = ap (λ (r : Fields). r.next) got-delay ∙ ap (delay_place p) (sym (add-one i))
 
-      pub delay-put : {s t : List ℕ} → s ≡ filled p (length p.crashes) i → t ≡ putDelay s i row.first row.second
+      pub delay-put : {s t : List ℕ} → s ≡ filled p (length p.crashes) i → t ≡ put_delay s i row.first row.second
           → t ≡ filled p (length p.crashes) (i + 1)
       delay-put before put =
           put ∙ rw (before, got-delay) (delay-filled p bounds.n-high ring-fits crashes-fit delays-fit i (record { number = 0; delay = 0 }) (omega arith))
@@ -141,108 +141,108 @@ at-end f {x} {i} {count} h k e = let same : i ≡ count = omega arith in e ∙ a
 
 -- ---- the whole store
 
-module _ (file : List ℕ) (ok : Accepts file) (o : Outline) (same : o ≡ outlineOf (plan_of file)) where
+module _ (file : List ℕ) (ok : Accepts file) (o : Outline) (same : o ≡ outline_of (plan_of file)) where
   -- the P line is in range, as its writer asks
   pub outlined : o.n ≤ 64
-  unfolding outlineOf
+  unfolding outline_of
   outlined = rw same (bounds file ok).n-high
 
-  pub outlined-ring : (o.rows ≡ length (startText (plan_of file))) × (o.ring ≡ length (plan_of file).ring)
-  unfolding outlineOf
+  pub outlined-ring : (o.rows ≡ length (start_text (plan_of file))) × (o.ring ≡ length (plan_of file).ring)
+  unfolding outline_of
   outlined-ring = (ap (λ (x : Outline). x.rows) same, ap (λ (x : Outline). x.ring) same)
 
   outlined-crashes : o.crashes ≡ length (plan_of file).crashes
-  unfolding outlineOf
+  unfolding outline_of
   outlined-crashes = ap (λ (x : Outline). x.crashes) same
 
-  pub outlined-rows : {at : ℕ} → at ≡ crashPlace (plan_of file) 0
-      → (at ≡ crashPlace (plan_of file) 0) × (o.crashes ≡ length (plan_of file).crashes)
+  pub outlined-rows : {at : ℕ} → at ≡ crash_place (plan_of file) 0
+      → (at ≡ crash_place (plan_of file) 0) × (o.crashes ≡ length (plan_of file).crashes)
   outlined-rows e = (e, outlined-crashes)
 
-  pub outlined-delays : {at : ℕ} → at ≡ crashPlace (plan_of file) o.crashes
-      → (at ≡ delayPlace (plan_of file) 0) × (o.delays ≡ length (plan_of file).delays)
-  unfolding outlineOf
+  pub outlined-delays : {at : ℕ} → at ≡ crash_place (plan_of file) o.crashes
+      → (at ≡ delay_place (plan_of file) 0) × (o.delays ≡ length (plan_of file).delays)
+  unfolding outline_of
   outlined-delays e =
-      (e ∙ ap (crashPlace (plan_of file)) outlined-crashes ∙ crash-place-last (plan_of file), ap (λ (x : Outline). x.delays) same)
+      (e ∙ ap (crash_place (plan_of file)) outlined-crashes ∙ crash-place-last (plan_of file), ap (λ (x : Outline). x.delays) same)
 
   -- the store of the P line alone; with the Q line; with the nodes; with the C rows; with all rows
-  pub started : {s : List ℕ} → s ≡ encode (startPlan o.n o.h o.w o.d o.end) (unopened (startPlan o.n o.h o.w o.d o.end))
+  pub started : {s : List ℕ} → s ≡ encode (start_plan o.n o.h o.w o.d o.end) (unopened (start_plan o.n o.h o.w o.d o.end))
       → s ≡ begun (plan_of file) 0
-  unfolding outlineOf
+  unfolding outline_of
   started e = e ∙ rw same (none-begun (plan_of file))
 
   module _ {s : List ℕ} (is : s ≡ begun (plan_of file) o.ring) where
-    ready : NotOpened s × (planIn s ≡ rowsUpTo (plan_of file) 0 0)
+    ready : NotOpened s × (plan_in s ≡ rows_up_to (plan_of file) 0 0)
     ready = begun-unopened (plan_of file) (good file ok) (is ∙ ap (begun (plan_of file)) outlined-ring.1)
 
     pub ringed : NotOpened s
     ringed = ready.0
 
-    pub opened : {t : List ℕ} → t ≡ encode (planIn s) (start (planIn s)) → t ≡ filled (plan_of file) 0 0
+    pub opened : {t : List ℕ} → t ≡ encode (plan_in s) (start (plan_in s)) → t ≡ filled (plan_of file) 0 0
     opened e = e ∙ rw ready.1 (none_filled (plan_of file))
 
   pub crashed : {s : List ℕ} → s ≡ filled (plan_of file) o.crashes 0 → s ≡ filled (plan_of file) (length (plan_of file).crashes) 0
   crashed e = e ∙ ap (λ (k : ℕ). filled (plan_of file) k 0) outlined-crashes
 
   pub whole : {s : List ℕ} → s ≡ filled (plan_of file) (length (plan_of file).crashes) o.delays → s ≡ encode (plan_of file) (start (plan_of file))
-  unfolding outlineOf
+  unfolding outline_of
   whole e = e ∙ ap (filled (plan_of file) (length (plan_of file).crashes)) (ap (λ (x : Outline). x.delays) same) ∙ all-filled (plan_of file)
 
 -- ---- opening's answers
 
 -- an accepted file, by what the reader answers
-pub read-accepts : (file : List ℕ) (o : Outline) → Read-as-Accepted o ≡ read_of (fileOf file) → Accepts file × (o ≡ outlineOf (plan_of file))
+pub read-accepts : (file : List ℕ) (o : Outline) → Read-as-Accepted o ≡ read_of (file_of file) → Accepts file × (o ≡ outline_of (plan_of file))
 unfolding planned read_of
-read-accepts file o e = go (fileOf file) refl e
+read-accepts file o e = go (file_of file) refl e
   where
-    go : (a : FileAnswer) → fileOf file ≡ a → Read-as-Accepted o ≡ read_of a
-        → (fileOf file ≡ accepted (planned (fileOf file))) × (o ≡ outlineOf (planned (fileOf file)))
-    go (accepted p) same h = let out : o ≡ outlineOf p = cc in (rw same refl, rw same out)
-    go (turnedDown number line) same h = let z : ◌≡◌ {A = ℕ} 0 1 = cc in absurd (omega arith)
+    go : (a : FileAnswer) → file_of file ≡ a → Read-as-Accepted o ≡ read_of a
+        → (file_of file ≡ accepted (planned (file_of file))) × (o ≡ outline_of (planned (file_of file)))
+    go (accepted p) same h = let out : o ≡ outline_of p = cc in (rw same refl, rw same out)
+    go (turned_down number line) same h = let z : ◌≡◌ {A = ℕ} 0 1 = cc in absurd (omega arith)
 
 module _ (file store : List ℕ) where
-  pub open-refused : {number line : ℕ} → Read-as-Refused number line ≡ read_of (fileOf file)
-      → (Unopened number line ≡ (openFile file store).answer) × (store ≡ (openFile file store).store)
-  unfolding openFile openAnswer read_of
-  open-refused {number} {line} e = go (fileOf file) e
+  pub open-refused : {number line : ℕ} → Read-as-Refused number line ≡ read_of (file_of file)
+      → (Unopened number line ≡ (open_file file store).answer) × (store ≡ (open_file file store).store)
+  unfolding open_file open_answer read_of
+  open-refused {number} {line} e = go (file_of file) e
     where
       go : (a : FileAnswer) → Read-as-Refused number line ≡ read_of a
-          → (Unopened number line ≡ (openAnswer a store).answer) × (store ≡ (openAnswer a store).store)
+          → (Unopened number line ≡ (open_answer a store).answer) × (store ≡ (open_answer a store).store)
       go (accepted p) h = let z : ◌≡◌ {A = ℕ} 0 1 = cc in absurd (omega arith)
-      go (turnedDown k l) h = let a : number ≡ k = cc in let b : line ≡ l = cc in (rw (a, b), refl)
+      go (turned_down k l) h = let a : number ≡ k = cc in let b : line ≡ l = cc in (rw (a, b), refl)
 
-  open-plan : Accepts file → openFile file store ≡ openPlan (plan_of file) store
-  unfolding openFile openAnswer
-  open-plan ok = ap (λ (a : FileAnswer). openAnswer a store) ok
+  open-plan : Accepts file → open_file file store ≡ open_plan (plan_of file) store
+  unfolding open_file open_answer
+  open-plan ok = ap (λ (a : FileAnswer). open_answer a store) ok
 
-  pub open-short : Accepts file → (length store ≡ storeSize → ⊥)
-      → (Unopened badStore 0 ≡ (openFile file store).answer) × (store ≡ (openFile file store).store)
-  unfolding openPlan
-  open-short ok h = rw (open-plan ok, ne_eqb (length store) storeSize h) (refl, refl)
+  pub open-short : Accepts file → (length store ≡ store_size → ⊥)
+      → (Unopened bad_store 0 ≡ (open_file file store).answer) × (store ≡ (open_file file store).store)
+  unfolding open_plan
+  open-short ok h = rw (open-plan ok, ne_eqb (length store) store_size h) (refl, refl)
 
-  pub open-ready : {t : List ℕ} → Accepts file → length store ≡ storeSize → t ≡ encode (plan_of file) (start (plan_of file))
-      → (Ready ≡ (openFile file store).answer) × (t ≡ (openFile file store).store)
-  unfolding openPlan
-  open-ready ok h e = rw (open-plan ok, eq-eqb (length store) storeSize h) (refl, e)
+  pub open-ready : {t : List ℕ} → Accepts file → length store ≡ store_size → t ≡ encode (plan_of file) (start (plan_of file))
+      → (Ready ≡ (open_file file store).answer) × (t ≡ (open_file file store).store)
+  unfolding open_plan
+  open-ready ok h e = rw (open-plan ok, eq-eqb (length store) store_size h) (refl, e)
 
 -- a refused opening has a number of 1 to 13 and a line of at most 65,536
-pub opening-small : (file store : List ℕ) (number line : ℕ) → (openFile file store).answer ≡ Unopened number line
+pub opening-small : (file store : List ℕ) (number line : ℕ) → (open_file file store).answer ≡ Unopened number line
     → (1 ≤ number) × (number ≤ 13) × (line ≤ 65536)
-unfolding openFile openAnswer openPlan
-opening-small file store number line e = go (fileOf file) refl e
+unfolding open_file open_answer open_plan
+opening-small file store number line e = go (file_of file) refl e
   where
     ready : AfterOpen → Bool → AfterOpen
-    ready after t = cond t after (record { answer = Unopened badStore 0; store = store })
+    ready after t = cond t after (record { answer = Unopened bad_store 0; store = store })
 
     tested : (p : Plan) (t : Bool) → (ready (record { answer = Ready; store = encode p (start p) }) t).answer ≡ Unopened number line
         → (1 ≤ number) × (number ≤ 13) × (line ≤ 65536)
     tested p true h = let z : ◌≡◌ {A = ℕ} 0 1 = cc in absurd (omega arith)
-    tested p false h = let a : badStore ≡ number = cc in let b : ◌≡◌ {A = ℕ} 0 line = cc in omega arith
+    tested p false h = let a : bad_store ≡ number = cc in let b : ◌≡◌ {A = ℕ} 0 line = cc in omega arith
 
-    go : (a : FileAnswer) → fileOf file ≡ a → (openAnswer a store).answer ≡ Unopened number line
+    go : (a : FileAnswer) → file_of file ≡ a → (open_answer a store).answer ≡ Unopened number line
         → (1 ≤ number) × (number ≤ 13) × (line ≤ 65536)
-    go (accepted p) same h = tested p (eqb (length store) storeSize) h
-    go (turnedDown k l) same h =
+    go (accepted p) same h = tested p (eqb (length store) store_size) h
+    go (turned_down k l) same h =
         let a : k ≡ number = cc in
         let b : l ≡ line = cc in
         let s = refusal-small file k l same in

@@ -3,19 +3,19 @@ use mathlib.Core.Path.{◌≡◌, refl, sym, ap, subst, ◌∙◌}
 use mathlib.Core.List.{List}
 use Prim.Native.Nat.{ℕ, ◌-◌, ◌≤◌, ◌<◌}
 use Rattle.model.specs.declared.Deed.{Deed}
-use Rattle.store.specs.Store.{planIn, stateIn}
+use Rattle.store.specs.Store.{plan_in, state_in}
 use Rattle.event.specs.declared.Happened.{Happened}
 use Rattle.event.specs.declared.Happened.TheVariants.{Did, Ended, Refused}
-use Rattle.event.specs.Event.{nextAnswer, storeLeft}
+use Rattle.event.specs.Event.{next_answer, store_left}
 use Rattle.event.specs.Ready.{Ready}
 use Rattle.course.specs.declared.Progress.{Progress}
 use Rattle.course.specs.declared.Went.{Went}
 use Rattle.course.specs.declared.Went.TheVariants.{Did as WentOn, Ended as WentOut, Refused as WentWrong}
-use Rattle.course.specs.Progress.{Underway, answer_of, progressOf, Agrees}
+use Rattle.course.specs.Progress.{Underway, answer_of, progress_of, Agrees}
 use Rattle.platform.specs.declared.Ran.{Ran}
 use Rattle.platform.specs.declared.Ran.TheVariants.{Done, Refused as Unrun}
-use Rattle.limits.specs.Refusals.{tooMany}
-use Rattle.platform.specs.Calls.{runNext}
+use Rattle.limits.specs.Refusals.{too_many}
+use Rattle.platform.specs.Calls.{run_next}
 use Rattle.platform.proofs.Running.{Runs, Ends, run-starts, run-goes-on, run-ended, run-refused}
 
 -- of a run of `budget` from the store `first`, all but `rest` are done, and led to the whole store that b and the queue stand for
@@ -33,22 +33,22 @@ module _ {first : List ℕ} {budget rest : ℕ} {b q : List ℕ} {c : Progress} 
   told z e = subst (λ (z : Went). Agrees w.whole z b' q') e (next w.whole w.underway)
 
   pub queued-did : {d : Progress} {l : Deed} → r ≡ WentOn d l → RunsOn first budget (rest - 1) b' q' d
-  unfolding answer_of progressOf
+  unfolding answer_of progress_of
   queued-did {d} {l} e = let f = told (WentOn d l) e in record {
-    whole = storeLeft w.whole;
+    whole = store_left w.whole;
     underway = f.underway;
     runs = run-goes-on first budget rest w.whole w.runs more f.answer refl;
   }
 
   pub queued-ended : {d : Progress} → r ≡ WentOut d
-      → Underway b' q' d (storeLeft w.whole) × ((s : List ℕ) → s ≡ storeLeft w.whole → Ends (runNext first budget) (Done (budget - rest)) s)
-  unfolding answer_of progressOf
+      → Underway b' q' d (store_left w.whole) × ((s : List ℕ) → s ≡ store_left w.whole → Ends (run_next first budget) (Done (budget - rest)) s)
+  unfolding answer_of progress_of
   queued-ended {d} e = let f = told (WentOut d) e in (f.underway, λ s be. run-ended first budget rest w.whole w.runs more f.answer be)
 
   pub queued-refused : {d : Progress} → r ≡ WentWrong d
-      → Underway b' q' d (storeLeft w.whole)
-      × ((s : List ℕ) → s ≡ storeLeft w.whole → Ends (runNext first budget) (Unrun tooMany (budget - rest)) s)
-  unfolding answer_of progressOf
+      → Underway b' q' d (store_left w.whole)
+      × ((s : List ℕ) → s ≡ store_left w.whole → Ends (run_next first budget) (Unrun too_many (budget - rest)) s)
+  unfolding answer_of progress_of
   queued-refused {d} e = let f = told (WentWrong d) e in (f.underway, λ s be. run-refused first budget rest w.whole w.runs more f.answer be)
 
 -- the messages are back in the store

@@ -6,20 +6,20 @@ use native.Mathlib.Omega.{arith}
 use lib.ListN.{length}
 use Rattle.text.specs.Put.{Put}
 use Rattle.logline.specs.declared.Line.{Line}
-use Rattle.logline.specs.Line.{lineText}
+use Rattle.logline.specs.Line.{line_text}
 use Rattle.model.specs.declared.Deed.{Deed}
 use Rattle.plans.specs.Plan.{Plan}
 use Rattle.model.specs.Platform.{State, Outcome, did, ended, refused, left}
-use Rattle.model.specs.Lines.{lastLine, deed_of, ownLine, deedLines, linesText}
-use Rattle.store.specs.Store.{encode, planIn, stateIn}
+use Rattle.model.specs.Lines.{last_line, deed_of, own_line, deed_lines, lines_text}
+use Rattle.store.specs.Store.{encode, plan_in, state_in}
 use Rattle.event.specs.declared.Happened.{Happened}
 use Rattle.event.specs.declared.Happened.TheVariants.{Did as Happens, Ended, Refused as TooMany}
-use Rattle.event.specs.Event.{happened, nextOutcome, nextAnswer, storeLeft}
+use Rattle.event.specs.Event.{happened, next_outcome, next_answer, store_left}
 use Rattle.event.specs.Ready.{Ready}
 use Rattle.platform.specs.declared.Stepped.{Stepped}
 use Rattle.platform.specs.declared.Stepped.TheVariants.{Did, Done, Refused}
-use Rattle.limits.specs.Refusals.{tooMany}
-use Rattle.platform.specs.Calls.{AfterStep, stepOutcome, stepNext}
+use Rattle.limits.specs.Refusals.{too_many}
+use Rattle.platform.specs.Calls.{AfterStep, step_outcome, step_next}
 
 -- no two answers of an event are one
 pub differ : ◌≡◌ {A = ℕ} 0 1 → ⊥
@@ -31,42 +31,42 @@ Steps r a b log = (a ≡ r.answer) × ((b ≡ r.store) × (log ≡ r.log))
 
 module _ (p : Plan) (s : State) (b log : List ℕ) {b' : List ℕ} where
   did-is : (o : Outcome) {a : Deed} {n : ℕ} {log' : List ℕ} → Happens a ≡ happened p s o → b' ≡ encode p (left s o)
-      → Put log 0 (linesText (deedLines a)) n log' → Steps (stepOutcome p s o b log) (Did (ownLine a) n) b' log'
-  unfolding happened stepOutcome left
+      → Put log 0 (lines_text (deed_lines a)) n log' → Steps (step_outcome p s o b log) (Did (own_line a) n) b' log'
+  unfolding happened step_outcome left
   did-is (did e s') {a} {n} h st w =
       let same : a ≡ deed_of p s s' e.tick e.event = cc h in
-      let size : n ≡ length (linesText (deedLines a)) = omega (arith, w.next) in
+      let size : n ≡ length (lines_text (deed_lines a)) = omega (arith, w.next) in
       rw (← same, ← size) (refl, (st, w.bytes))
   did-is ended h st w = absurd (differ (cc h))
   did-is refused h st w = absurd (differ (cc h))
 
   ended_is : (o : Outcome) {l : Line} {n : ℕ} {log' : List ℕ} → b ≡ encode p s → Ended ≡ happened p s o → b' ≡ encode p (left s o)
-      → l ≡ lastLine p s
-      → Put log 0 (lineText l) n log' → Steps (stepOutcome p s o b log) (Done l n) b' log'
-  unfolding happened stepOutcome left
+      → l ≡ last_line p s
+      → Put log 0 (line_text l) n log' → Steps (step_outcome p s o b log) (Done l n) b' log'
+  unfolding happened step_outcome left
   ended_is (did e s') is h st same w = absurd (differ (cc h))
   ended_is ended {l} {n} is h st same w =
-      let size : n ≡ length (lineText l) = omega (arith, w.next) in
+      let size : n ≡ length (line_text l) = omega (arith, w.next) in
       rw (← same, ← size) (refl, (st ∙ sym is, w.bytes))
   ended_is refused is h st same w = absurd (differ (cc h))
 
   refused-is : (o : Outcome) → b ≡ encode p s → TooMany ≡ happened p s o → b' ≡ encode p (left s o)
-      → Steps (stepOutcome p s o b log) (Refused tooMany) b' log
-  unfolding happened stepOutcome left
+      → Steps (step_outcome p s o b log) (Refused too_many) b' log
+  unfolding happened step_outcome left
   refused-is (did e s') is h st = absurd (differ (cc h))
   refused-is ended is h st = absurd (differ (cc h))
   refused-is refused is h st = (refl, (st ∙ sym is, refl))
 
 -- ---- of what a ready store holds
 
-module _ (b log : List ℕ) (r : Ready b) {b' : List ℕ} (st : b' ≡ storeLeft b) where
-  pub step-did : {a : Deed} {n : ℕ} {log' : List ℕ} → Happens a ≡ nextAnswer b → Put log 0 (linesText (deedLines a)) n log'
-      → Steps (stepNext b log) (Did (ownLine a) n) b' log'
-  step-did h w = did-is (planIn b) (stateIn b) b log (nextOutcome b) h st w
+module _ (b log : List ℕ) (r : Ready b) {b' : List ℕ} (st : b' ≡ store_left b) where
+  pub step-did : {a : Deed} {n : ℕ} {log' : List ℕ} → Happens a ≡ next_answer b → Put log 0 (lines_text (deed_lines a)) n log'
+      → Steps (step_next b log) (Did (own_line a) n) b' log'
+  step-did h w = did-is (plan_in b) (state_in b) b log (next_outcome b) h st w
 
-  pub step-ended : {l : Line} {n : ℕ} {log' : List ℕ} → ◌≡◌ {A = Happened} Ended (nextAnswer b) → l ≡ lastLine (planIn b) (stateIn b)
-      → Put log 0 (lineText l) n log' → Steps (stepNext b log) (Done l n) b' log'
-  step-ended h same w = ended_is (planIn b) (stateIn b) b log (nextOutcome b) r.held.canonical h st same w
+  pub step-ended : {l : Line} {n : ℕ} {log' : List ℕ} → ◌≡◌ {A = Happened} Ended (next_answer b) → l ≡ last_line (plan_in b) (state_in b)
+      → Put log 0 (line_text l) n log' → Steps (step_next b log) (Done l n) b' log'
+  step-ended h same w = ended_is (plan_in b) (state_in b) b log (next_outcome b) r.held.canonical h st same w
 
-  pub step-refused : ◌≡◌ {A = Happened} TooMany (nextAnswer b) → Steps (stepNext b log) (Refused tooMany) b' log
-  step-refused h = refused-is (planIn b) (stateIn b) b log (nextOutcome b) r.held.canonical h st
+  pub step-refused : ◌≡◌ {A = Happened} TooMany (next_answer b) → Steps (step_next b log) (Refused too_many) b' log
+  step-refused h = refused-is (plan_in b) (state_in b) b log (next_outcome b) r.held.canonical h st

@@ -3,15 +3,15 @@
 -- what it was lent, but for a run's earlier events. Assumes nothing.
 use Rattle.std.specs.Prelude.{cond, List, ℕ, eqb, ltb, length}
 use Rattle.text.specs.Put.{put}
-use Rattle.logline.specs.Line.{lineText}
+use Rattle.logline.specs.Line.{line_text}
 use Rattle.plans.specs.Plan.{Plan}
-use Rattle.runfile.specs.Text.{planText}
-use Rattle.runfile.specs.File.{FileAnswer, accepted, fileOf, turnedDown}
-use Rattle.limits.specs.Limits.{storeSize, logRoom, fileRoom}
-use Rattle.limits.specs.Refusals.{badStore, tooMany, shortPart}
-use Rattle.model.specs.Platform.{State, Outcome, did, ended, refused, start, try, steps, eventCount, runAnswer, spent, finished, overfull, Ending}
-use Rattle.model.specs.Lines.{line_of, eventLines, lastLine, linesText}
-use Rattle.store.specs.Store.{encode, planIn, stateIn, storeInRange}
+use Rattle.runfile.specs.Text.{plan_text}
+use Rattle.runfile.specs.File.{FileAnswer, accepted, file_of, turned_down}
+use Rattle.limits.specs.Limits.{store_size, log_room, file_room}
+use Rattle.limits.specs.Refusals.{bad_store, too_many, short_part}
+use Rattle.model.specs.Platform.{State, Outcome, did, ended, refused, start, try, steps, event_count, run_answer, spent, finished, overfull, Ending}
+use Rattle.model.specs.Lines.{line_of, event_lines, last_line, lines_text}
+use Rattle.store.specs.Store.{encode, plan_in, state_in, store_in_range}
 use Rattle.platform.specs.declared.Opened.{Opened}
 use Rattle.platform.specs.declared.Opened.TheVariants.{Ready, Refused as Unopened}
 use Rattle.platform.specs.declared.Stepped.{Stepped}
@@ -28,19 +28,19 @@ pub record AfterOpen : Type 0 where
   pub store : List ℕ
 
 -- 'opening tests only its length'; 7 has no line
-unfoldable pub openPlan : Plan → List ℕ → AfterOpen
-openPlan p store =
-    cond (eqb (length store) storeSize)
+unfoldable pub open_plan : Plan → List ℕ → AfterOpen
+open_plan p store =
+    cond (eqb (length store) store_size)
     (record { answer = Ready; store = encode p (start p) })
-    (record { answer = Unopened badStore 0; store = store })
+    (record { answer = Unopened bad_store 0; store = store })
 
 -- the file is tried before the store
-unfoldable pub openAnswer : FileAnswer → List ℕ → AfterOpen
-openAnswer (turnedDown number line) store = record { answer = Unopened number line; store = store }
-openAnswer (accepted p) store = openPlan p store
+unfoldable pub open_answer : FileAnswer → List ℕ → AfterOpen
+open_answer (turned_down number line) store = record { answer = Unopened number line; store = store }
+open_answer (accepted p) store = open_plan p store
 
-unfoldable pub openFile : List ℕ → List ℕ → AfterOpen
-openFile file store = openAnswer (fileOf file) store
+unfoldable pub open_file : List ℕ → List ℕ → AfterOpen
+open_file file store = open_answer (file_of file) store
 
 -- ---- step
 
@@ -51,27 +51,27 @@ pub record AfterStep : Type 0 where
 
 -- 'A step does one event, answers it and writes its line, or answers done, leaves the store and writes the last line when none is left
 -- up to the end tick. The log part after the line is unchanged.'
-unfoldable pub stepOutcome : Plan → State → Outcome → List ℕ → List ℕ → AfterStep
-stepOutcome p s (did e s') store log =
-    let text : List ℕ = linesText (eventLines p s s' e) in
+unfoldable pub step_outcome : Plan → State → Outcome → List ℕ → List ℕ → AfterStep
+step_outcome p s (did e s') store log =
+    let text : List ℕ = lines_text (event_lines p s s' e) in
     record { answer = Did (line_of p s s' e.tick e.event) (length text); store = encode p s'; log = put log 0 text }
-stepOutcome p s ended store log =
-    let text : List ℕ = lineText (lastLine p s) in
-    record { answer = Done (lastLine p s) (length text); store = store; log = put log 0 text }
-stepOutcome p s refused store log = record { answer = Unstepped tooMany; store = store; log = log }
+step_outcome p s ended store log =
+    let text : List ℕ = line_text (last_line p s) in
+    record { answer = Done (last_line p s) (length text); store = store; log = put log 0 text }
+step_outcome p s refused store log = record { answer = Unstepped too_many; store = store; log = log }
 
 -- of what a store holds
-abbrev pub stepNext : List ℕ → List ℕ → AfterStep
-stepNext store log = stepOutcome (planIn store) (stateIn store) (try (planIn store) (stateIn store)) store log
+abbrev pub step_next : List ℕ → List ℕ → AfterStep
+step_next store log = step_outcome (plan_in store) (state_in store) (try (plan_in store) (state_in store)) store log
 
 -- 7, then 9, then 8
 unfoldable pub step : List ℕ → List ℕ → AfterStep
 step store log =
-    cond (storeInRange store)
-    (cond (ltb (length log) logRoom)
-    (record { answer = Unstepped shortPart; store = store; log = log })
-    (stepNext store log))
-    (record { answer = Unstepped badStore; store = store; log = log })
+    cond (store_in_range store)
+    (cond (ltb (length log) log_room)
+    (record { answer = Unstepped short_part; store = store; log = log })
+    (step_next store log))
+    (record { answer = Unstepped bad_store; store = store; log = log })
 
 -- ---- run
 
@@ -83,22 +83,22 @@ pub record AfterRun : Type 0 where
 unfoldable pub ran : Ending → ℕ → Ran
 ran finished events = Finished events
 ran spent events = Spent events
-ran overfull events = Unrun tooMany events
+ran overfull events = Unrun too_many events
 
 -- the store after the budget's events, or after those before the first that is not done
-unfoldable pub runState : Plan → State → ℕ → AfterRun
-runState p s budget = record { answer = ran (runAnswer p budget s) (eventCount p budget s); store = encode p (steps p budget s) }
+unfoldable pub run_state : Plan → State → ℕ → AfterRun
+run_state p s budget = record { answer = ran (run_answer p budget s) (event_count p budget s); store = encode p (steps p budget s) }
 
 -- of what a store holds
-abbrev pub runNext : List ℕ → ℕ → AfterRun
-runNext store budget = runState (planIn store) (stateIn store) budget
+abbrev pub run_next : List ℕ → ℕ → AfterRun
+run_next store budget = run_state (plan_in store) (state_in store) budget
 
 -- 7 comes with no events
 unfoldable pub run : List ℕ → ℕ → AfterRun
 run store budget =
-    cond (storeInRange store)
-    (runNext store budget)
-    (record { answer = Unrun badStore 0; store = store })
+    cond (store_in_range store)
+    (run_next store budget)
+    (record { answer = Unrun bad_store 0; store = store })
 
 -- ---- the run-file writer
 
@@ -107,37 +107,37 @@ pub record AfterWrite : Type 0 where
   pub out : List ℕ
 
 -- 'puts a store's P, C and L lines into a lent part and leaves the rest of that part'; 7, then 9
-unfoldable pub writeFile : List ℕ → List ℕ → AfterWrite
-writeFile store out =
-    let text : List ℕ = planText (planIn store) in
-    cond (storeInRange store)
-    (cond (ltb (length out) fileRoom)
-    (record { answer = Unwritten shortPart; out = out })
+unfoldable pub write_file : List ℕ → List ℕ → AfterWrite
+write_file store out =
+    let text : List ℕ = plan_text (plan_in store) in
+    cond (store_in_range store)
+    (cond (ltb (length out) file_room)
+    (record { answer = Unwritten short_part; out = out })
     (record { answer = Bytes (length text); out = put out 0 text }))
-    (record { answer = Unwritten badStore; out = out })
+    (record { answer = Unwritten bad_store; out = out })
 
 -- ---- the number that refuses a call, 0 where it is not refused
 
-unfoldable pub openRefusal : Opened → ℕ
-openRefusal Ready = 0
-openRefusal (Unopened number line) = number
+unfoldable pub open_refusal : Opened → ℕ
+open_refusal Ready = 0
+open_refusal (Unopened number line) = number
 
-unfoldable pub stepRefusal : Stepped → ℕ
-stepRefusal (Did line size) = 0
-stepRefusal (Done line size) = 0
-stepRefusal (Unstepped number) = number
+unfoldable pub step_refusal : Stepped → ℕ
+step_refusal (Did line size) = 0
+step_refusal (Done line size) = 0
+step_refusal (Unstepped number) = number
 
-unfoldable pub runRefusal : Ran → ℕ
-runRefusal (Finished n) = 0
-runRefusal (Spent n) = 0
-runRefusal (Unrun number n) = number
+unfoldable pub run_refusal : Ran → ℕ
+run_refusal (Finished n) = 0
+run_refusal (Spent n) = 0
+run_refusal (Unrun number n) = number
 
 -- the events that a run answers
-unfoldable pub eventsDone : Ran → ℕ
-eventsDone (Finished n) = n
-eventsDone (Spent n) = n
-eventsDone (Unrun number n) = n
+unfoldable pub events_done : Ran → ℕ
+events_done (Finished n) = n
+events_done (Spent n) = n
+events_done (Unrun number n) = n
 
-unfoldable pub writeRefusal : Wrote → ℕ
-writeRefusal (Bytes size) = 0
-writeRefusal (Unwritten number) = number
+unfoldable pub write_refusal : Wrote → ℕ
+write_refusal (Bytes size) = 0
+write_refusal (Unwritten number) = number

@@ -1,9 +1,9 @@
 // Events of a store that is ready for them: one with its lines, for a step, or a budget of them, for a run.
 ghost use Rattle.std.specs.Prelude.{◌≡◌, ◌≤◌, length};
-ghost use Rattle.limits.specs.Limits.{logRoom};
+ghost use Rattle.limits.specs.Limits.{log_room};
 ghost use Rattle.event.specs.Ready.{Ready};
 ghost use Rattle.queue.specs.Rows.{size};
-ghost use Rattle.platform.specs.Calls.{stepNext, runNext};
+ghost use Rattle.platform.specs.Calls.{step_next, run_next};
 
 use crate::{Ran, Stepped};
 use course::Went;
@@ -14,10 +14,10 @@ use store::messages;
 // The next event and its lines, or the last line where none is left.
 pub fn step_ready(store: &mut [u8], log: &mut [u8]) -> Stepped
     requires ready { Ready store.old }
-    requires log_room_in_bounds { logRoom ≤ length log.old }
-    ensures value { result ≡ (stepNext store.old log.old).answer }
-    ensures store_after { store.new ≡ (stepNext store.old log.old).store }
-    ensures log_after { log.new ≡ (stepNext store.old log.old).log }
+    requires log_room_in_bounds { log_room ≤ length log.old }
+    ensures value { result ≡ (step_next store.old log.old).answer }
+    ensures store_after { store.new ≡ (step_next store.old log.old).store }
+    ensures log_after { log.new ≡ (step_next store.old log.old).log }
 {
     match event::do_event(store) {
         Happened::Did(deed) => Stepped::Did(lines::own_line(deed), lines::put_lines(deed, log, 0)),
@@ -32,8 +32,8 @@ pub fn step_ready(store: &mut [u8], log: &mut [u8]) -> Stepped
 // Events up to a budget, to the last one or to one that is refused, each found as for a step.
 fn run_searching(store: &mut [u8], budget: u64) -> Ran
     requires { Ready store.old }
-    ensures value { result ≡ (runNext store.old budget).answer }
-    ensures store_after { store.new ≡ (runNext store.old budget).store }
+    ensures value { result ≡ (run_next store.old budget).answer }
+    ensures store_after { store.new ≡ (run_next store.old budget).store }
 {
     let mut rest = budget;
     while 0 < rest {
@@ -53,8 +53,8 @@ fn run_searching(store: &mut [u8], budget: u64) -> Ran
 fn run_queued(store: &mut [u8], q: &mut [u64], budget: u64) -> Ran
     requires ready { Ready store.old }
     requires q_len { length q.old ≡ size }
-    ensures value { result ≡ (runNext store.old budget).answer }
-    ensures store_after { store.new ≡ (runNext store.old budget).store }
+    ensures value { result ≡ (run_next store.old budget).answer }
+    ensures store_after { store.new ≡ (run_next store.old budget).store }
 {
     let mut c = course::begin(store, q);
     let mut left = budget;
@@ -87,8 +87,8 @@ const QUEUED: u64 = 12;
 // Events up to a budget, to the last one or to one that is refused, in the quicker of the two ways.
 pub fn run_ready(store: &mut [u8], budget: u64) -> Ran
     requires { Ready store.old }
-    ensures value { result ≡ (runNext store.old budget).answer }
-    ensures store_after { store.new ≡ (runNext store.old budget).store }
+    ensures value { result ≡ (run_next store.old budget).answer }
+    ensures store_after { store.new ≡ (run_next store.old budget).store }
 {
     if budget < QUEUED {
         return run_searching(store, budget);

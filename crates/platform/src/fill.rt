@@ -1,9 +1,9 @@
 // Fills a store from an accepted file: the P line, the numbers of the Q line, the nodes, then the rows one after another.
 ghost use Rattle.std.specs.Prelude.{◌≡◌, length};
-ghost use Rattle.runfile.specs.Text.{startText};
-ghost use Rattle.runfile.specs.Reader.{outlineOf, ringPlace, crashPlace, delayPlace};
+ghost use Rattle.runfile.specs.Text.{start_text};
+ghost use Rattle.runfile.specs.Reader.{outline_of, ring_place, crash_place, delay_place};
 ghost use Rattle.model.specs.Platform.{start};
-ghost use Rattle.limits.specs.Limits.{storeSize};
+ghost use Rattle.limits.specs.Limits.{store_size};
 ghost use Rattle.store.specs.Store.{encode};
 ghost use Rattle.platform.specs.Accepts.{plan_of, Accepts};
 ghost use Rattle.store.specs.Filling.{begun, filled};
@@ -13,9 +13,9 @@ use runfile::Outline;
 // The numbers of the file's Q line, the first of which stands at the place first. Answers the place after them.
 fn add_numbers(s: &mut [u8], file: &[u8], first: usize, count: usize) -> usize
     requires accepts { Accepts file.now }
-    requires first_value { (first ≡ ringPlace (plan_of file.now) 0) × (count ≡ length (plan_of file.now).ring) }
-    requires s_value { (s.old ≡ begun (plan_of file.now) 0) × (length s.old ≡ storeSize) }
-    ensures value { result ≡ ringPlace (plan_of file.now) count }
+    requires first_value { (first ≡ ring_place (plan_of file.now) 0) × (count ≡ length (plan_of file.now).ring) }
+    requires s_value { (s.old ≡ begun (plan_of file.now) 0) × (length s.old ≡ store_size) }
+    ensures value { result ≡ ring_place (plan_of file.now) count }
     ensures s_after { s.new ≡ begun (plan_of file.now) count }
 {
     let mut at = first;
@@ -32,9 +32,9 @@ fn add_numbers(s: &mut [u8], file: &[u8], first: usize, count: usize) -> usize
 // The file's Q line, which has so many numbers and stands at the place first, or nothing where there is none. Answers the place after it.
 fn add_ring(s: &mut [u8], file: &[u8], first: usize, count: usize) -> usize
     requires accepts { Accepts file.now }
-    requires first_value { (first ≡ length (startText (plan_of file.now))) × (count ≡ length (plan_of file.now).ring) }
-    requires s_value { (s.old ≡ begun (plan_of file.now) 0) × (length s.old ≡ storeSize) }
-    ensures value { result ≡ crashPlace (plan_of file.now) 0 }
+    requires first_value { (first ≡ length (start_text (plan_of file.now))) × (count ≡ length (plan_of file.now).ring) }
+    requires s_value { (s.old ≡ begun (plan_of file.now) 0) × (length s.old ≡ store_size) }
+    ensures value { result ≡ crash_place (plan_of file.now) 0 }
     ensures s_after { s.new ≡ begun (plan_of file.now) count }
 {
     if count == 0 {
@@ -47,8 +47,8 @@ fn add_ring(s: &mut [u8], file: &[u8], first: usize, count: usize) -> usize
 // The store of the file's P line and Q line, with all nodes as they are opened. Answers the place of the first row in the file.
 fn begin(s: &mut [u8], file: &[u8], o: Outline) -> usize
     requires accepts { Accepts file.now }
-    requires o_value { (o ≡ outlineOf (plan_of file.now)) × (length s.old ≡ storeSize) }
-    ensures value { result ≡ crashPlace (plan_of file.now) 0 }
+    requires o_value { (o ≡ outline_of (plan_of file.now)) × (length s.old ≡ store_size) }
+    ensures value { result ≡ crash_place (plan_of file.now) 0 }
     ensures s_after { s.new ≡ filled (plan_of file.now) 0 0 }
 {
     store::fill::begin(s, o.n, o.h, o.w, o.d, o.end);
@@ -60,9 +60,9 @@ fn begin(s: &mut [u8], file: &[u8], o: Outline) -> usize
 // The C rows of the file, the first of which stands at the place first. Answers the place after them.
 fn add_crashes(s: &mut [u8], file: &[u8], first: usize, count: usize) -> usize
     requires accepts { Accepts file.now }
-    requires first_value { (first ≡ crashPlace (plan_of file.now) 0) × (count ≡ length (plan_of file.now).crashes) }
-    requires s_value { (s.old ≡ filled (plan_of file.now) 0 0) × (length s.old ≡ storeSize) }
-    ensures value { result ≡ crashPlace (plan_of file.now) count }
+    requires first_value { (first ≡ crash_place (plan_of file.now) 0) × (count ≡ length (plan_of file.now).crashes) }
+    requires s_value { (s.old ≡ filled (plan_of file.now) 0 0) × (length s.old ≡ store_size) }
+    ensures value { result ≡ crash_place (plan_of file.now) count }
     ensures s_after { s.new ≡ filled (plan_of file.now) count 0 }
 {
     let mut at = first;
@@ -79,8 +79,8 @@ fn add_crashes(s: &mut [u8], file: &[u8], first: usize, count: usize) -> usize
 // The L rows of the file, the first of which stands at the place first.
 fn add_delays(s: &mut [u8], file: &[u8], first: usize, count: usize)
     requires accepts { Accepts file.now }
-    requires first_value { (first ≡ delayPlace (plan_of file.now) 0) × (count ≡ length (plan_of file.now).delays) }
-    requires s_value { (s.old ≡ filled (plan_of file.now) (length (plan_of file.now).crashes) 0) × (length s.old ≡ storeSize) }
+    requires first_value { (first ≡ delay_place (plan_of file.now) 0) × (count ≡ length (plan_of file.now).delays) }
+    requires s_value { (s.old ≡ filled (plan_of file.now) (length (plan_of file.now).crashes) 0) × (length s.old ≡ store_size) }
     ensures { s.new ≡ filled (plan_of file.now) (length (plan_of file.now).crashes) count }
 {
     let mut at = first;
@@ -96,7 +96,7 @@ fn add_delays(s: &mut [u8], file: &[u8], first: usize, count: usize)
 // The store of an accepted file, of which the reader gave the outline o.
 pub fn fill(s: &mut [u8], file: &[u8], o: Outline)
     requires accepts { Accepts file.now }
-    requires o_value { (o ≡ outlineOf (plan_of file.now)) × (length s.old ≡ storeSize) }
+    requires o_value { (o ≡ outline_of (plan_of file.now)) × (length s.old ≡ store_size) }
     ensures { s.new ≡ encode (plan_of file.now) (start (plan_of file.now)) }
 {
     let rows = begin(s, file, o);

@@ -4,7 +4,7 @@ mod write; // write.rt: the run file of a store
 pub mod advance; // advance.rt: events of a store that is ready for them, for a step, for a run and for a turn of the dispatcher
 
 ghost use Rattle.std.specs.Prelude.{◌≡◌};
-ghost use Rattle.platform.specs.Calls.{openFile, step, run, writeFile};
+ghost use Rattle.platform.specs.Calls.{open_file, step, run, write_file};
 
 use event::lines;
 use limits::{BAD_STORE, FILE_ROOM, LOG_ROOM, SHORT_PART};
@@ -45,8 +45,8 @@ pub enum Wrote {
 
 // Opens a store from a run file.
 pub fn open_store(file: &[u8], store: &mut [u8]) -> Opened
-    ensures value { result ≡ (openFile file.now store.old).answer }
-    ensures store_after { store.new ≡ (openFile file.now store.old).store }
+    ensures value { result ≡ (open_file file.now store.old).answer }
+    ensures store_after { store.new ≡ (open_file file.now store.old).store }
 {
     let read = runfile::read_file(file);
     match read {
@@ -89,8 +89,8 @@ pub fn run(store: &mut [u8], budget: u64) -> Ran
 
 // Writes the run file of a store at the start of a lent part.
 pub fn write_file(store: &[u8], out: &mut [u8]) -> Wrote
-    ensures value { result ≡ (writeFile store.now out.old).answer }
-    ensures out_after { out.new ≡ (writeFile store.now out.old).out }
+    ensures value { result ≡ (write_file store.now out.old).answer }
+    ensures out_after { out.new ≡ (write_file store.now out.old).out }
 {
     if !lent::in_range(store) {
         return Wrote::Refused(BAD_STORE);

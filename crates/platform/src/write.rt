@@ -2,8 +2,8 @@
 ghost use Rattle.std.specs.Prelude.{◌+◌, ◌≤◌, length};
 ghost use Rattle.text.specs.Put.{Put};
 ghost use Rattle.text.specs.Field.{field};
-ghost use Rattle.runfile.specs.Text.{ringText, headText, crashText, delayText, rowsText, planText};
-ghost use Rattle.store.specs.Store.{planIn};
+ghost use Rattle.runfile.specs.Text.{ring_text, head_text, crash_text, delay_text, rows_text, plan_text};
+ghost use Rattle.store.specs.Store.{plan_in};
 ghost use Rattle.store.specs.Inside.{Held};
 
 use store::plan;
@@ -11,8 +11,8 @@ use store::plan;
 // The numbers of the Q line, from the place first on. Answers the place after them.
 fn put_numbers(store: &[u8], out: &mut [u8], first: usize) -> usize
     requires held { Held store.now }
-    requires store_in_bounds { first + length (rowsText field (planIn store.now).ring) ≤ length out.old }
-    ensures { Put out.old first (rowsText field (planIn store.now).ring) result out.new }
+    requires store_in_bounds { first + length (rows_text field (plan_in store.now).ring) ≤ length out.old }
+    ensures { Put out.old first (rows_text field (plan_in store.now).ring) result out.new }
 {
     let count = plan::ring_size(store);
     let mut at = first;
@@ -28,8 +28,8 @@ fn put_numbers(store: &[u8], out: &mut [u8], first: usize) -> usize
 // The Q line, where there is one, from the place first on. Answers the place after it.
 fn put_ring(store: &[u8], out: &mut [u8], first: usize) -> usize
     requires held { Held store.now }
-    requires store_in_bounds { first + length (ringText (planIn store.now).ring) ≤ length out.old }
-    ensures { Put out.old first (ringText (planIn store.now).ring) result out.new }
+    requires store_in_bounds { first + length (ring_text (plan_in store.now).ring) ≤ length out.old }
+    ensures { Put out.old first (ring_text (plan_in store.now).ring) result out.new }
 {
     if plan::ring_size(store) == 0 {
         return first;
@@ -42,8 +42,8 @@ fn put_ring(store: &[u8], out: &mut [u8], first: usize) -> usize
 // The P line and the Q line, from the start of out on. Answers the place after them.
 fn put_head(store: &[u8], out: &mut [u8]) -> usize
     requires held { Held store.now }
-    requires store_in_bounds { length (headText (planIn store.now)) ≤ length out.old }
-    ensures { Put out.old 0 (headText (planIn store.now)) result out.new }
+    requires store_in_bounds { length (head_text (plan_in store.now)) ≤ length out.old }
+    ensures { Put out.old 0 (head_text (plan_in store.now)) result out.new }
 {
     let n = plan::node_count(store) as u64;
     let h = plan::period(store) as u64;
@@ -57,8 +57,8 @@ fn put_head(store: &[u8], out: &mut [u8]) -> usize
 // The C lines, from the place first on. Answers the place after them.
 fn put_crashes(store: &[u8], out: &mut [u8], first: usize) -> usize
     requires held { Held store.now }
-    requires store_in_bounds { first + length (rowsText crashText (planIn store.now).crashes) ≤ length out.old }
-    ensures { Put out.old first (rowsText crashText (planIn store.now).crashes) result out.new }
+    requires store_in_bounds { first + length (rows_text crash_text (plan_in store.now).crashes) ≤ length out.old }
+    ensures { Put out.old first (rows_text crash_text (plan_in store.now).crashes) result out.new }
 {
     let count = plan::crash_count(store);
     let mut at = first;
@@ -74,8 +74,8 @@ fn put_crashes(store: &[u8], out: &mut [u8], first: usize) -> usize
 // The L lines, from the place first on. Answers the place after them.
 fn put_delays(store: &[u8], out: &mut [u8], first: usize) -> usize
     requires held { Held store.now }
-    requires store_in_bounds { first + length (rowsText delayText (planIn store.now).delays) ≤ length out.old }
-    ensures { Put out.old first (rowsText delayText (planIn store.now).delays) result out.new }
+    requires store_in_bounds { first + length (rows_text delay_text (plan_in store.now).delays) ≤ length out.old }
+    ensures { Put out.old first (rows_text delay_text (plan_in store.now).delays) result out.new }
 {
     let count = plan::delay_count(store);
     let mut at = first;
@@ -91,8 +91,8 @@ fn put_delays(store: &[u8], out: &mut [u8], first: usize) -> usize
 // The whole file, from the start of out on. Answers its length.
 pub fn put_file(store: &[u8], out: &mut [u8]) -> usize
     requires held { Held store.now }
-    requires store_in_bounds { length (planText (planIn store.now)) ≤ length out.old }
-    ensures { Put out.old 0 (planText (planIn store.now)) result out.new }
+    requires store_in_bounds { length (plan_text (plan_in store.now)) ≤ length out.old }
+    ensures { Put out.old 0 (plan_text (plan_in store.now)) result out.new }
 {
     let crashes = put_head(store, out);
     let delays = put_crashes(store, out, crashes);

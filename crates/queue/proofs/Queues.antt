@@ -6,7 +6,7 @@ use mathlib.Core.List.{List, [], ◌∷◌, ◌++◌, map}
 use native.Mathlib.Omega.{arith}
 use lib.Dec.{leb, ltb}
 use lib.ListN.{length, length-map}
-use Rattle.queue.specs.Order.{insertBefore, insertAfter, ordered, Climbing}
+use Rattle.queue.specs.Order.{insert_before, insert_after, ordered, Climbing}
 use Rattle.queue.specs.Rows.{places, size, row_at, rows, key_of, Open, Placed, Sorted, Moved}
 use Rattle.model.specs.Platform.{InFlight}
 use Rattle.queue.specs.Holds.{packed, due, number, Holds, Earliest, Head}
@@ -21,13 +21,13 @@ map-cond true l k = refl
 map-cond false l k = refl
 
 module _ (c : ℕ) (key : InFlight → ℕ) (same : (m : InFlight) → key_of c (packed m) ≡ key m) where
-  packed-before : (m : InFlight) (l : List InFlight) → insertBefore (key_of c) (packed m) (map packed l) ≡ map packed (insertBefore key m l)
-  unfolding insertBefore
+  packed-before : (m : InFlight) (l : List InFlight) → insert_before (key_of c) (packed m) (map packed l) ≡ map packed (insert_before key m l)
+  unfolding insert_before
   packed-before m [] = refl
   packed-before m (x ∷ xs) = rw (same m, same x, packed-before m xs) (map-cond (leb (key m) (key x)) _ _)
 
-  packed-after : (m : InFlight) (l : List InFlight) → insertAfter (key_of c) (packed m) (map packed l) ≡ map packed (insertAfter key m l)
-  unfolding insertAfter
+  packed-after : (m : InFlight) (l : List InFlight) → insert_after (key_of c) (packed m) (map packed l) ≡ map packed (insert_after key m l)
+  unfolding insert_after
   packed-after m [] = refl
   packed-after m (x ∷ xs) = rw (same m, same x, packed-after m xs) (map-cond (ltb (key m) (key x)) _ _)
 

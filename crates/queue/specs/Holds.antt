@@ -4,23 +4,23 @@ use Rattle.std.proofs.Math.Option.{some}
 use Rattle.queue.specs.declared.Row.{Row}
 use Rattle.queue.specs.Order.{ordered}
 use Rattle.queue.specs.Rows.{places, size, row_at, rows}
-use Rattle.model.specs.Platform.{InFlight, message, messageEntries, first, without, noMessage}
+use Rattle.model.specs.Platform.{InFlight, message, message_entries, first, without, no_message}
 
 -- a message's letter, sender, receiver and subject in one word, and each of them in a word
 unfoldable pub word_of : ℕ → ℕ → ℕ → ℕ → ℕ
 word_of kind from to subject = ((kind * 256 + from) * 256 + to) * 256 + subject
 
-unfoldable pub kindIn : ℕ → ℕ
-kindIn w = w / 256 / 256 / 256 % 256
+unfoldable pub kind_in : ℕ → ℕ
+kind_in w = w / 256 / 256 / 256 % 256
 
-unfoldable pub fromIn : ℕ → ℕ
-fromIn w = w / 256 / 256 % 256
+unfoldable pub from_in : ℕ → ℕ
+from_in w = w / 256 / 256 % 256
 
-unfoldable pub toIn : ℕ → ℕ
-toIn w = w / 256 % 256
+unfoldable pub to_in : ℕ → ℕ
+to_in w = w / 256 % 256
 
-unfoldable pub subjectIn : ℕ → ℕ
-subjectIn w = w % 256
+unfoldable pub subject_in : ℕ → ℕ
+subject_in w = w % 256
 
 -- a message as a row
 unfoldable pub packed : InFlight → Row
@@ -45,9 +45,9 @@ pub record Holds (q : List ℕ) (start end : ℕ) (flight : List InFlight) : Typ
 pub record Earliest (i : ℕ) (flight : List InFlight) (m : InFlight) (rest : List InFlight) : Type 0 where
   pub place : ℕ
   pub inside : place < length flight
-  pub is : get_or flight place noMessage ≡ m
-  pub sooner : (k : ℕ) → k < place → m.due < (get_or flight k noMessage).due
-  pub first : first (messageEntries i flight) ≡ some (record { tick = m.due; event = message (i + place) })
+  pub is : get_or flight place no_message ≡ m
+  pub sooner : (k : ℕ) → k < place → m.due < (get_or flight k no_message).due
+  pub first : first (message_entries i flight) ≡ some (record { tick = m.due; event = message (i + place) })
   pub left : ordered due (without place flight) ≡ rest
 
 -- the row at `start` is the first message, and the queue from the next place on holds the others

@@ -16,8 +16,8 @@ use lib.Seq.{take_at}
 use lib.Pow.{pow_mono, pow_pos, shr_lt, shr-shr, ones_split, split, field, mod-mod-pow}
 use lib.Bits.{bit_and, and_mask}
 use lib.Arith.{digits_mod}
-use Rattle.limits.specs.Limits.{mostNodes}
-use Rattle.ring.specs.Ring.{rowSize, none, keep, numbers, listed, unlisted, unlistedSet, ahead, count, powers, jumps, targets, row}
+use Rattle.limits.specs.Limits.{most_nodes}
+use Rattle.ring.specs.Ring.{row_size, none, keep, numbers, listed, unlisted, unlisted_set, ahead, count, powers, jumps, targets, row}
 use Rattle.ring.proofs.Rows.{length-numbers, filled}
 
 -- ---- the ones of the unlisted set
@@ -158,13 +158,13 @@ jumps-le k m h = go (dec_lt k (jumps m))
 
 -- ---- the count of unlisted nodes
 
-pub ones-count : (n d : ℕ) → ones (unlistedSet n d) ≡ count n d
-unfolding count unlistedSet
+pub ones-count : (n d : ℕ) → ones (unlisted_set n d) ≡ count n d
+unfolding count unlisted_set
 ones-count n d = ap (λ (x : ℕ). ones (2 ^ n - 1 - x % 2 ^ n)) (sym (div-one d)) ∙ ones-left n 0 d
 
 -- the same set from a word of w bits
-pub unlisted-mask : (w n d : ℕ) → n ≤ w → d < 2 ^ w → bit_and ((2 ^ w - 1) - d) (2 ^ n - 1) ≡ unlistedSet n d
-unfolding unlistedSet
+pub unlisted-mask : (w n d : ℕ) → n ≤ w → d < 2 ^ w → bit_and ((2 ^ w - 1) - d) (2 ^ n - 1) ≡ unlisted_set n d
+unfolding unlisted_set
 unlisted-mask w n d h g =
     let e : w - n + n ≡ w = omega arith in
     ap (λ (x : ℕ). bit_and ((2 ^ x - 1) - d) (2 ^ n - 1)) (sym e) ∙ not-mask (w - n) n d (rw e g)
@@ -202,16 +202,16 @@ pub length-targets : (order : List ℕ) (d p : ℕ) → length (targets order d 
 unfolding targets jumps
 length-targets order d p = length-map (powers (count (length order) d)) (ahead order d p)
 
-pub targets-few : (order : List ℕ) (d p : ℕ) → length order ≤ mostNodes → length (targets order d p) ≤ rowSize
+pub targets-few : (order : List ℕ) (d p : ℕ) → length order ≤ most_nodes → length (targets order d p) ≤ row_size
 targets-few order d p h = omega (arith, length-targets order d p, jumps-count-le (length order) d h)
 
 -- the first of a row are the targets
 pub take_row : (order : List ℕ) (d p k : ℕ) → k ≡ jumps (count (length order) d) → take k (row (targets order d p)) ≡ targets order d p
 unfolding row
-take_row order d p k e = take_at (targets order d p) (replicate (rowSize - length (targets order d p)) none) k (length-targets order d p ∙ sym e)
+take_row order d p k e = take_at (targets order d p) (replicate (row_size - length (targets order d p)) none) k (length-targets order d p ∙ sym e)
 
 -- the row as a loop fills it
 pub row-filled : (order : List ℕ) (d p : ℕ)
-    → filled (λ j. ahead order d p (2 ^ j)) none rowSize (jumps (count (length order) d)) ≡ row (targets order d p)
+    → filled (λ j. ahead order d p (2 ^ j)) none row_size (jumps (count (length order) d)) ≡ row (targets order d p)
 unfolding filled row
 row-filled order d p = rw (length-targets, ← targets-are order d p)

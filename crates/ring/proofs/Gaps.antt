@@ -19,18 +19,18 @@ module _ (n : ℕ) where
     direct : b < a → s + b ≡ a → Steps a b s
     around : a ≤ b → s + b ≡ a + n → Steps a b s
 
-  stepsBack : ℕ → ℕ → ℕ
-  stepsBack a b = ite (dec_lt b a) (a - b) (a + n - b)
+  steps_back : ℕ → ℕ → ℕ
+  steps_back a b = ite (dec_lt b a) (a - b) (a + n - b)
 
-  steps : (a b : ℕ) → b < n → Steps a b (stepsBack a b)
-  unfolding stepsBack
+  steps : (a b : ℕ) → b < n → Steps a b (steps_back a b)
+  unfolding steps_back
   steps a b h = go (dec_lt b a)
     where
       go : (d : Dec (b < a)) → Steps a b (ite d (a - b) (a + n - b))
       go (yes l) = direct l (omega arith)
       go (no l) = around (omega arith) (omega arith)
 
-  module _ (a b : ℕ) (aN : a < n) (bN : b < n) where
+  module _ (a b : ℕ) (a_n : a < n) (b_n : b < n) where
     steps-range : (s : ℕ) → Steps a b s → (1 ≤ s) × (s ≤ n)
     steps-range s (direct h e) = (omega arith, omega arith)
     steps-range s (around h e) = (omega arith, omega arith)
@@ -41,7 +41,7 @@ module _ (n : ℕ) where
     steps-one s t (around h e) (direct k f) = omega arith
     steps-one s t (around h e) (around k f) = omega arith
 
-    module _ (c : ℕ) (cN : c < n) where
+    module _ (c : ℕ) (c_n : c < n) where
       steps-inj : (s t : ℕ) → Steps a b s → Steps a c t → s ≡ t → b ≡ c
       steps-inj s t (direct h e) (direct k f) q = omega arith
       steps-inj s t (direct h e) (around k f) q = omega arith
@@ -82,73 +82,73 @@ module _ (n : ℕ) where
 module _ (n : ℕ) {order : List ℕ} (o : InOrder n order) where
   -- steps back from j to k; no node from n on is met, and from such none starts
   pub gap : ℕ → ℕ → ℕ
-  gap j k = ite (dec_lt j n) (ite (dec_lt k n) (stepsBack n (place order j) (place order k)) (n + 1 + k)) 0
+  gap j k = ite (dec_lt j n) (ite (dec_lt k n) (steps_back n (place order j) (place order k)) (n + 1 + k)) 0
 
   pub gap-out : (j k : ℕ) → j < n → ¬ (k < n) → gap j k ≡ n + 1 + k
   unfolding gap
-  gap-out j k jN kN = if_pos (dec_lt j n) jN _ _ ∙ if_neg (dec_lt k n) kN _ _
+  gap-out j k j_n k_n = if_pos (dec_lt j n) j_n _ _ ∙ if_neg (dec_lt k n) k_n _ _
 
   pub gap-far : (j k : ℕ) → ¬ (j < n) → gap j k ≡ 0
   unfolding gap
-  gap-far j k jN = if_neg (dec_lt j n) jN _ _
+  gap-far j k j_n = if_neg (dec_lt j n) j_n _ _
 
-  gap-in : (j k : ℕ) → j < n → k < n → gap j k ≡ stepsBack n (place order j) (place order k)
+  gap-in : (j k : ℕ) → j < n → k < n → gap j k ≡ steps_back n (place order j) (place order k)
   unfolding gap
-  gap-in j k jN kN = if_pos (dec_lt j n) jN _ _ ∙ if_pos (dec_lt k n) kN _ _
+  gap-in j k j_n k_n = if_pos (dec_lt j n) j_n _ _ ∙ if_pos (dec_lt k n) k_n _ _
 
   gap-steps : (j k : ℕ) → j < n → k < n → Steps n (place order j) (place order k) (gap j k)
-  gap-steps j k jN kN = rw (gap-in j k jN kN) (steps n (place order j) (place order k) (o.placed k kN))
+  gap-steps j k j_n k_n = rw (gap-in j k j_n k_n) (steps n (place order j) (place order k) (o.placed k k_n))
 
   gap-range : (j k : ℕ) → j < n → k < n → (1 ≤ gap j k) × (gap j k ≤ n)
-  gap-range j k jN kN = steps-range n (place order j) (place order k) (o.placed j jN) (o.placed k kN) (gap j k) (gap-steps j k jN kN)
+  gap-range j k j_n k_n = steps-range n (place order j) (place order k) (o.placed j j_n) (o.placed k k_n) (gap j k) (gap-steps j k j_n k_n)
 
   pub gap≥1 : (j k : ℕ) → j < n → k < n → 1 ≤ gap j k
-  gap≥1 j k jN kN = (gap-range j k jN kN).0
+  gap≥1 j k j_n k_n = (gap-range j k j_n k_n).0
 
   pub gap≤n : (j k : ℕ) → j < n → k < n → gap j k ≤ n
-  gap≤n j k jN kN = (gap-range j k jN kN).1
+  gap≤n j k j_n k_n = (gap-range j k j_n k_n).1
 
   -- where the gap is at most n, a node is meant
   pub gap-node : (j k : ℕ) → j < n → gap j k ≤ n → k < n
-  gap-node j k jN h = go (dec_lt k n)
+  gap-node j k j_n h = go (dec_lt k n)
     where
       go : Dec (k < n) → k < n
       go (yes l) = l
-      go (no l) = absurd (omega (arith, gap-out j k jN l))
+      go (no l) = absurd (omega (arith, gap-out j k j_n l))
 
   place-inj : (j k : ℕ) → j < n → k < n → place order j ≡ place order k → j ≡ k
-  place-inj j k jN kN e = sym (o.has j jN) ∙ ap (λ (q : ℕ). get_or order q 0) e ∙ o.has k kN
+  place-inj j k j_n k_n e = sym (o.has j j_n) ∙ ap (λ (q : ℕ). get_or order q 0) e ∙ o.has k k_n
 
   pub gap-inj : (j k i : ℕ) → j < n → gap j k ≡ gap j i → k ≡ i
-  gap-inj j k i jN e = go (dec_lt k n) (dec_lt i n)
+  gap-inj j k i j_n e = go (dec_lt k n) (dec_lt i n)
     where
       go : Dec (k < n) → Dec (i < n) → k ≡ i
-      go (yes kN) (yes iN) =
-          place-inj k i kN iN
-          (steps-inj n (place order j) (place order k) (o.placed j jN) (o.placed k kN) (place order i) (o.placed i iN) _ _
-          (gap-steps j k jN kN) (gap-steps j i jN iN) e)
-      go (yes kN) (no iN) = absurd (omega (arith, gap-out j i jN iN, gap≤n j k jN kN))
-      go (no kN) (yes iN) = absurd (omega (arith, gap-out j k jN kN, gap≤n j i jN iN))
-      go (no kN) (no iN) = omega (arith, gap-out j k jN kN, gap-out j i jN iN)
+      go (yes k_n) (yes i_n) =
+          place-inj k i k_n i_n
+          (steps-inj n (place order j) (place order k) (o.placed j j_n) (o.placed k k_n) (place order i) (o.placed i i_n) _ _
+          (gap-steps j k j_n k_n) (gap-steps j i j_n i_n) e)
+      go (yes k_n) (no i_n) = absurd (omega (arith, gap-out j i j_n i_n, gap≤n j k j_n k_n))
+      go (no k_n) (yes i_n) = absurd (omega (arith, gap-out j k j_n k_n, gap≤n j i j_n i_n))
+      go (no k_n) (no i_n) = omega (arith, gap-out j k j_n k_n, gap-out j i j_n i_n)
 
   pub gap-cyc : (j k i : ℕ) → j < n → k < n → j ≢ k → (gap k j < gap k i) ⊎ (gap j k < gap j i)
-  gap-cyc j k i jN kN ne = go (dec_lt i n)
+  gap-cyc j k i j_n k_n ne = go (dec_lt i n)
     where
       go : Dec (i < n) → (gap k j < gap k i) ⊎ (gap j k < gap j i)
-      go (yes iN) =
-          steps-cyc n (place order j) (place order k) (o.placed j jN) (o.placed k kN) (place order i) (o.placed i iN) _ _ _ _
-          (gap-steps k j kN jN) (gap-steps k i kN iN) (gap-steps j k jN kN) (gap-steps j i jN iN) (λ e. ne (place-inj j k jN kN e))
-      go (no iN) = inl (omega (arith, gap-out k i kN iN, gap≤n k j kN jN))
+      go (yes i_n) =
+          steps-cyc n (place order j) (place order k) (o.placed j j_n) (o.placed k k_n) (place order i) (o.placed i i_n) _ _ _ _
+          (gap-steps k j k_n j_n) (gap-steps k i k_n i_n) (gap-steps j k j_n k_n) (gap-steps j i j_n i_n) (λ e. ne (place-inj j k j_n k_n e))
+      go (no i_n) = inl (omega (arith, gap-out k i k_n i_n, gap≤n k j k_n j_n))
 
   pub gap-add : (j i k : ℕ) → j < n → i < n → k < n → gap j i < gap j k → gap j k ≡ gap j i + gap i k
-  gap-add j i k jN iN kN =
-      steps-add n (place order j) (place order i) (o.placed j jN) (o.placed i iN) (place order k) (o.placed k kN) _ _ _
-      (gap-steps j i jN iN) (gap-steps j k jN kN) (gap-steps i k iN kN)
+  gap-add j i k j_n i_n k_n =
+      steps-add n (place order j) (place order i) (o.placed j j_n) (o.placed i i_n) (place order k) (o.placed k k_n) _ _ _
+      (gap-steps j i j_n i_n) (gap-steps j k j_n k_n) (gap-steps i k i_n k_n)
 
   -- ---- the ring going back from a node
 
   -- the place of its i-th node
-  module _ (p i : ℕ) (pN : p < n) (iN : i < n) where
+  module _ (p i : ℕ) (p_n : p < n) (i_n : i < n) where
     back-place : (q : ℕ) × (q < n) × (get_or (reverse (round order p)) i 0 ≡ get_or order q 0) × Steps n p q (suc i)
     back-place = go (dec_lt i p)
       where
@@ -156,7 +156,7 @@ module _ (n : ℕ) {order : List ℕ} (o : InOrder n order) where
         all = o.size
 
         turned : get_or (reverse (round order p)) i 0 ≡ get_or (round order p) (n - 1 - i) 0
-        turned = rw (length-round, all) at (get_d_reverse (round order p) i 0 (rw (length-round, all) iN))
+        turned = rw (length-round, all) at (get_d_reverse (round order p) i 0 (rw (length-round, all) i_n))
 
         go : Dec (i < p) → (q : ℕ) × (q < n) × (get_or (reverse (round order p)) i 0 ≡ get_or order q 0) × Steps n p q (suc i)
         go (yes l) =
@@ -169,27 +169,27 @@ module _ (n : ℕ) {order : List ℕ} (o : InOrder n order) where
 
   -- it is i + 1 steps back
   pub gap_back : (j i : ℕ) → j < n → i < n → gap j (get_or (reverse (round order (place order j))) i 0) ≡ suc i
-  gap_back j i jN iN = rw w.2 here
+  gap_back j i j_n i_n = rw w.2 here
     where
       w : (q : ℕ) × (q < n) × (get_or (reverse (round order (place order j))) i 0 ≡ get_or order q 0) × Steps n (place order j) q (suc i)
-      w = back-place (place order j) i (o.placed j jN) iN
+      w = back-place (place order j) i (o.placed j j_n) i_n
 
       q : ℕ
       q = w.0
 
-      qN : q < n
-      qN = w.1
+      q_n : q < n
+      q_n = w.1
 
       here : gap j (get_or order q 0) ≡ suc i
       here =
-          steps-one n (place order j) q (o.placed j jN) qN _ _ (rw (o.once q qN) at (gap-steps j (get_or order q 0) jN (o.below q qN))) w.3
+          steps-one n (place order j) q (o.placed j j_n) q_n _ _ (rw (o.once q q_n) at (gap-steps j (get_or order q 0) j_n (o.below q q_n))) w.3
 
   -- nodes among which all are that stand up to g steps back from j are at least g
   pub back-many : (xs : List ℕ) (j g : ℕ) → j < n → g ≤ n → ((k : ℕ) → gap j k ≤ g → among xs k ≡ true) → g ≤ length xs
-  back-many xs j g jN gN all = rw length-map at (all-many g (map (λ k. gap j k - 1) xs) at-step)
+  back-many xs j g j_n g_n all = rw length-map at (all-many g (map (λ k. gap j k - 1) xs) at-step)
     where
       at-step : (i : ℕ) → i < g → among (map (λ k. gap j k - 1) xs) i ≡ true
       at-step i h =
           let k : ℕ = get_or (reverse (round order (place order j))) i 0 in
-          let there : gap j k ≡ suc i = gap_back j i jN (omega arith) in
+          let there : gap j k ≡ suc i = gap_back j i j_n (omega arith) in
           among-map (λ k. gap j k - 1) xs k i (omega arith) (all k (omega arith))

@@ -13,8 +13,8 @@ use lib.ListN.{length, get_or, length-reverse}
 use Rattle.ring.specs.Ring.{keep, listed, unlisted, none, place, round, back, InOrder}
 use Rattle.ring.proofs.Laws.{length-round, keep-reverse, keep-round}
 use Rattle.ring.proofs.Orders.{Kept, kept_at, before-first, order-kept}
-use Rattle.ring.proofs.Unlisted.{countBy, aheadBy, back_by, aheadBy-below, aheadBy-unlisted, aheadBy-add, aheadBy-itself, aheadBy-reaches}
-use Rattle.ring.proofs.Unlisted.{backBy-ahead, countBy-some}
+use Rattle.ring.proofs.Unlisted.{count_by, ahead_by, back_by, ahead_by-below, ahead_by-unlisted, ahead_by-add, ahead_by-itself, ahead_by-reaches}
+use Rattle.ring.proofs.Unlisted.{back_by-ahead, count_by-some}
 use Rattle.ring.proofs.Gaps.{gap, gap-inj, gap-cyc, gap-add, gap≥1, gap≤n, gap-node, gap_back}
 
 -- f, d times
@@ -32,31 +32,31 @@ iter-out f (suc d) y = iter-out f d (f y)
 
 -- f y is the first unlisted node going back from y
 pub record First (gap : ℕ → ℕ → ℕ) (N : ℕ) (l : ℕ → Bool) (f : ℕ → ℕ) : Type 0 where
-  pub inN : (y : ℕ) → y < N → l y ≡ false → f y < N
+  pub in_n : (y : ℕ) → y < N → l y ≡ false → f y < N
   pub unlisted : (y : ℕ) → y < N → l y ≡ false → l (f y) ≡ false
   pub passed : (y : ℕ) → y < N → l y ≡ false → (k : ℕ) → gap y k < gap y (f y) → l k ≡ true
 
 module _ (n : ℕ) {order : List ℕ} (o : InOrder n order) (l : ℕ → Bool) where
   -- e is the first unlisted node going back, seen from x, of those that are more than B steps back
   pub record Found (x B e : ℕ) : Type 0 where
-    pub inN : e < n
+    pub in_n : e < n
     pub unlisted : l e ≡ false
     pub past : B < gap n o x e
     pub passed : (k : ℕ) → B < gap n o x k → gap n o x k < gap n o x e → l k ≡ true
 
   -- ---- one search back
 
-  module _ (e : ℕ) (eN : e < n) (some : 0 < countBy n l) where
-    backBy-below : back_by order l (place order e) < n
-    backBy-below = rw (backBy-ahead n l order o (place order e)) (aheadBy-below n l order o (place order e) _ (omega arith))
+  module _ (e : ℕ) (e_n : e < n) (some : 0 < count_by n l) where
+    back_by-below : back_by order l (place order e) < n
+    back_by-below = rw (back_by-ahead n l order o (place order e)) (ahead_by-below n l order o (place order e) _ (omega arith))
 
-    backBy-unlisted : l (back_by order l (place order e)) ≡ false
-    backBy-unlisted = rw (backBy-ahead n l order o (place order e)) (aheadBy-unlisted n l order o (place order e) _ (omega arith))
+    back_by-unlisted : l (back_by order l (place order e)) ≡ false
+    back_by-unlisted = rw (back_by-ahead n l order o (place order e)) (ahead_by-unlisted n l order o (place order e) _ (omega arith))
 
     -- what it passes is listed
-    pub backBy-passes : (k : ℕ) → gap n o e k < gap n o e (back_by order l (place order e)) → l k ≡ true
-    unfolding back_by countBy
-    backBy-passes k h = rw nearer (not-false _ (before-first un none ring w i less))
+    pub back_by-passes : (k : ℕ) → gap n o e k < gap n o e (back_by order l (place order e)) → l k ≡ true
+    unfolding back_by count_by
+    back_by-passes k h = rw nearer (not-false _ (before-first un none ring w i less))
       where
         un : ℕ → Bool
         un j = not (l j)
@@ -74,81 +74,81 @@ module _ (n : ℕ) {order : List ℕ} (o : InOrder n order) (l : ℕ → Bool) w
         w : Kept un none ring 0
         w = kept_at un none ring 0 kept
 
-        wN : w.q < n
-        wN = rw all at w.inside
+        w_n : w.q < n
+        w_n = rw all at w.inside
 
         stop : gap n o e (get_or (keep un ring) 0 none) ≡ suc w.q
-        stop = rw w.is (gap_back n o e w.q eN wN)
+        stop = rw w.is (gap_back n o e w.q e_n w_n)
 
-        kN : k < n
-        kN = gap-node n o e k eN (omega (arith, stop, wN))
+        k_n : k < n
+        k_n = gap-node n o e k e_n (omega (arith, stop, w_n))
 
         i : ℕ
         i = gap n o e k - 1
 
         less : i < w.q
-        less = omega (arith, stop, gap≥1 n o e k eN kN)
+        less = omega (arith, stop, gap≥1 n o e k e_n k_n)
 
         nearer : k ≡ get_or ring i 0
-        nearer = gap-inj n o e k (get_or ring i 0) eN (omega (arith, gap≥1 n o e k eN kN, gap_back n o e i eN (omega (arith, less, wN))))
+        nearer = gap-inj n o e k (get_or ring i 0) e_n (omega (arith, gap≥1 n o e k e_n k_n, gap_back n o e i e_n (omega (arith, less, w_n))))
 
     -- and no other node is found so
-    pub backBy-only : (y : ℕ) → l y ≡ false → ((k : ℕ) → gap n o e k < gap n o e y → l k ≡ true) → y ≡ back_by order l (place order e)
-    backBy-only y u f = go (dec_lt (gap n o e y) (gap n o e b)) (dec_lt (gap n o e b) (gap n o e y))
+    pub back_by-only : (y : ℕ) → l y ≡ false → ((k : ℕ) → gap n o e k < gap n o e y → l k ≡ true) → y ≡ back_by order l (place order e)
+    back_by-only y u f = go (dec_lt (gap n o e y) (gap n o e b)) (dec_lt (gap n o e b) (gap n o e y))
       where
         b : ℕ
         b = back_by order l (place order e)
 
         go : Dec (gap n o e y < gap n o e b) → Dec (gap n o e b < gap n o e y) → y ≡ b
-        go (yes h) d = absurd (true≢false (sym (backBy-passes y h) ∙ u))
-        go (no h) (yes g) = absurd (true≢false (sym (f b g) ∙ backBy-unlisted))
-        go (no h) (no g) = gap-inj n o e y b eN (omega arith)
+        go (yes h) d = absurd (true≢false (sym (back_by-passes y h) ∙ u))
+        go (no h) (yes g) = absurd (true≢false (sym (f b g) ∙ back_by-unlisted))
+        go (no h) (no g) = gap-inj n o e y b e_n (omega arith)
 
   -- seen from an unlisted node x: going back from i it is met before x, or is x
-  pub foundBy-back : (x i : ℕ) → x < n → l x ≡ false → i < n → i ≢ x → Found x (gap n o x i) (back_by order l (place order i))
-  foundBy-back x i xN u iN ne = record {
-    inN = eN;
-    unlisted = backBy-unlisted i iN some;
+  pub found_by-back : (x i : ℕ) → x < n → l x ≡ false → i < n → i ≢ x → Found x (gap n o x i) (back_by order l (place order i))
+  found_by-back x i x_n u i_n ne = record {
+    in_n = e_n;
+    unlisted = back_by-unlisted i i_n some;
     past = past;
-    passed = λ k h g. let kN : k < n = gap-node n o x k xN (omega (arith, gap≤n n o x e xN eN)) in
-        backBy-passes i iN some k (omega (arith, gap-add n o x i k xN iN kN h, gap-add n o x i e xN iN eN past));
+    passed = λ k h g. let k_n : k < n = gap-node n o x k x_n (omega (arith, gap≤n n o x e x_n e_n)) in
+        back_by-passes i i_n some k (omega (arith, gap-add n o x i k x_n i_n k_n h, gap-add n o x i e x_n i_n e_n past));
   }
     where
-      some : 0 < countBy n l
-      some = countBy-some n l order o x xN u
+      some : 0 < count_by n l
+      some = count_by-some n l order o x x_n u
 
       e : ℕ
       e = back_by order l (place order i)
 
-      eN : e < n
-      eN = backBy-below i iN some
+      e_n : e < n
+      e_n = back_by-below i i_n some
 
       past : gap n o x i < gap n o x e
-      past = go (gap-cyc n o i x e iN xN ne)
+      past = go (gap-cyc n o i x e i_n x_n ne)
         where
           go : (gap n o x i < gap n o x e) ⊎ (gap n o i x < gap n o i e) → gap n o x i < gap n o x e
           go (inl h) = h
-          go (inr h) = absurd (true≢false (sym (backBy-passes i iN some x h) ∙ u))
+          go (inr h) = absurd (true≢false (sym (back_by-passes i i_n some x h) ∙ u))
 
   -- ---- again and again
 
   module _ (f : ℕ → ℕ) (fs : First (gap n o) n l f) where
     abbrev m : ℕ
-    m = countBy n l
+    m = count_by n l
 
     first-is : (y : ℕ) → y < n → l y ≡ false → f y ≡ back_by order l (place order y)
-    first-is y yN u = backBy-only y yN (countBy-some n l order o y yN u) (f y) (fs.unlisted y yN u) (fs.passed y yN u)
+    first-is y y_n u = back_by-only y y_n (count_by-some n l order o y y_n u) (f y) (fs.unlisted y y_n u) (fs.passed y y_n u)
 
     -- k times back is m - k ahead
-    iter-ahead : (y k : ℕ) → y < n → l y ≡ false → k ≤ m → iter f k y ≡ aheadBy order l (place order y) ((m - k) % m)
-    iter-ahead y zero yN u h = sym (ap (aheadBy order l (place order y)) (rw sub-zero (mod_self m)) ∙ aheadBy-itself n l order o y yN u)
-    iter-ahead y (suc k) yN u h = go (iter-ahead y k yN u (omega arith))
+    iter-ahead : (y k : ℕ) → y < n → l y ≡ false → k ≤ m → iter f k y ≡ ahead_by order l (place order y) ((m - k) % m)
+    iter-ahead y zero y_n u h = sym (ap (ahead_by order l (place order y)) (rw sub-zero (mod_self m)) ∙ ahead_by-itself n l order o y y_n u)
+    iter-ahead y (suc k) y_n u h = go (iter-ahead y k y_n u (omega arith))
       where
         p : ℕ
         p = place order y
 
         some : 0 < m
-        some = countBy-some n l order o y yN u
+        some = count_by-some n l order o y y_n u
 
         j : ℕ
         j = (m - k) % m
@@ -161,34 +161,34 @@ module _ (n : ℕ) {order : List ℕ} (o : InOrder n order) (l : ℕ → Bool) w
             let e : m - k + (m - 1) ≡ m - suc k + m = omega arith in
             mod-add-mod (m - k) m (m - 1) ∙ ap (λ (i : ℕ). i % m) e ∙ add-mod_right (m - suc k) m
 
-        go : iter f k y ≡ aheadBy order l p j → iter f (suc k) y ≡ aheadBy order l p ((m - suc k) % m)
+        go : iter f k y ≡ ahead_by order l p j → iter f (suc k) y ≡ ahead_by order l p ((m - suc k) % m)
         go e =
             iter-out f k y ∙ ap f e
-            ∙ first-is (aheadBy order l p j) (aheadBy-below n l order o p j less) (aheadBy-unlisted n l order o p j less)
-            ∙ backBy-ahead n l order o (place order (aheadBy order l p j))
-            ∙ aheadBy-add n l order o p j (m - 1) less (omega arith)
-            ∙ ap (aheadBy order l p) sum
+            ∙ first-is (ahead_by order l p j) (ahead_by-below n l order o p j less) (ahead_by-unlisted n l order o p j less)
+            ∙ back_by-ahead n l order o (place order (ahead_by order l p j))
+            ∙ ahead_by-add n l order o p j (m - 1) less (omega arith)
+            ∙ ap (ahead_by order l p) sum
 
     -- every unlisted node is reached in fewer times than there are unlisted nodes
     pub hops : (y q : ℕ) → y < n → l y ≡ false → q < n → l q ≡ false → (d : ℕ) × (d < m) × (iter f d y ≡ q)
-    hops y q yN u qN v = go (aheadBy-reaches n l order o y yN u q qN v)
+    hops y q y_n u q_n v = go (ahead_by-reaches n l order o y y_n u q q_n v)
       where
-        go : (k : ℕ) × (k < m) × (aheadBy order l (place order y) k ≡ q) → (d : ℕ) × (d < m) × (iter f d y ≡ q)
-        go (zero, h, e) = (0, h, sym (aheadBy-itself n l order o y yN u) ∙ e)
+        go : (k : ℕ) × (k < m) × (ahead_by order l (place order y) k ≡ q) → (d : ℕ) × (d < m) × (iter f d y ≡ q)
+        go (zero, h, e) = (0, h, sym (ahead_by-itself n l order o y y_n u) ∙ e)
         go (suc k, h, e) =
             let back : m - (m - suc k) ≡ suc k = omega arith in (
               m - suc k,
               omega arith,
-              iter-ahead y (m - suc k) yN u (omega arith) ∙ ap (aheadBy order l (place order y)) (ap (λ (i : ℕ). i % m) back ∙ mod-eq_of_lt h) ∙ e,
+              iter-ahead y (m - suc k) y_n u (omega arith) ∙ ap (ahead_by order l (place order y)) (ap (λ (i : ℕ). i % m) back ∙ mod-eq_of_lt h) ∙ e,
             )
 
     -- k times back and k ahead is where it began
-    pub ahead-iter : (y k : ℕ) → y < n → l y ≡ false → k < m → aheadBy order l (place order (iter f k y)) k ≡ y
-    ahead-iter y k yN u h =
+    pub ahead-iter : (y k : ℕ) → y < n → l y ≡ false → k < m → ahead_by order l (place order (iter f k y)) k ≡ y
+    ahead-iter y k y_n u h =
         let p : ℕ = place order y in
         let j : ℕ = (m - k) % m in
         let whole : m - k + k ≡ m = omega arith in
-        ap (λ (z : ℕ). aheadBy order l (place order z) k) (iter-ahead y k yN u (omega arith))
-        ∙ aheadBy-add n l order o p j k (mod-lt (m - k) (omega arith)) h
-        ∙ ap (aheadBy order l p) (mod-add-mod (m - k) m k ∙ ap (λ (i : ℕ). i % m) whole ∙ mod_self m)
-        ∙ aheadBy-itself n l order o y yN u
+        ap (λ (z : ℕ). ahead_by order l (place order z) k) (iter-ahead y k y_n u (omega arith))
+        ∙ ahead_by-add n l order o p j k (mod-lt (m - k) (omega arith)) h
+        ∙ ap (ahead_by order l p) (mod-add-mod (m - k) m k ∙ ap (λ (i : ℕ). i % m) whole ∙ mod_self m)
+        ∙ ahead_by-itself n l order o y y_n u

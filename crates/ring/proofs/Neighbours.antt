@@ -8,36 +8,36 @@ use Prim.Native.Nat.{ℕ, ◌+◌, ◌-◌, ◌%◌, ◌≤◌, ◌<◌}
 use native.Mathlib.Nat.{mod-lt, mod-eq_of_lt}
 use native.Mathlib.Omega.{arith}
 use native.Mathlib.Decide.{dec_lt}
-use Rattle.ring.specs.Ring.{keep, numbers, listed, unlisted, place, round, ahead, back, backFrom, next, count, InOrder}
+use Rattle.ring.specs.Ring.{keep, numbers, listed, unlisted, place, round, ahead, back, back_from, next, count, InOrder}
 use Rattle.ring.proofs.Lists.{listed-none}
 use Rattle.ring.proofs.Rows.{length-numbers}
-use Rattle.ring.proofs.Unlisted.{countBy, aheadBy, back_by, nextBy, aheadBy-below, aheadBy-unlisted, aheadBy-differ, aheadBy-add, aheadBy-itself}
-use Rattle.ring.proofs.Unlisted.{countBy-some, backBy-ahead, nextBy-ahead, nextBy-back, backBy-next}
+use Rattle.ring.proofs.Unlisted.{count_by, ahead_by, back_by, next_by, ahead_by-below, ahead_by-unlisted, ahead_by-differ, ahead_by-add, ahead_by-itself}
+use Rattle.ring.proofs.Unlisted.{count_by-some, back_by-ahead, next_by-ahead, next_by-back, back_by-next}
 use Rattle.ring.proofs.Gaps.{gap}
 use Rattle.ring.proofs.Passed.{first-node, first-none, from-node}
-use Rattle.ring.proofs.GoingBack.{Found, backBy-passes, foundBy-back}
+use Rattle.ring.proofs.GoingBack.{Found, back_by-passes, found_by-back}
 
 module _ (n d : ℕ) (order : List ℕ) (r : InOrder n order) where
   -- ---- the nodes ahead of a place
 
   pub ahead-below : (p k : ℕ) → k < count n d → ahead order d p k < n
-  unfolding ahead unlisted count aheadBy countBy
-  ahead-below p k h = aheadBy-below n (listed d) order r p k h
+  unfolding ahead unlisted count ahead_by count_by
+  ahead-below p k h = ahead_by-below n (listed d) order r p k h
 
   pub ahead-unlisted : (p k : ℕ) → k < count n d → listed d (ahead order d p k) ≡ false
-  unfolding ahead unlisted count aheadBy countBy
-  ahead-unlisted p k h = aheadBy-unlisted n (listed d) order r p k h
+  unfolding ahead unlisted count ahead_by count_by
+  ahead-unlisted p k h = ahead_by-unlisted n (listed d) order r p k h
 
   -- two different jumps lead to two different nodes
   pub ahead-differ : (p i j : ℕ) → i < j → j < count n d → ahead order d p i ≢ ahead order d p j
-  unfolding ahead unlisted count aheadBy countBy
-  ahead-differ p i j g h e = aheadBy-differ n (listed d) order r p i j g h e
+  unfolding ahead unlisted count ahead_by count_by
+  ahead-differ p i j g h e = ahead_by-differ n (listed d) order r p i j g h e
 
   -- jumps add up: k ahead of the node that is j ahead is j + k ahead, round the m unlisted nodes
   pub ahead-add : (p j k : ℕ) → j < count n d → k < count n d
       → ahead order d (place order (ahead order d p j)) k ≡ ahead order d p ((j + k) % count n d)
-  unfolding ahead unlisted count aheadBy countBy
-  ahead-add p j k g h = aheadBy-add n (listed d) order r p j k g h
+  unfolding ahead unlisted count ahead_by count_by
+  ahead-add p j k g h = ahead_by-add n (listed d) order r p j k g h
 
   -- the node found going back
   back-by : (p : ℕ) → (back order d p).node ≡ back_by order (listed d) p
@@ -46,46 +46,46 @@ module _ (n d : ℕ) (order : List ℕ) (r : InOrder n order) where
 
   -- it is the last ahead
   pub back-ahead : (p : ℕ) → (back order d p).node ≡ ahead order d p (count n d - 1)
-  unfolding ahead unlisted count aheadBy countBy
-  back-ahead p = back-by p ∙ backBy-ahead n (listed d) order r p
+  unfolding ahead unlisted count ahead_by count_by
+  back-ahead p = back-by p ∙ back_by-ahead n (listed d) order r p
 
   pub back_below : (p : ℕ) → 0 < count n d → (back order d p).node < n
   back_below p h = rw (back-ahead p) (ahead-below p (count n d - 1) (omega arith))
 
   -- what the search back from the node e passes is listed
   pub back_passes : (e : ℕ) → e < n → 0 < count n d → (k : ℕ) → gap n r e k < gap n r e (back order d (place order e)).node → listed d k ≡ true
-  unfolding unlisted count countBy
-  back_passes e h some k g = backBy-passes n r (listed d) e h some k (rw (back-by (place order e)) at g)
+  unfolding unlisted count count_by
+  back_passes e h some k g = back_by-passes n r (listed d) e h some k (rw (back-by (place order e)) at g)
 
   -- ---- the neighbours of an unlisted node x
 
   module _ (x : ℕ) (h : x < n) (u : listed d x ≡ false) where
     pub ahead-itself : ahead order d (place order x) 0 ≡ x
-    unfolding ahead unlisted aheadBy
-    ahead-itself = aheadBy-itself n (listed d) order r x h u
+    unfolding ahead unlisted ahead_by
+    ahead-itself = ahead_by-itself n (listed d) order r x h u
 
     -- an unlisted node counts itself
     pub count-some : 0 < count n d
-    unfolding unlisted count countBy
-    count-some = countBy-some n (listed d) order r x h u
+    unfolding unlisted count count_by
+    count-some = count_by-some n (listed d) order r x h u
 
     -- the next is one ahead, and the node itself where it is alone
     pub next-ahead : next order d (place order x) ≡ ahead order d (place order x) (1 % count n d)
-    unfolding next ahead unlisted count nextBy aheadBy countBy
-    next-ahead = nextBy-ahead n (listed d) order r x h u
+    unfolding next ahead unlisted count next_by ahead_by count_by
+    next-ahead = next_by-ahead n (listed d) order r x h u
 
     -- going back and going on are inverse among the unlisted
     pub next-back : next order d (place order (back order d (place order x)).node) ≡ x
-    unfolding next unlisted nextBy
-    next-back = rw (back-by (place order x)) (nextBy-back n (listed d) order r x h u)
+    unfolding next unlisted next_by
+    next-back = rw (back-by (place order x)) (next_by-back n (listed d) order r x h u)
 
     pub back-next : (back order d (place order (next order d (place order x)))).node ≡ x
-    unfolding next unlisted nextBy
-    back-next = rw (back-by (place order (next order d (place order x)))) (backBy-next n (listed d) order r x h u)
+    unfolding next unlisted next_by
+    back-next = rw (back-by (place order (next order d (place order x)))) (back_by-next n (listed d) order r x h u)
 
     -- going back from another node i that is left, seen from x
-    pub found_back : (i : ℕ) → i < n → i ≢ x → listed d i ≡ true → Found n r (listed d) x (gap n r x i) (backFrom order d i).node
-    found_back i iN ne l = rw (from-node n d order r i iN l, back-by (place order i)) (foundBy-back n r (listed d) x i h u iN ne)
+    pub found_back : (i : ℕ) → i < n → i ≢ x → listed d i ≡ true → Found n r (listed d) x (gap n r x i) (back_from order d i).node
+    found_back i i_n ne l = rw (from-node n d order r i i_n l, back-by (place order i)) (found_by-back n r (listed d) x i h u i_n ne)
 
 -- ---- at opening nobody is listed
 

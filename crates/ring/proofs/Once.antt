@@ -10,20 +10,20 @@ use native.Mathlib.Decide.{ℕ_discrete}
 use borrow.Author.Tests.{eq-eqb, ne_eqb, eqb-true, eqb-false, not-true}
 use lib.Dec.{eqb}
 use lib.ListN.{length, get_or}
-use Rattle.ring.specs.Ring.{keep, among, eachOnce, listed, listing, listingAll, place, InOrder}
+use Rattle.ring.specs.Ring.{keep, among, each_once, listed, listing, listing_all, place, InOrder}
 use Rattle.ring.proofs.Lists.{listed-listing, listing-lt, listed-none}
 use Rattle.ring.proofs.Counts.{length-keep}
 use Rattle.ring.proofs.Orders.{Kept, kept_at}
 
--- the parts of `eachOnce`, of a first number and others
-module _ (x : ℕ) (xs : List ℕ) (h : eachOnce (x ∷ xs) ≡ true) where
+-- the parts of `each_once`, of a first number and others
+module _ (x : ℕ) (xs : List ℕ) (h : each_once (x ∷ xs) ≡ true) where
   pub first_alone : among xs x ≡ false
-  unfolding eachOnce
-  first_alone = not-true (among xs x) ((and-eq-true_iff (not (among xs x)) (eachOnce xs)).0 h).0
+  unfolding each_once
+  first_alone = not-true (among xs x) ((and-eq-true_iff (not (among xs x)) (each_once xs)).0 h).0
 
-  pub others-once : eachOnce xs ≡ true
-  unfolding eachOnce
-  others-once = ((and-eq-true_iff (not (among xs x)) (eachOnce xs)).0 h).1
+  pub others-once : each_once xs ≡ true
+  unfolding each_once
+  others-once = ((and-eq-true_iff (not (among xs x)) (each_once xs)).0 h).1
 
 -- ---- a number among others
 
@@ -83,27 +83,27 @@ once-tests false true true c = refl
 once-tests false true false c = refl
 once-tests false false b c = refl
 
-pub once-snoc : (xs : List ℕ) (x : ℕ) → eachOnce (xs ++ (x ∷ [])) ≡ (eachOnce xs && not (among xs x))
-unfolding eachOnce among
+pub once-snoc : (xs : List ℕ) (x : ℕ) → each_once (xs ++ (x ∷ [])) ≡ (each_once xs && not (among xs x))
+unfolding each_once among
 once-snoc [] x = refl
 once-snoc (y ∷ xs) x =
-    rw (among-snoc xs x y, once-snoc xs x, eqb_comm x y) (once-tests (among xs y) (eqb y x) (eachOnce xs) (among xs x))
+    rw (among-snoc xs x y, once-snoc xs x, eqb_comm x y) (once-tests (among xs y) (eqb y x) (each_once xs) (among xs x))
 
-pub once-start : (xs ys : List ℕ) → eachOnce (xs ++ ys) ≡ true → eachOnce xs ≡ true
-unfolding eachOnce
+pub once-start : (xs ys : List ℕ) → each_once (xs ++ ys) ≡ true → each_once xs ≡ true
+unfolding each_once
 once-start [] ys e = refl
 once-start (x ∷ xs) ys e =
     rw (among-start xs ys x (first_alone x (xs ++ ys) e)) (once-start xs ys (others-once x (xs ++ ys) e))
 
 -- two places have two numbers
-pub once-apart : (xs : List ℕ) → eachOnce xs ≡ true → (i j : ℕ) → i < j → j < length xs → get_or xs i 0 ≢ get_or xs j 0
+pub once-apart : (xs : List ℕ) → each_once xs ≡ true → (i j : ℕ) → i < j → j < length xs → get_or xs i 0 ≢ get_or xs j 0
 once-apart [] h i j a l = absurd (omega arith)
 once-apart (x ∷ xs) h i zero a l = absurd (omega arith)
 once-apart (x ∷ xs) h (suc i) (suc j) a l = once-apart xs (others-once x xs h) i j (omega arith) (omega arith)
 once-apart (x ∷ xs) h zero (suc j) a l = λ e. true≢false (sym (among-at xs j x (omega arith) (sym e)) ∙ first_alone x xs h)
 
 -- the place of what stands at q is q
-once-place : (xs : List ℕ) → eachOnce xs ≡ true → (q : ℕ) → q < length xs → place xs (get_or xs q 0) ≡ q
+once-place : (xs : List ℕ) → each_once xs ≡ true → (q : ℕ) → q < length xs → place xs (get_or xs q 0) ≡ q
 unfolding place
 once-place [] h q l = absurd (omega arith)
 once-place (x ∷ xs) h zero l = rw (eq-eqb x x refl)
@@ -128,7 +128,7 @@ others-all k (x ∷ xs) h = by (eqb x k) h (others-all k xs)
     by false h ih = ap suc (ih h)
 
 -- where none stands twice, at most one is k
-others-but-one : (k : ℕ) (xs : List ℕ) → eachOnce xs ≡ true → length xs ≤ suc (length (keep (other k) xs))
+others-but-one : (k : ℕ) (xs : List ℕ) → each_once xs ≡ true → length xs ≤ suc (length (keep (other k) xs))
 unfolding keep
 others-but-one k [] h = zero-le
 others-but-one k (x ∷ xs) h = by (eqb x k) refl (others-but-one k xs (others-once x xs h))
@@ -151,12 +151,12 @@ among-keep t (x ∷ xs) m h = by (eqb x m) refl h (t x) (among-keep t xs m)
     by false p h true ih = rw p (ih h)
     by false p h false ih = ih h
 
-once-keep : (t : ℕ → Bool) (xs : List ℕ) → eachOnce xs ≡ true → eachOnce (keep t xs) ≡ true
-unfolding keep eachOnce
+once-keep : (t : ℕ → Bool) (xs : List ℕ) → each_once xs ≡ true → each_once (keep t xs) ≡ true
+unfolding keep each_once
 once-keep t [] h = refl
 once-keep t (x ∷ xs) h = by (t x) (once-keep t xs (others-once x xs h))
   where
-    by : (b : Bool) → eachOnce (keep t xs) ≡ true → eachOnce (cond b (x ∷ keep t xs) (keep t xs)) ≡ true
+    by : (b : Bool) → each_once (keep t xs) ≡ true → each_once (cond b (x ∷ keep t xs) (keep t xs)) ≡ true
     by true ih = rw (among-keep t xs x (first_alone x xs h)) ih
     by false ih = ih
 
@@ -173,7 +173,7 @@ others_below n xs below q h =
     lower : (x : ℕ) → x < suc n → x ≢ n → x < n
     lower x h d = elim (ℕ_discrete x n) [ yes e ↦ absurd (d e) | no f ↦ omega arith ]
 
-pub once-few : (n : ℕ) (xs : List ℕ) → Below n xs → eachOnce xs ≡ true → length xs ≤ n
+pub once-few : (n : ℕ) (xs : List ℕ) → Below n xs → each_once xs ≡ true → length xs ≤ n
 once-few zero [] below h = zero-le
 once-few zero (x ∷ xs) below h = absurd (omega (arith, below 0 (omega arith)))
 once-few (suc n) xs below h =
@@ -183,8 +183,8 @@ once-few (suc n) xs below h =
 -- ---- n of them are an order of the ring
 
 -- every number below n is among them, as with it there would be too many
-all_among : (n : ℕ) (xs : List ℕ) → length xs ≡ n → Below n xs → eachOnce xs ≡ true → (k : ℕ) → k < n → among xs k ≡ true
-unfolding eachOnce
+all_among : (n : ℕ) (xs : List ℕ) → length xs ≡ n → Below n xs → each_once xs ≡ true → (k : ℕ) → k < n → among xs k ≡ true
+unfolding each_once
 all_among n xs size below h k l = go (among xs k) refl
   where
     go : (b : Bool) → among xs k ≡ b → b ≡ true
@@ -197,7 +197,7 @@ all_among n xs size below h k l = go (among xs k) refl
         first zero s = l
         first (suc q) s = below q (omega arith)
 
-pub once-in-order : (n : ℕ) (xs : List ℕ) → length xs ≡ n → Below n xs → eachOnce xs ≡ true → InOrder n xs
+pub once-in-order : (n : ℕ) (xs : List ℕ) → length xs ≡ n → Below n xs → each_once xs ≡ true → InOrder n xs
 once-in-order n xs size below h =
     let at : (k : ℕ) → k < n → Found xs k = λ k l. found xs k (all_among n xs size below h k l) in
     record {
@@ -260,21 +260,21 @@ or_turn true false c = refl
 or_turn false b c = refl
 
 -- it lists what the list did and these
-listed-with : (xs : List ℕ) (d k : ℕ) → listed (listingAll d xs) k ≡ (listed d k || among xs k)
-unfolding listingAll among
+listed-with : (xs : List ℕ) (d k : ℕ) → listed (listing_all d xs) k ≡ (listed d k || among xs k)
+unfolding listing_all among
 listed-with [] d k = sym (or-false (listed d k))
 listed-with (x ∷ xs) d k = listed-with xs (listing d x) k ∙ rw (listed-listing d x k) (or_turn (eqb x k) (listed d k) (among xs k))
 
 -- from nobody on, exactly these
-pub listed-all : (xs : List ℕ) (k : ℕ) → listed (listingAll 0 xs) k ≡ among xs k
+pub listed-all : (xs : List ℕ) (k : ℕ) → listed (listing_all 0 xs) k ≡ among xs k
 listed-all xs k = listed-with xs 0 k ∙ rw (listed-none k)
 
-pub all_snoc : (xs : List ℕ) (d x : ℕ) → listingAll d (xs ++ (x ∷ [])) ≡ listing (listingAll d xs) x
-unfolding listingAll
+pub all_snoc : (xs : List ℕ) (d x : ℕ) → listing_all d (xs ++ (x ∷ [])) ≡ listing (listing_all d xs) x
+unfolding listing_all
 all_snoc [] d x = refl
 all_snoc (y ∷ xs) d x = all_snoc xs (listing d y) x
 
-pub all_small : (n : ℕ) (xs : List ℕ) (d : ℕ) → d < 2 ^ n → Below n xs → listingAll d xs < 2 ^ n
-unfolding listingAll
+pub all_small : (n : ℕ) (xs : List ℕ) (d : ℕ) → d < 2 ^ n → Below n xs → listing_all d xs < 2 ^ n
+unfolding listing_all
 all_small n [] d h f = h
 all_small n (x ∷ xs) d h f = all_small n xs (listing d x) (listing-lt n d x h (f 0 (omega arith))) (λ i a. f (suc i) (omega arith))

@@ -64,13 +64,13 @@ before-first t z xs w i h = go (t (get_or xs i 0)) refl
 
 -- ---- number order
 
-pub getD-numbers : (n j q z : ℕ) → q < n → get_or (numbers j n) q z ≡ j + q
+pub get_or-numbers : (n j q z : ℕ) → q < n → get_or (numbers j n) q z ≡ j + q
 unfolding numbers
-getD-numbers zero j q z h = absurd (omega arith)
-getD-numbers (suc n) j zero z h = sym (add-zero j)
-getD-numbers (suc n) j (suc q) z h =
+get_or-numbers zero j q z h = absurd (omega arith)
+get_or-numbers (suc n) j zero z h = sym (add-zero j)
+get_or-numbers (suc n) j (suc q) z h =
     let e : suc j + q ≡ j + suc q = omega arith in
-    getD-numbers n (suc j) q z (omega arith) ∙ e
+    get_or-numbers n (suc j) q z (omega arith) ∙ e
 
 place-in-numbers : (n k : ℕ) → k < n → place (numbers 0 n) k ≡ k
 place-in-numbers n k h = rw zero-add at (place-numbers n 0 k h)
@@ -79,10 +79,10 @@ place-in-numbers n k h = rw zero-add at (place-numbers n 0 k h)
 pub numbers-in : (n : ℕ) → InOrder n (numbers 0 n)
 numbers-in n = record {
   size = length-numbers n 0;
-  below = λ q h. rw (getD-numbers n 0 q 0 h) (omega arith);
+  below = λ q h. rw (get_or-numbers n 0 q 0 h) (omega arith);
   placed = λ k h. rw (place-in-numbers n k h) h;
-  has = λ k h. rw (place-in-numbers n k h) (getD-numbers n 0 k 0 h ∙ zero-add k);
-  once = λ q h. rw (getD-numbers n 0 q 0 h, zero-add) (place-in-numbers n q h);
+  has = λ k h. rw (place-in-numbers n k h) (get_or-numbers n 0 k 0 h ∙ zero-add k);
+  once = λ q h. rw (get_or-numbers n 0 q 0 h, zero-add) (place-in-numbers n q h);
 }
 
 -- ---- a test keeps as many of any order

@@ -10,7 +10,7 @@ use borrow.Author.Tests.{eq-eqb, ne_eqb}
 use lib.ListN.{length, get_or, take, drop, length-reverse, get_or-append}
 use lib.Seq.{take-suc, drop-cons}
 use Rattle.ring.specs.declared.NodeBefore.{NodeBefore}
-use Rattle.ring.specs.Ring.{keep, none, passing, listed, unlisted, place, round, firstUnlisted, back, backFrom, count, InOrder}
+use Rattle.ring.specs.Ring.{keep, none, passing, listed, unlisted, place, round, first_unlisted, back, back_from, count, InOrder}
 use Rattle.ring.proofs.Laws.{keep_append, keep-reverse, keep-round, unlisted-no, length-round}
 use Rattle.ring.proofs.Lists.{listed-none}
 use Rattle.ring.proofs.Orders.{order-kept}
@@ -19,19 +19,19 @@ use Rattle.ring.proofs.Gaps.{gap, gap_back}
 -- ---- of nodes in turn
 
 -- the node found is the first that is not listed
-pub first-node : (d : ℕ) (xs : List ℕ) → (firstUnlisted d xs).node ≡ get_or (unlisted d xs) 0 none
-unfolding firstUnlisted unlisted keep passing
+pub first-node : (d : ℕ) (xs : List ℕ) → (first_unlisted d xs).node ≡ get_or (unlisted d xs) 0 none
+unfolding first_unlisted unlisted keep passing
 first-node d [] = refl
 first-node d (x ∷ xs) = go (listed d x) refl (first-node d xs)
   where
-    go : (b : Bool) → listed d x ≡ b → (firstUnlisted d xs).node ≡ get_or (unlisted d xs) 0 none
-        → (firstUnlisted d (x ∷ xs)).node ≡ get_or (unlisted d (x ∷ xs)) 0 none
+    go : (b : Bool) → listed d x ≡ b → (first_unlisted d xs).node ≡ get_or (unlisted d xs) 0 none
+        → (first_unlisted d (x ∷ xs)).node ≡ get_or (unlisted d (x ∷ xs)) 0 none
     go true e rest = rw e rest
     go false e rest = rw e
 
 -- where nobody is listed, none is passed
-pub first-none : (xs : List ℕ) → (firstUnlisted 0 xs).passed ≡ 0
-unfolding firstUnlisted
+pub first-none : (xs : List ℕ) → (first_unlisted 0 xs).passed ≡ 0
+unfolding first_unlisted
 first-none [] = refl
 first-none (x ∷ xs) = rw (listed-none x)
 
@@ -43,37 +43,37 @@ pub record Passes (d : ℕ) (xs : List ℕ) (b : NodeBefore) : Type 0 where
 
 -- where one of xs is not listed
 module _ (d : ℕ) where
-  pub first_passes : (xs : List ℕ) → 0 < length (unlisted d xs) → Passes d xs (firstUnlisted d xs)
-  unfolding firstUnlisted unlisted keep passing
+  pub first_passes : (xs : List ℕ) → 0 < length (unlisted d xs) → Passes d xs (first_unlisted d xs)
+  unfolding first_unlisted unlisted keep passing
   first_passes [] h = absurd (omega arith)
   first_passes (x ∷ xs) h = go (listed d x) refl (first_passes xs)
     where
-      go : (b : Bool) → listed d x ≡ b → (0 < length (unlisted d xs) → Passes d xs (firstUnlisted d xs))
-          → Passes d (x ∷ xs) (firstUnlisted d (x ∷ xs))
+      go : (b : Bool) → listed d x ≡ b → (0 < length (unlisted d xs) → Passes d xs (first_unlisted d xs))
+          → Passes d (x ∷ xs) (first_unlisted d (x ∷ xs))
       go true e f =
-          let rest : Passes d xs (firstUnlisted d xs) = f (rw (unlisted-no d x xs e) at h) in
+          let rest : Passes d xs (first_unlisted d xs) = f (rw (unlisted-no d x xs e) at h) in
           rw e (record { inside = omega (arith, rest.inside); found = rest.found; unlisted = rest.unlisted })
       go false e f = rw e (record { inside = omega arith; found = refl; unlisted = e })
 
   -- the number passed is the count of listed nodes among those before the one found
   abbrev Counts : List ℕ → Type 0
-  Counts xs = (firstUnlisted d xs).passed ≡ length (keep (listed d) (take (place xs (firstUnlisted d xs).node) xs))
+  Counts xs = (first_unlisted d xs).passed ≡ length (keep (listed d) (take (place xs (first_unlisted d xs).node) xs))
 
   pub first_count : (xs : List ℕ) → 0 < length (unlisted d xs) → Counts xs
-  unfolding firstUnlisted place keep passing
+  unfolding first_unlisted place keep passing
   first_count [] h = refl
   first_count (x ∷ xs) h = go (listed d x) refl (first_count xs)
     where
       go : (b : Bool) → listed d x ≡ b → (0 < length (unlisted d xs) → Counts xs) → Counts (x ∷ xs)
       go true e f =
           let some : 0 < length (unlisted d xs) = rw (unlisted-no d x xs e) at h in
-          let other : x ≢ (firstUnlisted d xs).node = λ q. true≢false (sym e ∙ ap (listed d) q ∙ (first_passes xs some).unlisted) in
-          rw (e, ne_eqb x (firstUnlisted d xs).node other, e) (ap suc (f some))
+          let other : x ≢ (first_unlisted d xs).node = λ q. true≢false (sym e ∙ ap (listed d) q ∙ (first_passes xs some).unlisted) in
+          rw (e, ne_eqb x (first_unlisted d xs).node other, e) (ap suc (f some))
       go false e f = rw (e, eq-eqb x x refl)
 
 -- ---- from a node e that is left, in the ring
 
-module _ (n d : ℕ) (order : List ℕ) (r : InOrder n order) (e : ℕ) (eN : e < n) where
+module _ (n d : ℕ) (order : List ℕ) (r : InOrder n order) (e : ℕ) (e_n : e < n) where
   -- the nodes in turn going back from e, e itself the first
   abbrev pub way : List ℕ
   way = reverse (round order (suc (place order e)))
@@ -83,10 +83,10 @@ module _ (n d : ℕ) (order : List ℕ) (r : InOrder n order) (e : ℕ) (eN : e 
   others = reverse (drop (suc (place order e)) order ++ take (place order e) order)
 
   at : get_or order (place order e) 0 ≡ e
-  at = r.has e eN
+  at = r.has e e_n
 
   spot : place order e < length order
-  spot = rw r.size (r.placed e eN)
+  spot = rw r.size (r.placed e e_n)
 
   way-first : way ≡ e ∷ others
   unfolding round others
@@ -116,12 +116,12 @@ module _ (n d : ℕ) (order : List ℕ) (r : InOrder n order) (e : ℕ) (eN : e 
       ) h
 
   -- THE NUMBER PASSED is the count of listed nodes from e back to the node found, which is not counted
-  pub from-count : 0 < count n d → (backFrom order d e).passed ≡ length (keep (listed d) (take (place way (backFrom order d e).node) way))
+  pub from-count : 0 < count n d → (back_from order d e).passed ≡ length (keep (listed d) (take (place way (back_from order d e).node) way))
   unfolding back
   from-count some = first_count d way (some-unlisted (suc (place order e)) some)
 
   -- there are fewer of them than nodes
-  pub from-below : 0 < count n d → (backFrom order d e).passed < n
+  pub from-below : 0 < count n d → (back_from order d e).passed < n
   unfolding back
   from-below some =
       let long : length way ≡ n = length-reverse (round order (suc (place order e))) ∙ length-round order (suc (place order e)) ∙ r.size in
@@ -130,12 +130,12 @@ module _ (n d : ℕ) (order : List ℕ) (r : InOrder n order) (e : ℕ) (eN : e 
   -- where e is listed, as a node is that is left
   module _ (l : listed d e ≡ true) where
     -- it is passed itself, "the one just left included"
-    pub from-left : 0 < (backFrom order d e).passed
-    unfolding back firstUnlisted passing
+    pub from-left : 0 < (back_from order d e).passed
+    unfolding back first_unlisted passing
     from-left = rw (way-first, l) (omega arith)
 
     -- and the node found is the one that is found from the place before it
-    pub from-node : (backFrom order d e).node ≡ (back order d (place order e)).node
+    pub from-node : (back_from order d e).node ≡ (back order d (place order e)).node
     unfolding back unlisted keep
     from-node =
         first-node d way
@@ -147,19 +147,19 @@ module _ (n d : ℕ) (order : List ℕ) (r : InOrder n order) (e : ℕ) (eN : e 
         alone = rw (unlisted-no d e [] l) (append-nil (unlisted d others))
 
     -- all between are listed, so the number is how many steps back the node found stands from e
-    pub from-gap : 0 < count n d → (backFrom order d e).passed ≡ gap n r e (backFrom order d e).node
+    pub from-gap : 0 < count n d → (back_from order d e).passed ≡ gap n r e (back_from order d e).node
     unfolding back
-    from-gap some = go (backFrom order d e).passed refl from-left
+    from-gap some = go (back_from order d e).passed refl from-left
       where
-        met : Passes d way (backFrom order d e)
+        met : Passes d way (back_from order d e)
         met = first_passes d way (some-unlisted (suc (place order e)) some)
 
-        go : (k : ℕ) → (backFrom order d e).passed ≡ k → 0 < (backFrom order d e).passed → k ≡ gap n r e (backFrom order d e).node
+        go : (k : ℕ) → (back_from order d e).passed ≡ k → 0 < (back_from order d e).passed → k ≡ gap n r e (back_from order d e).node
         go zero q h = absurd (omega arith)
         go (suc i) q h =
             let inside : suc i < suc (length others) = rw (q, way-first) at met.inside in
-            let below : (backFrom order d e).passed < n = from-below some in
-            let there : (backFrom order d e).node ≡ get_or (reverse (round order (place order e))) i 0 =
+            let below : (back_from order d e).passed < n = from-below some in
+            let there : (back_from order d e).node ≡ get_or (reverse (round order (place order e))) i 0 =
             sym met.found ∙ ap (λ (k : ℕ). get_or way k 0) q ∙ ap (λ (xs : List ℕ). get_or xs (suc i) 0) way-first
             ∙ sym (get_or-append others (e ∷ []) 0 i (omega arith)) ∙ ap (λ (xs : List ℕ). get_or xs i 0) (sym before_last) in
-            sym (ap (gap n r e) there ∙ gap_back n r e i eN (omega arith))
+            sym (ap (gap n r e) there ∙ gap_back n r e i e_n (omega arith))

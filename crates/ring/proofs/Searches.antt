@@ -12,12 +12,12 @@ use lib.Dec.{eqb}
 use lib.ListN.{length, get_or, take, drop, drop_of_length-le}
 use lib.Seq.{take-suc, drop-cons, take_all}
 use Rattle.ring.specs.declared.NodeBefore.{NodeBefore}
-use Rattle.ring.specs.Ring.{keep, none, nodeBefore, passing, listed, unlisted, round, ahead, firstUnlisted, back, next, place}
+use Rattle.ring.specs.Ring.{keep, none, node_before, passing, listed, unlisted, round, ahead, first_unlisted, back, next, place}
 use Rattle.ring.proofs.Laws.{unlisted-yes, unlisted-no, length-round}
 
 -- the answer of a search that comes after one that passed k
 abbrev pub after : ℕ → NodeBefore → NodeBefore
-after k b = nodeBefore b.node (k + b.passed)
+after k b = node_before b.node (k + b.passed)
 
 -- one turn of a walk ahead, and of one back
 module _ (d s : ℕ) (l : List ℕ) (h : s < length l) where
@@ -30,12 +30,12 @@ module _ (d s : ℕ) (l : List ℕ) (h : s < length l) where
   back-take : reverse (take (suc s) l) ≡ get_or l s 0 ∷ reverse (take s l)
   back-take = rw (take-suc l s 0, reverse-append)
 
-  back-yes : listed d (get_or l s 0) ≡ false → firstUnlisted d (reverse (take (suc s) l)) ≡ nodeBefore (get_or l s 0) 0
-  unfolding firstUnlisted
+  back-yes : listed d (get_or l s 0) ≡ false → first_unlisted d (reverse (take (suc s) l)) ≡ node_before (get_or l s 0) 0
+  unfolding first_unlisted
   back-yes e = rw (back-take, e)
 
-  back-no : listed d (get_or l s 0) ≡ true → firstUnlisted d (reverse (take (suc s) l)) ≡ passing (firstUnlisted d (reverse (take s l)))
-  unfolding firstUnlisted
+  back-no : listed d (get_or l s 0) ≡ true → first_unlisted d (reverse (take (suc s) l)) ≡ passing (first_unlisted d (reverse (take s l)))
+  unfolding first_unlisted
   back-no e = rw (back-take, e)
 
 -- The same for a turn of the code, which has read x at the place s of the round and asked b, whether it is listed.
@@ -62,14 +62,14 @@ module _ (order : List ℕ) (d p s x : ℕ) (b : Bool) (h : s < length order) (e
   turn-skip n q = rw (ahead-no d s ring in-round (asked true (not-false b q)))
 
   -- going back, k were passed, and the turn leaves s of the n places that were left
-  pub turn-back-hit : (n k : ℕ) → n ≡ suc s → not b ≡ true → nodeBefore x k ≡ after k (firstUnlisted d (reverse (take n ring)))
+  pub turn-back-hit : (n k : ℕ) → n ≡ suc s → not b ≡ true → node_before x k ≡ after k (first_unlisted d (reverse (take n ring)))
   turn-back-hit n k m q = rw (m, back-yes d s ring in-round (asked false (not-true b q)), e, add-zero)
 
   pub turn-back-skip : (n k : ℕ) → n ≡ suc s → not b ≡ false
-      → after k (firstUnlisted d (reverse (take n ring))) ≡ after (k + 1) (firstUnlisted d (reverse (take s ring)))
+      → after k (first_unlisted d (reverse (take n ring))) ≡ after (k + 1) (first_unlisted d (reverse (take s ring)))
   unfolding passing
   turn-back-skip n k m q =
-      let f : NodeBefore = firstUnlisted d (reverse (take s ring)) in
+      let f : NodeBefore = first_unlisted d (reverse (take s ring)) in
       let sum : k + suc f.passed ≡ k + 1 + f.passed = omega arith in
       rw (m, back-no d s ring in-round (asked true (not-false b q)), sum)
 
@@ -78,12 +78,12 @@ pub turn-done : (order : List ℕ) (d p s n : ℕ) → length order ≤ s → ge
 unfolding unlisted keep
 turn-done order d p s n h = rw (drop_of_length-le (round order p) {i = s} (rw length-round h))
 
-pub turn-back-start : (order : List ℕ) (d p : ℕ) → back order d p ≡ after 0 (firstUnlisted d (reverse (take (length order) (round order p))))
+pub turn-back-start : (order : List ℕ) (d p : ℕ) → back order d p ≡ after 0 (first_unlisted d (reverse (take (length order) (round order p))))
 unfolding back
 turn-back-start order d p = rw (take_all (length order) (round order p) (rw length-round (omega arith)), zero-add)
 
-pub turn-back-done : (order : List ℕ) (d p s k : ℕ) → s ≤ 0 → after k (firstUnlisted d (reverse (take s (round order p)))) ≡ nodeBefore none k
-unfolding firstUnlisted
+pub turn-back-done : (order : List ℕ) (d p s k : ℕ) → s ≤ 0 → after k (first_unlisted d (reverse (take s (round order p)))) ≡ node_before none k
+unfolding first_unlisted
 turn-back-done order d p s k h = rw (le-zero h, add-zero)
 
 -- the next node by the search ahead, from the place after p or, past the last place, from the first

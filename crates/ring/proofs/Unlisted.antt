@@ -18,23 +18,23 @@ use Rattle.ring.proofs.Orders.{Kept, kept_at, order-kept}
 
 -- ---- the definitions of Ring.antt for any test: those are these for `listed d`
 
-abbrev pub unlistedBy : (ℕ → Bool) → List ℕ → List ℕ
-unlistedBy l xs = keep (λ i. not (l i)) xs
+abbrev pub unlisted_by : (ℕ → Bool) → List ℕ → List ℕ
+unlisted_by l xs = keep (λ i. not (l i)) xs
 
-unfoldable pub countBy : ℕ → (ℕ → Bool) → ℕ
-countBy n l = length (unlistedBy l (numbers 0 n))
+unfoldable pub count_by : ℕ → (ℕ → Bool) → ℕ
+count_by n l = length (unlisted_by l (numbers 0 n))
 
-unfoldable pub aheadBy : List ℕ → (ℕ → Bool) → ℕ → ℕ → ℕ
-aheadBy order l p k = get_or (unlistedBy l (round order p)) k none
+unfoldable pub ahead_by : List ℕ → (ℕ → Bool) → ℕ → ℕ → ℕ
+ahead_by order l p k = get_or (unlisted_by l (round order p)) k none
 
 unfoldable pub back_by : List ℕ → (ℕ → Bool) → ℕ → ℕ
-back_by order l p = get_or (unlistedBy l (reverse (round order p))) 0 none
+back_by order l p = get_or (unlisted_by l (reverse (round order p))) 0 none
 
-unfoldable pub nextBy : List ℕ → (ℕ → Bool) → ℕ → ℕ
-nextBy order l p = get_or (unlistedBy l (round order (suc p))) 0 none
+unfoldable pub next_by : List ℕ → (ℕ → Bool) → ℕ → ℕ
+next_by order l p = get_or (unlisted_by l (round order (suc p))) 0 none
 
-next-first : (order : List ℕ) (l : ℕ → Bool) (p : ℕ) → nextBy order l p ≡ aheadBy order l (suc p) 0
-unfolding nextBy aheadBy
+next-first : (order : List ℕ) (l : ℕ → Bool) (p : ℕ) → next_by order l p ≡ ahead_by order l (suc p) 0
+unfolding next_by ahead_by
 next-first order l p = refl
 
 -- ---- rings of any list
@@ -108,12 +108,12 @@ module _ (l : ℕ → Bool) (order : List ℕ) where
 
   -- how many unlisted nodes stand before the place p
   abbrev index : ℕ → ℕ
-  index p = length (unlistedBy l (take p order))
+  index p = length (unlisted_by l (take p order))
 
-  index-le : (p : ℕ) → index p ≤ length (unlistedBy l order)
+  index-le : (p : ℕ) → index p ≤ length (unlisted_by l order)
   index-le p =
-      let parts : index p + length (unlistedBy l (drop p order)) ≡ length (unlistedBy l order) =
-      sym (length-append (unlistedBy l (take p order)) (unlistedBy l (drop p order)))
+      let parts : index p + length (unlisted_by l (drop p order)) ≡ length (unlisted_by l order) =
+      sym (length-append (unlisted_by l (take p order)) (unlisted_by l (drop p order)))
       ∙ ap length (sym (keep_append un (take p order) (drop p order)))
       ∙ ap (λ (xs : List ℕ). length (keep un xs)) (take-append-drop p order) in
       omega arith
@@ -124,7 +124,7 @@ module _ (l : ℕ → Bool) (order : List ℕ) where
     index-suc = rw (take-suc order p 0 h, keep_append, length-append, e) (omega arith)
 
     -- the node there is the unlisted node of its index
-    index_at : (z : ℕ) → get_or (unlistedBy l order) (index p) z ≡ get_or order p 0
+    index_at : (z : ℕ) → get_or (unlisted_by l order) (index p) z ≡ get_or order p 0
     index_at z =
         ap (λ (xs : List ℕ). get_or xs (index p) z) whole ∙ get_or-append_seam (keep un (take p order)) (get_or order p 0) (keep un (drop (suc p) order)) z
       where
@@ -142,17 +142,17 @@ module _ (n : ℕ) (l : ℕ → Bool) (order : List ℕ) (r : InOrder n order) w
 
   -- how many are unlisted
   abbrev m : ℕ
-  m = countBy n l
+  m = count_by n l
 
   -- the unlisted node of index k, and the index of the node x
   abbrev nth : ℕ → ℕ
-  nth k = get_or (unlistedBy l order) k none
+  nth k = get_or (unlisted_by l order) k none
 
   abbrev index_of : ℕ → ℕ
   index_of x = index l order (place order x)
 
-  size : length (unlistedBy l order) ≡ m
-  unfolding countBy
+  size : length (unlisted_by l order) ≡ m
+  unfolding count_by
   size = order-kept un' n order r
 
   at : (k : ℕ) → k < m → Kept un' none order k
@@ -168,41 +168,41 @@ module _ (n : ℕ) (l : ℕ → Bool) (order : List ℕ) (r : InOrder n order) w
   index-nth k h = rw ((at k h).is, r.once (at k h).q (rw r.size at (at k h).inside)) (at k h).before
 
   -- a node ahead, by its index
-  ahead-nth : (p k : ℕ) → k < m → aheadBy order l p k ≡ nth ((index l order p + k) % m)
-  unfolding aheadBy
+  ahead-nth : (p k : ℕ) → k < m → ahead_by order l p k ≡ nth ((index l order p + k) % m)
+  unfolding ahead_by
   ahead-nth p k h =
       ap (λ (xs : List ℕ). get_or xs k none) (kept-round un' order p)
-      ∙ round-mod none (unlistedBy l order) (index l order p) k (index-le l order p) (rw size h)
+      ∙ round-mod none (unlisted_by l order) (index l order p) k (index-le l order p) (rw size h)
       ∙ ap (λ (c : ℕ). nth ((index l order p + k) % c)) size
 
-  pub aheadBy-below : (p k : ℕ) → k < m → aheadBy order l p k < n
-  aheadBy-below p k h = rw (ahead-nth p k h) (nth-below _ (mod-lt _ (omega arith)))
+  pub ahead_by-below : (p k : ℕ) → k < m → ahead_by order l p k < n
+  ahead_by-below p k h = rw (ahead-nth p k h) (nth-below _ (mod-lt _ (omega arith)))
 
-  pub aheadBy-unlisted : (p k : ℕ) → k < m → l (aheadBy order l p k) ≡ false
-  aheadBy-unlisted p k h = rw (ahead-nth p k h) (nth-unlisted _ (mod-lt _ (omega arith)))
+  pub ahead_by-unlisted : (p k : ℕ) → k < m → l (ahead_by order l p k) ≡ false
+  ahead_by-unlisted p k h = rw (ahead-nth p k h) (nth-unlisted _ (mod-lt _ (omega arith)))
 
   -- two different jumps lead to two different nodes
-  pub aheadBy-differ : (p i j : ℕ) → i < j → j < m → aheadBy order l p i ≢ aheadBy order l p j
-  aheadBy-differ p i j g h e = mod-differ m (index l order p) i j g h
+  pub ahead_by-differ : (p i j : ℕ) → i < j → j < m → ahead_by order l p i ≢ ahead_by order l p j
+  ahead_by-differ p i j g h e = mod-differ m (index l order p) i j g h
       (sym (index-nth _ (mod-lt _ (omega arith))) ∙ ap index_of (sym (ahead-nth p i (omega arith)) ∙ e ∙ ahead-nth p j h)
       ∙ index-nth _ (mod-lt _ (omega arith)))
 
   -- jumps add up: k ahead of the node that is j ahead is j + k ahead, round the m unlisted nodes
-  pub aheadBy-add : (p j k : ℕ) → j < m → k < m → aheadBy order l (place order (aheadBy order l p j)) k ≡ aheadBy order l p ((j + k) % m)
-  aheadBy-add p j k g h =
+  pub ahead_by-add : (p j k : ℕ) → j < m → k < m → ahead_by order l (place order (ahead_by order l p j)) k ≡ ahead_by order l p ((j + k) % m)
+  ahead_by-add p j k g h =
       let some : 0 < m = omega arith in
       let a : ℕ = index l order p in
-      let there : index_of (aheadBy order l p j) ≡ (a + j) % m = ap index_of (ahead-nth p j g) ∙ index-nth ((a + j) % m) (mod-lt (a + j) some) in
+      let there : index_of (ahead_by order l p j) ≡ (a + j) % m = ap index_of (ahead-nth p j g) ∙ index-nth ((a + j) % m) (mod-lt (a + j) some) in
       let sum : ((a + j) % m + k) % m ≡ (a + (j + k) % m) % m =
       mod-add-mod (a + j) m k ∙ ap (λ (x : ℕ). x % m) (add_assoc a j k) ∙ sym (add-mod-mod a (j + k) m) in
-      ahead-nth (place order (aheadBy order l p j)) k h
+      ahead-nth (place order (ahead_by order l p j)) k h
       ∙ ap nth (ap (λ (x : ℕ). (x + k) % m) there ∙ sum)
       ∙ sym (ahead-nth p ((j + k) % m) (mod-lt (j + k) some))
 
   -- the first going back is the last ahead
-  pub backBy-ahead : (p : ℕ) → back_by order l p ≡ aheadBy order l p (m - 1)
-  unfolding back_by aheadBy
-  backBy-ahead p =
+  pub back_by-ahead : (p : ℕ) → back_by order l p ≡ ahead_by order l p (m - 1)
+  unfolding back_by ahead_by
+  back_by-ahead p =
       ap (λ (xs : List ℕ). get_or xs 0 none) (keep-reverse un' (round order p))
       ∙ first-reverse none (keep un' (round order p))
       ∙ ap (λ (c : ℕ). get_or (keep un' (round order p)) (c - 1) none) (keep-round un' order p ∙ size)
@@ -223,57 +223,57 @@ module _ (n : ℕ) (l : ℕ → Bool) (order : List ℕ) (r : InOrder n order) w
     nth-index = index_at l order (place order x) spot there none ∙ r.has x h
 
     -- an unlisted node counts itself
-    pub countBy-some : 0 < m
-    countBy-some = omega (arith, index-lt)
+    pub count_by-some : 0 < m
+    count_by-some = omega (arith, index-lt)
 
-    pub aheadBy-itself : aheadBy order l (place order x) 0 ≡ x
-    aheadBy-itself =
-        ahead-nth (place order x) 0 countBy-some
+    pub ahead_by-itself : ahead_by order l (place order x) 0 ≡ x
+    ahead_by-itself =
+        ahead-nth (place order x) 0 count_by-some
         ∙ ap (λ (i : ℕ). nth (i % m)) (add-zero (index_of x)) ∙ ap nth (mod-eq_of_lt index-lt) ∙ nth-index
 
     -- the next is one ahead, and the node itself where it is alone
-    pub nextBy-ahead : nextBy order l (place order x) ≡ aheadBy order l (place order x) (1 % m)
-    nextBy-ahead =
+    pub next_by-ahead : next_by order l (place order x) ≡ ahead_by order l (place order x) (1 % m)
+    next_by-ahead =
         next-first order l (place order x)
-        ∙ ahead-nth (suc (place order x)) 0 countBy-some
+        ∙ ahead-nth (suc (place order x)) 0 count_by-some
         ∙ ap (λ (i : ℕ). nth (i % m)) (add-zero _ ∙ index-suc l order (place order x) spot there ∙ sym (add-one (index_of x)))
         ∙ ap nth (sym (add-mod-mod (index_of x) 1 m))
-        ∙ sym (ahead-nth (place order x) (1 % m) (mod-lt 1 countBy-some))
+        ∙ sym (ahead-nth (place order x) (1 % m) (mod-lt 1 count_by-some))
 
   module _ (x : ℕ) (h : x < n) (u : l x ≡ false) where
     -- every unlisted node is so many ahead
-    pub aheadBy-reaches : (y : ℕ) → y < n → l y ≡ false → (k : ℕ) × (k < m) × (aheadBy order l (place order x) k ≡ y)
-    aheadBy-reaches y g v =
+    pub ahead_by-reaches : (y : ℕ) → y < n → l y ≡ false → (k : ℕ) × (k < m) × (ahead_by order l (place order x) k ≡ y)
+    ahead_by-reaches y g v =
         let a : ℕ = index_of x in
         let b : ℕ = index_of y in
         let c : ℕ = m - a in
-        let k : (b + c) % m < m = mod-lt (b + c) (countBy-some x h u) in
+        let k : (b + c) % m < m = mod-lt (b + c) (count_by-some x h u) in
         let sum : a + (b + c) ≡ b + m = omega (arith, index-lt x h u) in
         let back : (a + (b + c) % m) % m ≡ b =
         add-mod-mod a (b + c) m ∙ ap (λ (i : ℕ). i % m) sum ∙ add-mod_right b m ∙ mod-eq_of_lt (index-lt y g v) in
         ((b + c) % m, k, ahead-nth (place order x) ((b + c) % m) k ∙ ap nth back ∙ nth-index y g v)
 
     -- going back and going on are inverse among the unlisted
-    pub nextBy-back : nextBy order l (place order (back_by order l (place order x))) ≡ x
-    nextBy-back =
-        let some : 0 < m = countBy-some x h u in
+    pub next_by-back : next_by order l (place order (back_by order l (place order x))) ≡ x
+    next_by-back =
+        let some : 0 < m = count_by-some x h u in
         let k : m - 1 < m = omega arith in
         let p : ℕ = place order x in
         let e : m - 1 + 1 ≡ m = omega arith in
-        ap (λ (z : ℕ). nextBy order l (place order z)) (backBy-ahead p)
-        ∙ nextBy-ahead (aheadBy order l p (m - 1)) (aheadBy-below p (m - 1) k) (aheadBy-unlisted p (m - 1) k)
-        ∙ aheadBy-add p (m - 1) (1 % m) k (mod-lt 1 some)
-        ∙ ap (aheadBy order l p) (add-mod-mod (m - 1) 1 m ∙ ap (λ (z : ℕ). z % m) e ∙ mod_self m)
-        ∙ aheadBy-itself x h u
+        ap (λ (z : ℕ). next_by order l (place order z)) (back_by-ahead p)
+        ∙ next_by-ahead (ahead_by order l p (m - 1)) (ahead_by-below p (m - 1) k) (ahead_by-unlisted p (m - 1) k)
+        ∙ ahead_by-add p (m - 1) (1 % m) k (mod-lt 1 some)
+        ∙ ap (ahead_by order l p) (add-mod-mod (m - 1) 1 m ∙ ap (λ (z : ℕ). z % m) e ∙ mod_self m)
+        ∙ ahead_by-itself x h u
 
-    pub backBy-next : back_by order l (place order (nextBy order l (place order x))) ≡ x
-    backBy-next =
-        let some : 0 < m = countBy-some x h u in
+    pub back_by-next : back_by order l (place order (next_by order l (place order x))) ≡ x
+    back_by-next =
+        let some : 0 < m = count_by-some x h u in
         let k : m - 1 < m = omega arith in
         let p : ℕ = place order x in
         let e : 1 + (m - 1) ≡ m = omega arith in
-        ap (λ (z : ℕ). back_by order l (place order z)) (nextBy-ahead x h u)
-        ∙ backBy-ahead (place order (aheadBy order l p (1 % m)))
-        ∙ aheadBy-add p (1 % m) (m - 1) (mod-lt 1 some) k
-        ∙ ap (aheadBy order l p) (mod-add-mod 1 m (m - 1) ∙ ap (λ (z : ℕ). z % m) e ∙ mod_self m)
-        ∙ aheadBy-itself x h u
+        ap (λ (z : ℕ). back_by order l (place order z)) (next_by-ahead x h u)
+        ∙ back_by-ahead (place order (ahead_by order l p (1 % m)))
+        ∙ ahead_by-add p (1 % m) (m - 1) (mod-lt 1 some) k
+        ∙ ap (ahead_by order l p) (mod-add-mod 1 m (m - 1) ∙ ap (λ (z : ℕ). z % m) e ∙ mod_self m)
+        ∙ ahead_by-itself x h u

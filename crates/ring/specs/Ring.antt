@@ -3,15 +3,15 @@
 -- in that list: 01's ring is number order, `numbers 0 n`, one instance. Assumes nothing.
 use Rattle.std.specs.Prelude.{◌≡◌, Bool, true, false, cond, not, ◌&&◌, ◌||◌, List, [], ◌∷◌, ◌++◌, map, reverse, ℕ, zero, suc, ◌-◌, ◌/◌, ◌%◌, ◌^◌, ◌<◌, eqb, ltb, leb, length, get_or, take, drop, replicate}
 use Rattle.std.specs.Int.Bits.{bit_or}
-use Rattle.limits.specs.Limits.{mostNodes}
-use Rattle.limits.specs.Refusals.{accepted, outOfRange}
+use Rattle.limits.specs.Limits.{most_nodes}
+use Rattle.limits.specs.Refusals.{accepted, out_of_range}
 use Rattle.ring.specs.declared.NodeBefore.{NodeBefore}
 
 -- ---- 01's numbers
 
 -- "rows of six targets"
-abbrev pub rowSize : ℕ
-rowSize = 6
+abbrev pub row_size : ℕ
+row_size = 6
 
 -- "255 where there is none"
 abbrev pub none : ℕ
@@ -35,9 +35,9 @@ among [] k = false
 among (x ∷ xs) k = eqb x k || among xs k
 
 -- no number stands twice
-unfoldable pub eachOnce : List ℕ → Bool
-eachOnce [] = true
-eachOnce (x ∷ xs) = not (among xs x) && eachOnce xs
+unfoldable pub each_once : List ℕ → Bool
+each_once [] = true
+each_once (x ∷ xs) = not (among xs x) && each_once xs
 
 -- ---- "a dead list, a 64-bit number whose bit i stands for node i"
 
@@ -62,26 +62,26 @@ unfoldable pub part_of : ℕ → ℕ → Bool
 part_of m d = eqb (bit_or m d) d
 
 -- d with all nodes of a list listed
-unfoldable pub listingAll : ℕ → List ℕ → ℕ
-listingAll d [] = d
-listingAll d (x ∷ xs) = listingAll (listing d x) xs
+unfoldable pub listing_all : ℕ → List ℕ → ℕ
+listing_all d [] = d
+listing_all d (x ∷ xs) = listing_all (listing d x) xs
 
 -- the nodes of a list that d does not list
 unfoldable pub unlisted : ℕ → List ℕ → List ℕ
 unlisted d xs = keep (λ i. not (listed d i)) xs
 
 -- the nodes below n that d does not list, as a set like d: all bits below n, without d's
-unfoldable pub unlistedSet : ℕ → ℕ → ℕ
-unlistedSet n d = 2 ^ n - 1 - d % 2 ^ n
+unfoldable pub unlisted_set : ℕ → ℕ → ℕ
+unlisted_set n d = 2 ^ n - 1 - d % 2 ^ n
 
 -- ---- the answer of a search: a node, and how many listed nodes were passed on the way to it
 
-abbrev pub nodeBefore : ℕ → ℕ → NodeBefore
-nodeBefore node passed = record { node = node; passed = passed }
+abbrev pub node_before : ℕ → ℕ → NodeBefore
+node_before node passed = record { node = node; passed = passed }
 
 -- one more is passed
 unfoldable pub passing : NodeBefore → NodeBefore
-passing b = nodeBefore b.node (suc b.passed)
+passing b = node_before b.node (suc b.passed)
 
 -- ---- "nodes are 0 to N−1 in a ring"
 
@@ -107,18 +107,18 @@ unfoldable pub ahead : List ℕ → ℕ → ℕ → ℕ → ℕ
 ahead order d p k = get_or (unlisted d (round order p)) k none
 
 -- of nodes in turn, the first that d does not list, and how many listed ones are passed before it
-unfoldable pub firstUnlisted : ℕ → List ℕ → NodeBefore
-firstUnlisted d [] = nodeBefore none 0
-firstUnlisted d (x ∷ xs) = cond (listed d x) (passing (firstUnlisted d xs)) (nodeBefore x 0)
+unfoldable pub first_unlisted : ℕ → List ℕ → NodeBefore
+first_unlisted d [] = node_before none 0
+first_unlisted d (x ∷ xs) = cond (listed d x) (passing (first_unlisted d xs)) (node_before x 0)
 
 -- "the search for the node before": "the first unlisted node going back" from the place p, and "how many listed nodes it passed". It begins at
 -- the place before p, and the node at p comes last
 unfoldable pub back : List ℕ → ℕ → ℕ → NodeBefore
-back order d p = firstUnlisted d (reverse (round order p))
+back order d p = first_unlisted d (reverse (round order p))
 
 -- the search from a node that is just left: it begins at that node, listed by then, and so has "the one just left included"
-abbrev pub backFrom : List ℕ → ℕ → ℕ → NodeBefore
-backFrom order d e = back order d (suc (place order e))
+abbrev pub back_from : List ℕ → ℕ → ℕ → NodeBefore
+back_from order d e = back order d (suc (place order e))
 
 -- the first unlisted node ahead of the place p; the node there comes last
 unfoldable pub next : List ℕ → ℕ → ℕ → ℕ
@@ -146,16 +146,16 @@ targets order d p = map (ahead order d p) (powers (count (length order) d))
 
 -- "six targets, 255 where there is none"
 unfoldable pub row : List ℕ → List ℕ
-row ts = ts ++ replicate (rowSize - length ts) none
+row ts = ts ++ replicate (row_size - length ts) none
 
 -- "the rows of listed nodes and of numbers from N on are all 255"
-unfoldable pub tableRow : List ℕ → ℕ → ℕ → List ℕ
-tableRow order d i = row (cond (ltb i (length order) && not (listed d i)) (targets order d (place order i)) [])
+unfoldable pub table_row : List ℕ → ℕ → ℕ → List ℕ
+table_row order d i = row (cond (ltb i (length order) && not (listed d i)) (targets order d (place order i)) [])
 
 -- "N outside 1 to 64, or a list with a bit from N on, is refused by 3"
-unfoldable pub tableAnswer : ℕ → ℕ → ℕ
-tableAnswer n d = cond (leb 1 n && leb n mostNodes && ltb d (2 ^ n)) accepted outOfRange
+unfoldable pub table_answer : ℕ → ℕ → ℕ
+table_answer n d = cond (leb 1 n && leb n most_nodes && ltb d (2 ^ n)) accepted out_of_range
 
 -- "64 rows" in number order; of a refused table, all are empty
-unfoldable pub tableRows : ℕ → ℕ → List (List ℕ)
-tableRows n d = cond (eqb (tableAnswer n d) 0) (map (tableRow (numbers 0 n) d) (numbers 0 mostNodes)) (replicate mostNodes (row []))
+unfoldable pub table_rows : ℕ → ℕ → List (List ℕ)
+table_rows n d = cond (eqb (table_answer n d) 0) (map (table_row (numbers 0 n) d) (numbers 0 most_nodes)) (replicate most_nodes (row []))

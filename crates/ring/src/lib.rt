@@ -1,9 +1,9 @@
 // Dead lists, the ring in any order, forward targets and the forwarding table. The ring is lent as its order, node numbers
 // from the first place to the last; a place is an index of it.
 ghost use Rattle.std.specs.Prelude.{◌≡◌, ◌-◌, ◌^◌, ◌<◌, ◌≤◌, length, get_or};
-ghost use Rattle.limits.specs.Limits.{mostNodes};
-ghost use Rattle.ring.specs.Ring.{numbers, listed, listing, unlisting, merging, part_of, unlistedSet, place, round, ahead, back, next, count, jumps};
-ghost use Rattle.ring.specs.Ring.{targets, row, tableAnswer, tableRow, tableRows};
+ghost use Rattle.limits.specs.Limits.{most_nodes};
+ghost use Rattle.ring.specs.Ring.{numbers, listed, listing, unlisting, merging, part_of, unlisted_set, place, round, ahead, back, next, count, jumps};
+ghost use Rattle.ring.specs.Ring.{targets, row, table_answer, table_row, table_rows};
 
 use limits::MOST_NODES;
 
@@ -43,7 +43,7 @@ pub fn is_listed(d: u64, i: u8) -> bool
 
 // The dead list d with node i listed.
 pub fn with_listed(d: u64, i: u8) -> u64
-    requires { i < mostNodes }
+    requires { i < most_nodes }
     ensures { result ≡ listing d i }
 {
     d | 1 << i
@@ -51,7 +51,7 @@ pub fn with_listed(d: u64, i: u8) -> u64
 
 // A dead list without node i.
 pub fn with_unlisted(list: u64, i: u8) -> u64
-    requires { i < mostNodes }
+    requires { i < most_nodes }
     ensures { result ≡ unlisting list i }
 {
     if is_listed(list, i) {
@@ -76,7 +76,7 @@ pub fn is_part(m: u64, d: u64) -> bool
 
 // The set of all of n nodes.
 pub fn all_nodes(n: u8) -> u64
-    requires { (1 ≤ n) × (n ≤ mostNodes) }
+    requires { (1 ≤ n) × (n ≤ most_nodes) }
     ensures { result ≡ 2 ^ n - 1 }
 {
     0xffff_ffff_ffff_ffff >> (MOST_NODES as u8 - n)
@@ -84,15 +84,15 @@ pub fn all_nodes(n: u8) -> u64
 
 // The set of the nodes below n that d does not list.
 pub fn unlisted_set(n: u8, d: u64) -> u64
-    requires { (1 ≤ n) × (n ≤ mostNodes) }
-    ensures { result ≡ unlistedSet n d }
+    requires { (1 ≤ n) × (n ≤ most_nodes) }
+    ensures { result ≡ unlisted_set n d }
 {
     !d & all_nodes(n)
 }
 
 // How many of n nodes d does not list: the ones of the unlisted set.
 pub fn count_unlisted(n: u8, d: u64) -> u32
-    requires { (1 ≤ n) × (n ≤ mostNodes) }
+    requires { (1 ≤ n) × (n ≤ most_nodes) }
     ensures { result ≡ count n d }
 {
     u64::count_ones(unlisted_set(n, d))
@@ -110,7 +110,7 @@ pub fn jump_count(m: u32) -> u32
 
 // The ring of 64 nodes in number order; its first n are the ring of n nodes.
 pub fn number_order() -> [u8; MOST_NODES]
-    ensures { result ≡ numbers 0 mostNodes }
+    ensures { result ≡ numbers 0 most_nodes }
 {
     let mut order = [0u8; MOST_NODES];
     let mut i: usize = 0;
@@ -171,7 +171,7 @@ pub fn find_ahead(order: &[u8], d: u64, p: usize, k: usize) -> u8
 
 // The first unlisted node going back from the place p, or 255, and how many listed ones were passed.
 pub fn find_back(order: &[u8], d: u64, p: usize) -> NodeBefore
-    requires { length order.now ≤ mostNodes }
+    requires { length order.now ≤ most_nodes }
     ensures { result ≡ back order.now d p }
 {
     let mut passed: u8 = 0;
@@ -199,7 +199,7 @@ pub fn find_next(order: &[u8], d: u64, p: usize) -> u8
 
 // The forward targets of the unlisted node at the place p.
 pub fn target_row(order: &[u8], d: u64, p: usize) -> [u8; ROW_SIZE]
-    requires { (1 ≤ length order.now) × (length order.now ≤ mostNodes) }
+    requires { (1 ≤ length order.now) × (length order.now ≤ most_nodes) }
     ensures { result ≡ row (targets order.now d p) }
 {
     let n = order.len() as u8;
@@ -215,7 +215,7 @@ pub fn target_row(order: &[u8], d: u64, p: usize) -> [u8; ROW_SIZE]
 
 // 0, or 3 where n nodes and the dead list d have no forwarding table.
 fn table_answer(n: u64, d: u64) -> u8
-    ensures { result ≡ tableAnswer n d }
+    ensures { result ≡ table_answer n d }
 {
     if n < 1 {
         return OUT_OF_RANGE;
@@ -231,8 +231,8 @@ fn table_answer(n: u64, d: u64) -> u8
 
 // The row of number i in the forwarding table of a ring.
 fn table_row(order: &[u8], d: u64, i: u8) -> [u8; ROW_SIZE]
-    requires { length order.now ≤ mostNodes }
-    ensures { result ≡ tableRow order.now d i }
+    requires { length order.now ≤ most_nodes }
+    ensures { result ≡ table_row order.now d i }
 {
     if order.len() <= i as usize {
         return [NONE; ROW_SIZE];
@@ -245,7 +245,7 @@ fn table_row(order: &[u8], d: u64, i: u8) -> [u8; ROW_SIZE]
 
 // The rows of the forwarding table.
 fn table_rows(n: u64, d: u64) -> [[u8; ROW_SIZE]; MOST_NODES]
-    ensures { result ≡ tableRows n d }
+    ensures { result ≡ table_rows n d }
 {
     let mut rows = [[NONE; ROW_SIZE]; MOST_NODES];
     if table_answer(n, d) != 0 {
@@ -277,7 +277,7 @@ pub fn rows_of(t: Table) -> [[u8; ROW_SIZE]; MOST_NODES]
 
 // The forwarding table of n nodes and the dead list d.
 pub fn forwarding_table(n: u64, d: u64) -> Table
-    ensures { (result.answer ≡ tableAnswer n d) × (result.rows ≡ tableRows n d) }
+    ensures { (result.answer ≡ table_answer n d) × (result.rows ≡ table_rows n d) }
 {
     let answer = table_answer(n, d);
     let rows = table_rows(n, d);

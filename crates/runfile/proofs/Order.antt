@@ -10,10 +10,10 @@ use borrow.Author.Tests.{le-leb, lt-ltb}
 use Rattle.ring.specs.Ring.{listed, listing}
 use Rattle.ring.proofs.Lists.{listed-listing}
 use Rattle.ring.proofs.Laws.{listed-beyond}
-use Rattle.plans.specs.Plan.{Crash, Delay, risingFrom, rising, later, hits, noneTwice, crashOrder, above, delayOrder}
+use Rattle.plans.specs.Plan.{Crash, Delay, rising_from, rising, later, hits, none_twice, crash_order, above, delay_order}
 use mathlib.Mathlib.Data.Bool.Basic.{and_elim_left, and_elim_right}
 use Rattle.plans.proofs.Rows.{twice-snoc}
-use Rattle.runfile.specs.Reader.{last, crashFloor, delayFloor, follows}
+use Rattle.runfile.specs.Reader.{last, crash_floor, delay_floor, follows}
 
 -- ---- rows that rise
 
@@ -23,12 +23,12 @@ last_snoc x [] r = refl
 last_snoc x (y ∷ ys) r = last_snoc y ys r
 
 rising-from-snoc : {A : Type 0} (after : A → A → Bool) (x : A) (xs : List A) (r : A)
-    → risingFrom after x (xs ++ (r ∷ [])) ≡ risingFrom after x xs && after (last x xs) r
-unfolding risingFrom last
+    → rising_from after x (xs ++ (r ∷ [])) ≡ rising_from after x xs && after (last x xs) r
+unfolding rising_from last
 rising-from-snoc after x [] r = and-true (after x r)
 rising-from-snoc after x (y ∷ ys) r =
     ap (λ (t : Bool). after x y && t) (rising-from-snoc after y ys r)
-    ∙ sym (and_assoc (after x y) (risingFrom after y ys) (after (last y ys) r))
+    ∙ sym (and_assoc (after x y) (rising_from after y ys) (after (last y ys) r))
 
 -- ---- crash rows
 
@@ -38,11 +38,11 @@ from_nothing zero k = le-leb 0 k zero-le
 from_nothing (suc t) k = rw (lt-ltb 0 (suc t) (omega arith))
 
 crash-rising : (rs : List Crash) (t k : ℕ) → rising later rs ≡ true
-    → rising later (rs ++ (record { tick = t; node = k } ∷ [])) ≡ follows (crashFloor rs).tick (crashFloor rs).node t k
-unfolding rising risingFrom crashFloor follows later
+    → rising later (rs ++ (record { tick = t; node = k } ∷ [])) ≡ follows (crash_floor rs).tick (crash_floor rs).node t k
+unfolding rising rising_from crash_floor follows later
 crash-rising [] t k h = empty t k
   where
-    empty : (t k : ℕ) → risingFrom later (record { tick = t; node = k }) [] ≡ follows 0 0 t k
+    empty : (t k : ℕ) → rising_from later (record { tick = t; node = k }) [] ≡ follows 0 0 t k
     empty t k = sym (from_nothing t k)
 crash-rising (x ∷ xs) t k h = rising-from-snoc later x xs (record { tick = t; node = k }) ∙ rw h (same (last x xs))
   where
@@ -50,29 +50,29 @@ crash-rising (x ∷ xs) t k h = rising-from-snoc later x xs (record { tick = t; 
     same a = refl
 
 -- one C line more is in order where its row is not below the floor and its node was not seen
-pub crash-order-snoc : (rs : List Crash) (t k : ℕ) → crashOrder rs ≡ true
-    → crashOrder (rs ++ (record { tick = t; node = k } ∷ [])) ≡ follows (crashFloor rs).tick (crashFloor rs).node t k && not (hits rs k)
-unfolding crashOrder
+pub crash-order-snoc : (rs : List Crash) (t k : ℕ) → crash_order rs ≡ true
+    → crash_order (rs ++ (record { tick = t; node = k } ∷ [])) ≡ follows (crash_floor rs).tick (crash_floor rs).node t k && not (hits rs k)
+unfolding crash_order
 crash-order-snoc rs t k h =
-    let rises = and_elim_left (rising later rs) (noneTwice rs) h in
-    let once = and_elim_right (rising later rs) (noneTwice rs) h in
+    let rises = and_elim_left (rising later rs) (none_twice rs) h in
+    let once = and_elim_right (rising later rs) (none_twice rs) h in
     rw (crash-rising rs t k rises, twice-snoc rs (record { tick = t; node = k }), once)
 
-pub crash-floor-snoc : (rs : List Crash) (t k : ℕ) → crashFloor (rs ++ (record { tick = t; node = k } ∷ [])) ≡ record { tick = t; node = suc k }
-unfolding crashFloor last
+pub crash-floor-snoc : (rs : List Crash) (t k : ℕ) → crash_floor (rs ++ (record { tick = t; node = k } ∷ [])) ≡ record { tick = t; node = suc k }
+unfolding crash_floor last
 crash-floor-snoc [] t k = refl
 crash-floor-snoc (x ∷ xs) t k = rw (last_snoc x xs (record { tick = t; node = k }))
 
 -- ---- delay rows
 
 -- one L line more is in order where its number is not below the floor
-pub delay-order-snoc : (rs : List Delay) (r : Delay) → delayOrder rs ≡ true → delayOrder (rs ++ (r ∷ [])) ≡ leb (delayFloor rs) r.number
-unfolding delayOrder rising risingFrom delayFloor above
+pub delay-order-snoc : (rs : List Delay) (r : Delay) → delay_order rs ≡ true → delay_order (rs ++ (r ∷ [])) ≡ leb (delay_floor rs) r.number
+unfolding delay_order rising rising_from delay_floor above
 delay-order-snoc [] r h = sym (le-leb 0 r.number zero-le)
 delay-order-snoc (x ∷ xs) r h = rising-from-snoc above x xs r ∙ rw h
 
-pub delay-floor-snoc : (rs : List Delay) (r : Delay) → delayFloor (rs ++ (r ∷ [])) ≡ suc r.number
-unfolding delayFloor last
+pub delay-floor-snoc : (rs : List Delay) (r : Delay) → delay_floor (rs ++ (r ∷ [])) ≡ suc r.number
+unfolding delay_floor last
 delay-floor-snoc [] r = refl
 delay-floor-snoc (x ∷ xs) r = rw (last_snoc x xs r)
 

@@ -10,12 +10,12 @@ use lib.ListN.{length, take, drop, get_or, length-append, length-drop, drop_of_l
 use lib.Seq.{take-suc, split_at, drop-append-add, drop_at, take-length}
 use Rattle.text.proofs.PutLaws.{drop-next}
 use Rattle.text.specs.declared.Number.TheVariants.{Value, NoNumber}
-use Rattle.text.specs.Number.{digit, ceiling, digitsFrom, numberFrom}
-use Rattle.text.specs.Field.{field, fieldFrom, numberFieldAt}
-use Rattle.plans.specs.Plan.{Crash, Delay, Plan, crashRange, delayRange, planTest}
-use Rattle.runfile.specs.Text.{fieldsText, lineText, startText, crashText, delayText, rowsText, headText, planText}
-use Rattle.runfile.specs.File.{accepted, fileOf}
-use Rattle.runfile.specs.Reader.{entry_of, entry_at, rowThen, fields_at, ringPlace, crashPlace, delayPlace}
+use Rattle.text.specs.Number.{digit, ceiling, digits_from, number_from}
+use Rattle.text.specs.Field.{field, field_from, number_field_at}
+use Rattle.plans.specs.Plan.{Crash, Delay, Plan, crash_range, delay_range, plan_test}
+use Rattle.runfile.specs.Text.{fields_text, line_text, start_text, crash_text, delay_text, rows_text, head_text, plan_text}
+use Rattle.runfile.specs.File.{accepted, file_of}
+use Rattle.runfile.specs.Reader.{entry_of, entry_at, row_then, fields_at, ring_place, crash_place, delay_place}
 use Rattle.plans.proofs.Tests.{tests-of, crash-small, delay-small, ranges, ranges-good, ring-nodes}
 use Rattle.runfile.proofs.Written.{field_next, field-last}
 use Rattle.plans.proofs.Rows.{every-at}
@@ -25,45 +25,45 @@ use Rattle.runfile.proofs.Size.{pair_size}
 
 -- ---- a field that was read lies within the text
 
-digits-within : (a i : ℕ) (s : List ℕ) (v j : ℕ) → digitsFrom a i s ≡ Value v j → j ≤ i + length s
+digits-within : (a i : ℕ) (s : List ℕ) (v j : ℕ) → digits_from a i s ≡ Value v j → j ≤ i + length s
 digits-within a i [] v j e = let q : i ≡ j = cc in omega arith
 digits-within a i (b ∷ s) v j e = by (digit b) e (digits-within (a * 10 + (b - 48)) (i + 1) s v j)
   where
-    by : (t : Bool) → cond t (digitsFrom (a * 10 + (b - 48)) (i + 1) s) (Value (min a ceiling) i) ≡ Value v j
-        → (digitsFrom (a * 10 + (b - 48)) (i + 1) s ≡ Value v j → j ≤ i + 1 + length s) → j ≤ i + suc (length s)
+    by : (t : Bool) → cond t (digits_from (a * 10 + (b - 48)) (i + 1) s) (Value (min a ceiling) i) ≡ Value v j
+        → (digits_from (a * 10 + (b - 48)) (i + 1) s ≡ Value v j → j ≤ i + 1 + length s) → j ≤ i + suc (length s)
     by true e ih = omega (arith, ih e)
     by false e ih = let q : i ≡ j = cc in omega arith
 
-number-within : (i : ℕ) (s : List ℕ) (v j : ℕ) → numberFrom i s ≡ Value v j → j ≤ i + length s
+number-within : (i : ℕ) (s : List ℕ) (v j : ℕ) → number_from i s ≡ Value v j → j ≤ i + length s
 number-within i [] v j e = let z : ◌≡◌ {A = ℕ} 0 1 = cc in absurd (omega arith)
 number-within i (b ∷ s) v j e = by (eqb b 48) (digit b) e
   where
-    by : (x y : Bool) → cond x (Value 0 (i + 1)) (cond y (cond y (digitsFrom (0 * 10 + (b - 48)) (i + 1) s) (Value (min 0 ceiling) i)) NoNumber) ≡ Value v j
+    by : (x y : Bool) → cond x (Value 0 (i + 1)) (cond y (cond y (digits_from (0 * 10 + (b - 48)) (i + 1) s) (Value (min 0 ceiling) i)) NoNumber) ≡ Value v j
         → j ≤ i + suc (length s)
     by true y e = let q : i + 1 ≡ j = cc in omega arith
     by false true e = omega (arith, digits-within (0 * 10 + (b - 48)) (i + 1) s v j e)
     by false false e = let z : ◌≡◌ {A = ℕ} 0 1 = cc in absurd (omega arith)
 
-field-from-within : (i : ℕ) (s : List ℕ) (v j : ℕ) → fieldFrom i s ≡ Value v j → (1 ≤ length s) × (j ≤ i + length s)
+field-from-within : (i : ℕ) (s : List ℕ) (v j : ℕ) → field_from i s ≡ Value v j → (1 ≤ length s) × (j ≤ i + length s)
 field-from-within i [] v j e = let z : ◌≡◌ {A = ℕ} 0 1 = cc in absurd (omega arith)
 field-from-within i (b ∷ s) v j e = by (eqb b 44) e
   where
-    by : (t : Bool) → cond t (numberFrom (i + 1) s) NoNumber ≡ Value v j → (1 ≤ suc (length s)) × (j ≤ i + suc (length s))
+    by : (t : Bool) → cond t (number_from (i + 1) s) NoNumber ≡ Value v j → (1 ≤ suc (length s)) × (j ≤ i + suc (length s))
     by true e = (omega arith, omega (arith, number-within (i + 1) s v j e))
     by false e = let z : ◌≡◌ {A = ℕ} 0 1 = cc in absurd (omega arith)
 
-pub field-within : (s : List ℕ) (at v j : ℕ) → numberFieldAt s at ≡ Value v j → j ≤ length s
-unfolding numberFieldAt
+pub field-within : (s : List ℕ) (at v j : ℕ) → number_field_at s at ≡ Value v j → j ≤ length s
+unfolding number_field_at
 field-within s at v j e = let w = field-from-within at (drop at s) v j e in omega (arith, w.0, w.1, length-drop at s)
 
 -- ---- a number at its place
 
 module _ (s : List ℕ) (at : ℕ) where
-  pub no_number : numberFieldAt s at ≡ NoNumber → entry_at s at ≡ record { value = 0; next = at }
+  pub no_number : number_field_at s at ≡ NoNumber → entry_at s at ≡ record { value = 0; next = at }
   unfolding entry_at entry_of
   no_number e = rw e
 
-  pub number-there : (x i : ℕ) → numberFieldAt s at ≡ Value x i → entry_at s at ≡ record { value = x; next = i }
+  pub number-there : (x i : ℕ) → number_field_at s at ≡ Value x i → entry_at s at ≡ record { value = x; next = i }
   unfolding entry_at entry_of
   number-there x i e = rw e
 
@@ -71,181 +71,181 @@ module _ (s : List ℕ) (at : ℕ) where
 
 module _ (s : List ℕ) (at : ℕ) where
   pub no_row : length s ≤ at → fields_at s at ≡ record { first = 0; second = 0; next = at }
-  unfolding fields_at rowThen numberFieldAt
+  unfolding fields_at row_then number_field_at
   no_row h = let past : length s ≤ at + 1 = omega arith in rw (drop_of_length-le s past)
 
-  pub no-first : numberFieldAt s (at + 1) ≡ NoNumber → fields_at s at ≡ record { first = 0; second = 0; next = at }
-  unfolding fields_at rowThen
+  pub no-first : number_field_at s (at + 1) ≡ NoNumber → fields_at s at ≡ record { first = 0; second = 0; next = at }
+  unfolding fields_at row_then
   no-first e = rw e
 
-  module _ (a i : ℕ) (f : numberFieldAt s (at + 1) ≡ Value a i) where
-    pub no_second : numberFieldAt s i ≡ NoNumber → fields_at s at ≡ record { first = 0; second = 0; next = at }
-    unfolding fields_at rowThen
+  module _ (a i : ℕ) (f : number_field_at s (at + 1) ≡ Value a i) where
+    pub no_second : number_field_at s i ≡ NoNumber → fields_at s at ≡ record { first = 0; second = 0; next = at }
+    unfolding fields_at row_then
     no_second e = rw (f, e)
 
-    pub row-there : (b j : ℕ) → numberFieldAt s i ≡ Value b j → fields_at s at ≡ record { first = a; second = b; next = j + 1 }
-    unfolding fields_at rowThen
+    pub row-there : (b j : ℕ) → number_field_at s i ≡ Value b j → fields_at s at ≡ record { first = a; second = b; next = j + 1 }
+    unfolding fields_at row_then
     row-there b j e = rw (f, e)
 
-fields-cut : (i : ℕ) (xs : List ℕ) → fieldsText xs ≡ rowsText field (take i xs) ++ fieldsText (drop i xs)
-unfolding fieldsText rowsText
+fields-cut : (i : ℕ) (xs : List ℕ) → fields_text xs ≡ rows_text field (take i xs) ++ fields_text (drop i xs)
+unfolding fields_text rows_text
 fields-cut zero xs = refl
 fields-cut (suc i) [] = refl
 fields-cut (suc i) (x ∷ xs) =
-    ap (λ (t : List ℕ). field x ++ t) (fields-cut i xs) ∙ sym (append_assoc (field x) (rowsText field (take i xs)) (fieldsText (drop i xs)))
+    ap (λ (t : List ℕ). field x ++ t) (fields-cut i xs) ∙ sym (append_assoc (field x) (rows_text field (take i xs)) (fields_text (drop i xs)))
 
 -- a written number, with what stands after it, is read
-field-read : (l : List ℕ) (at x : ℕ) (xs rest : List ℕ) → drop at l ≡ fieldsText (x ∷ xs) ++ rest → x < ceiling
-    → numberFieldAt l at ≡ Value x (at + length (field x))
+field-read : (l : List ℕ) (at x : ℕ) (xs rest : List ℕ) → drop at l ≡ fields_text (x ∷ xs) ++ rest → x < ceiling
+    → number_field_at l at ≡ Value x (at + length (field x))
 field-read l at x [] rest e h = (field-last l at x rest e h).0
 field-read l at x (y ∷ ys) rest e h = (field_next l at x y ys rest e h).0
 
 rows_cut : {A : Type 0} (text : A → List ℕ) (xs : List A) (r : A) (ys : List A)
-    → rowsText text (xs ++ (r ∷ ys)) ≡ rowsText text xs ++ (text r ++ rowsText text ys)
-unfolding rowsText
+    → rows_text text (xs ++ (r ∷ ys)) ≡ rows_text text xs ++ (text r ++ rows_text text ys)
+unfolding rows_text
 rows_cut text xs r ys = rows_append text xs (r ∷ ys)
 
 -- a written row, with what stands before and after it, is read at its place
 row_read : (before : List ℕ) (letter a b : ℕ) (rest : List ℕ) → a < ceiling → b < ceiling
-    → fields_at (before ++ (lineText letter (a ∷ b ∷ []) ++ rest)) (length before)
-    ≡ record { first = a; second = b; next = length (before ++ lineText letter (a ∷ b ∷ [])) }
-unfolding lineText
+    → fields_at (before ++ (line_text letter (a ∷ b ∷ []) ++ rest)) (length before)
+    ≡ record { first = a; second = b; next = length (before ++ line_text letter (a ∷ b ∷ [])) }
+unfolding line_text
 row_read before letter a b rest ha hb =
-    let s : List ℕ = before ++ (lineText letter (a ∷ b ∷ []) ++ rest) in
-    let there : drop (length before + 1) s ≡ fieldsText (a ∷ b ∷ []) ++ rest = drop-append-add before (lineText letter (a ∷ b ∷ []) ++ rest) 1 in
+    let s : List ℕ = before ++ (line_text letter (a ∷ b ∷ []) ++ rest) in
+    let there : drop (length before + 1) s ≡ fields_text (a ∷ b ∷ []) ++ rest = drop-append-add before (line_text letter (a ∷ b ∷ []) ++ rest) 1 in
     let x = field_next s (length before + 1) a b [] rest there ha in
     let y = field-last s (length before + 1 + length (field a)) b rest x.1 hb in
     row-there s (length before) a _ x.0 b _ y.0
     ∙ ap (λ (k : ℕ). record { first = a; second = b; next = k })
-    (omega (arith, length-append before (lineText letter (a ∷ b ∷ [])), pair_size letter a b))
+    (omega (arith, length-append before (line_text letter (a ∷ b ∷ [])), pair_size letter a b))
 
 -- ---- places
 
 module _ (p : Plan) where
   -- the first number of the Q line stands after its letter
-  pub ring-place-first : ringPlace p 0 ≡ length (startText p) + 1
-  unfolding ringPlace rowsText
-  ring-place-first = length-append (startText p) (81 ∷ [])
+  pub ring-place-first : ring_place p 0 ≡ length (start_text p) + 1
+  unfolding ring_place rows_text
+  ring-place-first = length-append (start_text p) (81 ∷ [])
 
   -- the first crash row stands after the Q line's line feed, and after the P line where there is no Q line
-  pub ring-place-last : length p.ring ≢ 0 → ringPlace p (length p.ring) + 1 ≡ crashPlace p 0
-  unfolding ringPlace crashPlace headText rowsText
+  pub ring-place-last : length p.ring ≢ 0 → ring_place p (length p.ring) + 1 ≡ crash_place p 0
+  unfolding ring_place crash_place head_text rows_text
   ring-place-last h =
       rw (take-length p.ring, ring-parts p.ring h)
       (simp length-append (omega arith))
 
-  pub crash-place-first : length p.ring ≡ 0 → crashPlace p 0 ≡ length (startText p)
-  unfolding crashPlace headText rowsText
+  pub crash-place-first : length p.ring ≡ 0 → crash_place p 0 ≡ length (start_text p)
+  unfolding crash_place head_text rows_text
   crash-place-first h = rw (ring-none p.ring h) (simp append-nil)
 
   -- the first delay row stands where the crash rows end
-  pub crash-place-last : crashPlace p (length p.crashes) ≡ delayPlace p 0
-  unfolding crashPlace delayPlace rowsText
-  crash-place-last = rw (take-length p.crashes, append-nil (rowsText crashText p.crashes))
+  pub crash-place-last : crash_place p (length p.crashes) ≡ delay_place p 0
+  unfolding crash_place delay_place rows_text
+  crash-place-last = rw (take-length p.crashes, append-nil (rows_text crash_text p.crashes))
 
   module _ (i : ℕ) (h : i < length p.ring) where
-    pub ring-place-next : ringPlace p (suc i) ≡ ringPlace p i + length (field (get_or p.ring i 0))
-    unfolding ringPlace
+    pub ring-place-next : ring_place p (suc i) ≡ ring_place p i + length (field (get_or p.ring i 0))
+    unfolding ring_place
     ring-place-next =
         rw (take-suc p.ring i 0 h, rows_snoc field (take i p.ring) (get_or p.ring i 0))
         (simp length-append (omega arith))
 
     -- what stands from the number on
-    ring-parts-at : drop (ringPlace p i) (planText p)
-        ≡ fieldsText (get_or p.ring i 0 ∷ drop (i + 1) p.ring) ++ (rowsText crashText p.crashes ++ rowsText delayText p.delays)
-    unfolding ringPlace planText headText lineText
+    ring-parts-at : drop (ring_place p i) (plan_text p)
+        ≡ fields_text (get_or p.ring i 0 ∷ drop (i + 1) p.ring) ++ (rows_text crash_text p.crashes ++ rows_text delay_text p.delays)
+    unfolding ring_place plan_text head_text line_text
     ring-parts-at =
-        let rest : List ℕ = rowsText crashText p.crashes ++ rowsText delayText p.delays in
-        let front : List ℕ = rowsText field (take i p.ring) in
+        let rest : List ℕ = rows_text crash_text p.crashes ++ rows_text delay_text p.delays in
+        let front : List ℕ = rows_text field (take i p.ring) in
         let size : length p.ring ≢ 0 = λ z. absurd (omega arith) in
-        let text : planText p ≡ (startText p ++ (81 ∷ front)) ++ (fieldsText (drop i p.ring) ++ rest) =
+        let text : plan_text p ≡ (start_text p ++ (81 ∷ front)) ++ (fields_text (drop i p.ring) ++ rest) =
         rw (ring-line p.ring size, fields-cut i p.ring) (simp append_assoc) in
-        ap (drop (length (startText p ++ (81 ∷ front)))) text
-        ∙ drop_at (startText p ++ (81 ∷ front)) (fieldsText (drop i p.ring) ++ rest) _ refl
+        ap (drop (length (start_text p ++ (81 ∷ front)))) text
+        ∙ drop_at (start_text p ++ (81 ∷ front)) (fields_text (drop i p.ring) ++ rest) _ refl
         ∙ rw (drop-next p.ring i h)
 
   module _ (z : Crash) (i : ℕ) (h : i < length p.crashes) where
-    pub crash-place-next : crashPlace p (suc i) ≡ crashPlace p i + length (crashText (get_or p.crashes i z))
-    unfolding crashPlace
+    pub crash-place-next : crash_place p (suc i) ≡ crash_place p i + length (crash_text (get_or p.crashes i z))
+    unfolding crash_place
     crash-place-next =
-        rw (take-suc p.crashes i z h, rows_snoc crashText (take i p.crashes) (get_or p.crashes i z))
+        rw (take-suc p.crashes i z h, rows_snoc crash_text (take i p.crashes) (get_or p.crashes i z))
         (simp length-append (omega arith))
 
     -- the plan's text, parted at the row
-    crash-parts : planText p ≡ (headText p ++ rowsText crashText (take i p.crashes))
-        ++ (crashText (get_or p.crashes i z) ++ (rowsText crashText (drop (suc i) p.crashes) ++ rowsText delayText p.delays))
-    unfolding planText
+    crash-parts : plan_text p ≡ (head_text p ++ rows_text crash_text (take i p.crashes))
+        ++ (crash_text (get_or p.crashes i z) ++ (rows_text crash_text (drop (suc i) p.crashes) ++ rows_text delay_text p.delays))
+    unfolding plan_text
     crash-parts =
-        let rows : rowsText crashText p.crashes
-        ≡ rowsText crashText (take i p.crashes) ++ (crashText (get_or p.crashes i z) ++ rowsText crashText (drop (suc i) p.crashes)) =
-        ap (rowsText crashText) (split_at p.crashes i z h)
-        ∙ rows_cut crashText (take i p.crashes) (get_or p.crashes i z) (drop (suc i) p.crashes) in
-        ap (λ (t : List ℕ). headText p ++ (t ++ rowsText delayText p.delays)) rows ∙ simp append_assoc
+        let rows : rows_text crash_text p.crashes
+        ≡ rows_text crash_text (take i p.crashes) ++ (crash_text (get_or p.crashes i z) ++ rows_text crash_text (drop (suc i) p.crashes)) =
+        ap (rows_text crash_text) (split_at p.crashes i z h)
+        ∙ rows_cut crash_text (take i p.crashes) (get_or p.crashes i z) (drop (suc i) p.crashes) in
+        ap (λ (t : List ℕ). head_text p ++ (t ++ rows_text delay_text p.delays)) rows ∙ simp append_assoc
 
   module _ (z : Delay) (i : ℕ) (h : i < length p.delays) where
-    pub delay-place-next : delayPlace p (suc i) ≡ delayPlace p i + length (delayText (get_or p.delays i z))
-    unfolding delayPlace
+    pub delay-place-next : delay_place p (suc i) ≡ delay_place p i + length (delay_text (get_or p.delays i z))
+    unfolding delay_place
     delay-place-next =
-        rw (take-suc p.delays i z h, rows_snoc delayText (take i p.delays) (get_or p.delays i z))
+        rw (take-suc p.delays i z h, rows_snoc delay_text (take i p.delays) (get_or p.delays i z))
         (simp length-append (omega arith))
 
-    delay-parts : planText p ≡ (headText p ++ (rowsText crashText p.crashes ++ rowsText delayText (take i p.delays)))
-        ++ (delayText (get_or p.delays i z) ++ rowsText delayText (drop (suc i) p.delays))
-    unfolding planText
+    delay-parts : plan_text p ≡ (head_text p ++ (rows_text crash_text p.crashes ++ rows_text delay_text (take i p.delays)))
+        ++ (delay_text (get_or p.delays i z) ++ rows_text delay_text (drop (suc i) p.delays))
+    unfolding plan_text
     delay-parts =
-        let rows : rowsText delayText p.delays
-        ≡ rowsText delayText (take i p.delays) ++ (delayText (get_or p.delays i z) ++ rowsText delayText (drop (suc i) p.delays)) =
-        ap (rowsText delayText) (split_at p.delays i z h) ∙ rows_cut delayText (take i p.delays) (get_or p.delays i z) (drop (suc i) p.delays) in
-        ap (λ (t : List ℕ). headText p ++ (rowsText crashText p.crashes ++ t)) rows ∙ simp append_assoc
+        let rows : rows_text delay_text p.delays
+        ≡ rows_text delay_text (take i p.delays) ++ (delay_text (get_or p.delays i z) ++ rows_text delay_text (drop (suc i) p.delays)) =
+        ap (rows_text delay_text) (split_at p.delays i z h) ∙ rows_cut delay_text (take i p.delays) (get_or p.delays i z) (drop (suc i) p.delays) in
+        ap (λ (t : List ℕ). head_text p ++ (rows_text crash_text p.crashes ++ t)) rows ∙ simp append_assoc
 
 -- ---- the rows of a plan that a file may hold
 
-module _ (p : Plan) (g : planTest p ≡ true) where
-  pub crash-in-range : (z : Crash) (i : ℕ) → i < length p.crashes → crashRange p (get_or p.crashes i z) ≡ true
-  crash-in-range z i h = every-at (crashRange p) p.crashes i z (tests-of p g).crashes h
+module _ (p : Plan) (g : plan_test p ≡ true) where
+  pub crash-in-range : (z : Crash) (i : ℕ) → i < length p.crashes → crash_range p (get_or p.crashes i z) ≡ true
+  crash-in-range z i h = every-at (crash_range p) p.crashes i z (tests-of p g).crashes h
 
-  pub delay-in-range : (z : Delay) (i : ℕ) → i < length p.delays → delayRange p (get_or p.delays i z) ≡ true
-  delay-in-range z i h = every-at (delayRange p) p.delays i z (tests-of p g).delays h
+  pub delay-in-range : (z : Delay) (i : ℕ) → i < length p.delays → delay_range p (get_or p.delays i z) ≡ true
+  delay-in-range z i h = every-at (delay_range p) p.delays i z (tests-of p g).delays h
 
 -- ---- the rows of an accepted file
 
-module _ (s : List ℕ) (p : Plan) (e : fileOf s ≡ accepted p) where
+module _ (s : List ℕ) (p : Plan) (e : file_of s ≡ accepted p) where
   -- at the place of number i of the Q line stands its field, and after it the place of the next number
-  pub ring-at : (i : ℕ) → i < length p.ring → entry_at s (ringPlace p i) ≡ record { value = get_or p.ring i 0; next = ringPlace p (suc i) }
+  pub ring-at : (i : ℕ) → i < length p.ring → entry_at s (ring_place p i) ≡ record { value = get_or p.ring i 0; next = ring_place p (suc i) }
   ring-at i h =
       let g = accepted-plan s p e in
       let x : ℕ = get_or p.ring i 0 in
-      let rest : List ℕ = rowsText crashText p.crashes ++ rowsText delayText p.delays in
-      let there : drop (ringPlace p i) s ≡ fieldsText (x ∷ drop (i + 1) p.ring) ++ rest =
-      ap (drop (ringPlace p i)) (sym (written_back s p e)) ∙ ring-parts-at p i h in
-      let read = field-read s (ringPlace p i) x (drop (i + 1) p.ring) rest there (omega (arith, ring-nodes p g i h, (ranges p g).n-high)) in
-      number-there s (ringPlace p i) x _ read ∙ ap (λ (k : ℕ). record { value = x; next = k }) (sym (ring-place-next p i h))
+      let rest : List ℕ = rows_text crash_text p.crashes ++ rows_text delay_text p.delays in
+      let there : drop (ring_place p i) s ≡ fields_text (x ∷ drop (i + 1) p.ring) ++ rest =
+      ap (drop (ring_place p i)) (sym (written_back s p e)) ∙ ring-parts-at p i h in
+      let read = field-read s (ring_place p i) x (drop (i + 1) p.ring) rest there (omega (arith, ring-nodes p g i h, (ranges p g).n-high)) in
+      number-there s (ring_place p i) x _ read ∙ ap (λ (k : ℕ). record { value = x; next = k }) (sym (ring-place-next p i h))
 
   -- at the place of crash row i stands its line, and after it the place of the next row
   pub crash-at : (z : Crash) (i : ℕ) → i < length p.crashes
-      → fields_at s (crashPlace p i) ≡ record { first = (get_or p.crashes i z).tick; second = (get_or p.crashes i z).node; next = crashPlace p (suc i) }
-  unfolding crashPlace crashText
+      → fields_at s (crash_place p i) ≡ record { first = (get_or p.crashes i z).tick; second = (get_or p.crashes i z).node; next = crash_place p (suc i) }
+  unfolding crash_place crash_text
   crash-at z i h =
       let g = accepted-plan s p e in
       let r : Crash = get_or p.crashes i z in
       let small = crash-small p r (ranges-good p g) (crash-in-range p g z i h) in
-      let before : List ℕ = headText p ++ rowsText crashText (take i p.crashes) in
-      let rest : List ℕ = rowsText crashText (drop (suc i) p.crashes) ++ rowsText delayText p.delays in
-      let text : s ≡ before ++ (crashText r ++ rest) = sym (written_back s p e) ∙ crash-parts p z i h in
+      let before : List ℕ = head_text p ++ rows_text crash_text (take i p.crashes) in
+      let rest : List ℕ = rows_text crash_text (drop (suc i) p.crashes) ++ rows_text delay_text p.delays in
+      let text : s ≡ before ++ (crash_text r ++ rest) = sym (written_back s p e) ∙ crash-parts p z i h in
       ap (λ (t : List ℕ). fields_at t (length before)) text
       ∙ row_read before 67 r.tick r.node rest (omega (arith, small.0)) (omega (arith, small.1))
-      ∙ ap (λ (k : ℕ). record { first = r.tick; second = r.node; next = k }) (length-append before (crashText r) ∙ sym (crash-place-next p z i h))
+      ∙ ap (λ (k : ℕ). record { first = r.tick; second = r.node; next = k }) (length-append before (crash_text r) ∙ sym (crash-place-next p z i h))
 
   pub delay-at : (z : Delay) (i : ℕ) → i < length p.delays
-      → fields_at s (delayPlace p i) ≡ record { first = (get_or p.delays i z).number; second = (get_or p.delays i z).delay; next = delayPlace p (suc i) }
-  unfolding delayPlace delayText
+      → fields_at s (delay_place p i) ≡ record { first = (get_or p.delays i z).number; second = (get_or p.delays i z).delay; next = delay_place p (suc i) }
+  unfolding delay_place delay_text
   delay-at z i h =
       let g = accepted-plan s p e in
       let r : Delay = get_or p.delays i z in
       let small = delay-small p r (ranges-good p g) (delay-in-range p g z i h) in
-      let before : List ℕ = headText p ++ (rowsText crashText p.crashes ++ rowsText delayText (take i p.delays)) in
-      let rest : List ℕ = rowsText delayText (drop (suc i) p.delays) in
-      let text : s ≡ before ++ (delayText r ++ rest) = sym (written_back s p e) ∙ delay-parts p z i h in
+      let before : List ℕ = head_text p ++ (rows_text crash_text p.crashes ++ rows_text delay_text (take i p.delays)) in
+      let rest : List ℕ = rows_text delay_text (drop (suc i) p.delays) in
+      let text : s ≡ before ++ (delay_text r ++ rest) = sym (written_back s p e) ∙ delay-parts p z i h in
       ap (λ (t : List ℕ). fields_at t (length before)) text
       ∙ row_read before 76 r.number r.delay rest (omega (arith, small.0)) (omega (arith, small.1))
-      ∙ ap (λ (k : ℕ). record { first = r.number; second = r.delay; next = k }) (length-append before (delayText r) ∙ sym (delay-place-next p z i h))
+      ∙ ap (λ (k : ℕ). record { first = r.number; second = r.delay; next = k }) (length-append before (delay_text r) ∙ sym (delay-place-next p z i h))

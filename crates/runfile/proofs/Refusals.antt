@@ -12,20 +12,20 @@ use mathlib.Core.Option.{Option, none, some}
 use lib.Dec.{eqb, leb}
 use lib.ListN.{length}
 use borrow.Author.Tests.{leb-true}
-use Rattle.limits.specs.Refusals.{badLength, badForm, outOfRange, shortTimeOut, notRising, manyDelays, notEachOnce}
-use Rattle.plans.specs.Plan.{Plan, within, startRanges, crashRange, delayRange, crashOrder, delayOrder, fewDelays, withCrash, withDelay}
-use Rattle.plans.specs.Plan.{ringRange}
-use Rattle.ring.specs.Ring.{eachOnce}
+use Rattle.limits.specs.Refusals.{bad_length, bad_form, out_of_range, short_time_out, not_rising, many_delays, not_each_once}
+use Rattle.plans.specs.Plan.{Plan, within, start_ranges, crash_range, delay_range, crash_order, delay_order, few_delays, with_crash, with_delay}
+use Rattle.plans.specs.Plan.{ring_range}
+use Rattle.ring.specs.Ring.{each_once}
 use Rattle.text.specs.Field.{onto}
-use Rattle.runfile.specs.File.{FileAnswer, accepted, turnedDown, lines, Row, start, ring, crash, delay, row_of, Step, next, stop, or_else, stepThen}
-use Rattle.runfile.specs.File.{startLine, fresh, ringLine, early, crashLine, delayLine, firstLine, laterLine, laterLines, allLines, fileOf}
+use Rattle.runfile.specs.File.{FileAnswer, accepted, turned_down, lines, Row, start, ring, crash, delay, row_of, Step, next, stop, or_else, step_then}
+use Rattle.runfile.specs.File.{start_line, fresh, ring_line, early, crash_line, delay_line, first_line, later_line, later_lines, all_lines, file_of}
 use mathlib.Mathlib.Data.Bool.Basic.{and_elim_right}
 
 -- ---- the number
 
 -- the numbers by which a line is refused
 abbrev pub OfLine : ℕ → Type 0
-OfLine number = Memᴰ number (badForm ∷ outOfRange ∷ notRising ∷ manyDelays ∷ notEachOnce ∷ [])
+OfLine number = Memᴰ number (bad_form ∷ out_of_range ∷ not_rising ∷ many_delays ∷ not_each_once ∷ [])
 
 -- a line is refused by one of them, or by none
 unfoldable Numbered : Step → Type 0
@@ -37,45 +37,45 @@ unfolding or_else Numbered
 else-numbered true number step h k = k
 else-numbered false number step h k = h
 
-bad-form : OfLine badForm
+bad-form : OfLine bad_form
 bad-form = here refl
 
-out_of_range : OfLine outOfRange
-out_of_range = there (here refl)
+out-of-range : OfLine out_of_range
+out-of-range = there (here refl)
 
-not-rising : OfLine notRising
+not-rising : OfLine not_rising
 not-rising = there (there (here refl))
 
-many-delays : OfLine manyDelays
+many-delays : OfLine many_delays
 many-delays = there (there (there (here refl)))
 
-not-each-once : OfLine notEachOnce
+not-each-once : OfLine not_each_once
 not-each-once = there (there (there (there (here refl))))
 
-first-numbered : (x : Option Row) → Numbered (firstLine x)
-unfolding firstLine startLine Numbered
+first-numbered : (x : Option Row) → Numbered (first_line x)
+unfolding first_line start_line Numbered
 first-numbered none = bad-form
-first-numbered (some (start p)) = else-numbered (startRanges p) _ _ out_of_range tt
+first-numbered (some (start p)) = else-numbered (start_ranges p) _ _ out-of-range tt
 first-numbered (some (ring ks)) = bad-form
 first-numbered (some (crash r)) = bad-form
 first-numbered (some (delay r)) = bad-form
 
-later-numbered : (p : Plan) (x : Option Row) → Numbered (laterLine p x)
-unfolding laterLine ringLine crashLine delayLine Numbered
+later-numbered : (p : Plan) (x : Option Row) → Numbered (later_line p x)
+unfolding later_line ring_line crash_line delay_line Numbered
 later-numbered p none = bad-form
 later-numbered p (some (start q)) = bad-form
 later-numbered p (some (ring ks)) =
     else-numbered (fresh p) _ _ bad-form
-    (else-numbered (ringRange p ks) _ _ out_of_range
-    (else-numbered (eachOnce ks) _ _ not-each-once tt))
+    (else-numbered (ring_range p ks) _ _ out-of-range
+    (else-numbered (each_once ks) _ _ not-each-once tt))
 later-numbered p (some (crash r)) =
     else-numbered (early p) _ _ bad-form
-    (else-numbered (crashRange p r) _ _ out_of_range
-    (else-numbered (crashOrder (withCrash p r).crashes) _ _ not-rising tt))
+    (else-numbered (crash_range p r) _ _ out-of-range
+    (else-numbered (crash_order (with_crash p r).crashes) _ _ not-rising tt))
 later-numbered p (some (delay r)) =
-    else-numbered (delayRange p r) _ _ out_of_range
-    (else-numbered (delayOrder (withDelay p r).delays) _ _ not-rising
-    (else-numbered (fewDelays (withDelay p r).delays) _ _ many-delays tt))
+    else-numbered (delay_range p r) _ _ out-of-range
+    (else-numbered (delay_order (with_delay p r).delays) _ _ not-rising
+    (else-numbered (few_delays (with_delay p r).delays) _ _ many-delays tt))
 
 -- ---- the line
 
@@ -97,44 +97,44 @@ lines-few (b ∷ s) = by (eqb b 10) (lines-few s)
 -- an answer that refuses, where it does, by one of these numbers and a line from 1 to 65,536
 unfoldable ByLine : FileAnswer → Type 0
 ByLine (accepted p) = Unit
-ByLine (turnedDown number line) = OfLine number × (1 ≤ line) × (line ≤ 65536)
+ByLine (turned_down number line) = OfLine number × (1 ≤ line) × (line ≤ 65536)
 
 then-by-line : (step : Step) (line : ℕ) (f : Plan → FileAnswer) → Numbered step → 1 ≤ line → line ≤ 65536 → ((p : Plan) → ByLine (f p))
-    → ByLine (stepThen step line f)
-unfolding stepThen Numbered ByLine
+    → ByLine (step_then step line f)
+unfolding step_then Numbered ByLine
 then-by-line (next p) line f h low high rest = rest p
 then-by-line (stop number) line f h low high rest = (h, low, high)
 
-later-by-line : (p : Plan) (line : ℕ) (ls : List (List ℕ)) → 1 ≤ line → line + length ls ≤ 65537 → ByLine (laterLines p line ls)
-unfolding laterLines ByLine
+later-by-line : (p : Plan) (line : ℕ) (ls : List (List ℕ)) → 1 ≤ line → line + length ls ≤ 65537 → ByLine (later_lines p line ls)
+unfolding later_lines ByLine
 later-by-line p line [] low h = tt
 later-by-line p line (l ∷ ls) low h =
-    then-by-line (laterLine p (row_of p.n l)) line _ (later-numbered p (row_of p.n l)) low (omega arith)
+    then-by-line (later_line p (row_of p.n l)) line _ (later-numbered p (row_of p.n l)) low (omega arith)
     (λ q. later-by-line q (suc line) ls (omega arith) (omega arith))
 
-all-by-line : (ls : List (List ℕ)) → length ls ≤ 65536 → ByLine (allLines ls)
-unfolding allLines ByLine
+all-by-line : (ls : List (List ℕ)) → length ls ≤ 65536 → ByLine (all_lines ls)
+unfolding all_lines ByLine
 all-by-line [] h = (bad-form, omega arith, omega arith)
 all-by-line (l ∷ ls) h =
-    then-by-line (firstLine (row_of 0 l)) 1 _ (first-numbered (row_of 0 l)) (omega arith) (omega arith) (λ p. later-by-line p 2 ls (omega arith) (omega arith))
+    then-by-line (first_line (row_of 0 l)) 1 _ (first-numbered (row_of 0 l)) (omega arith) (omega arith) (λ p. later-by-line p 2 ls (omega arith) (omega arith))
 
 -- ---- a refused file
 
-module _ (s : List ℕ) (number line : ℕ) (e : fileOf s ≡ turnedDown number line) where
+module _ (s : List ℕ) (number line : ℕ) (e : file_of s ≡ turned_down number line) where
   -- of a length that is allowed
   pub refused-by-line : (leb 1 (length s) && leb (length s) 65536) ≡ true → OfLine number × (1 ≤ line) × (line ≤ 65536)
-  unfolding fileOf within ByLine
+  unfolding file_of within ByLine
   refused-by-line good =
       let few : length s ≤ 65536 = leb-true (length s) 65536 (and_elim_right (leb 1 (length s)) (leb (length s) 65536) good) in
-      let all : fileOf s ≡ allLines (lines s) = rw good refl in
+      let all : file_of s ≡ all_lines (lines s) = rw good refl in
       subst ByLine (sym all ∙ e) (all-by-line (lines s) (omega (arith, lines-few s, few)))
 
   -- of any length: the numbers go from 1 to 13, and none is 4
-  pub refusal-small : (1 ≤ number) × (number ≤ 13) × (line ≤ 65536) × (number ≢ shortTimeOut)
-  unfolding fileOf within
+  pub refusal-small : (1 ≤ number) × (number ≤ 13) × (line ≤ 65536) × (number ≢ short_time_out)
+  unfolding file_of within
   refusal-small = by (leb 1 (length s) && leb (length s) 65536) refl
     where
-      of-line : (n : ℕ) → OfLine n → (1 ≤ n) × (n ≤ 13) × (n ≢ shortTimeOut)
+      of-line : (n : ℕ) → OfLine n → (1 ≤ n) × (n ≤ 13) × (n ≢ short_time_out)
       of-line n (here q) = (omega arith, omega arith, λ k. omega arith)
       of-line n (there (here q)) = (omega arith, omega arith, λ k. omega arith)
       of-line n (there (there (here q))) = (omega arith, omega arith, λ k. omega arith)
@@ -142,13 +142,13 @@ module _ (s : List ℕ) (number line : ℕ) (e : fileOf s ≡ turnedDown number 
       of-line n (there (there (there (there (here q))))) = (omega arith, omega arith, λ k. omega arith)
 
       by : (t : Bool) → (leb 1 (length s) && leb (length s) 65536) ≡ t
-          → (1 ≤ number) × (number ≤ 13) × (line ≤ 65536) × (number ≢ shortTimeOut)
+          → (1 ≤ number) × (number ≤ 13) × (line ≤ 65536) × (number ≢ short_time_out)
       by true good =
           let r = refused-by-line good in
           let o = of-line number r.0 in
           (o.0, o.1, r.2, o.2)
       by false bad =
-          let same : turnedDown badLength 0 ≡ turnedDown number line = sym (rw bad refl) ∙ e in
-          let a : badLength ≡ number = cc in
+          let same : turned_down bad_length 0 ≡ turned_down number line = sym (rw bad refl) ∙ e in
+          let a : bad_length ≡ number = cc in
           let b : ◌≡◌ {A = ℕ} 0 line = cc in
           (omega arith, omega arith, omega arith, λ k. omega arith)

@@ -11,8 +11,8 @@ use lib.ListN.{length, length-append}
 use borrow.Author.Tests.{leb-true, ltb-true}
 use Rattle.text.specs.Field.{field}
 use Rattle.text.proofs.NumberLaws.{decimal-length}
-use Rattle.plans.specs.Plan.{Crash, Delay, Plan, startRanges, ringRange, crashRange, delayRange, fewDelays, every, planTest}
-use Rattle.runfile.specs.Text.{fieldsText, lineText, startText, ringText, crashText, delayText, rowsText, headText, planText}
+use Rattle.plans.specs.Plan.{Crash, Delay, Plan, start_ranges, ring_range, crash_range, delay_range, few_delays, every, plan_test}
+use Rattle.runfile.specs.Text.{fields_text, line_text, start_text, ring_text, crash_text, delay_text, rows_text, head_text, plan_text}
 use mathlib.Mathlib.Data.Bool.Basic.{and_elim_left, and_elim_right}
 use Rattle.runfile.proofs.Writing.{ring-parts, ring-none}
 use Rattle.plans.proofs.Few.{crashes-few}
@@ -25,24 +25,24 @@ use Rattle.plans.proofs.Tests.{ranges-of, ranges, tests-of, crash-small, delay-s
 field-size : (k x : ℕ) → x < 10 ^ suc k → length (field x) ≤ suc (suc k)
 field-size k x h = omega (arith, decimal-length k x h)
 
-pub pair_size : (letter a b : ℕ) → length (lineText letter (a ∷ b ∷ [])) ≡ length (field a) + length (field b) + 2
-unfolding lineText fieldsText
+pub pair_size : (letter a b : ℕ) → length (line_text letter (a ∷ b ∷ [])) ≡ length (field a) + length (field b) + 2
+unfolding line_text fields_text
 pair_size letter a b = simp length-append (omega arith)
 
-crash-size : (p : Plan) (r : Crash) → startRanges p ≡ true → crashRange p r ≡ true → length (crashText r) ≤ 13
-unfolding crashText
+crash-size : (p : Plan) (r : Crash) → start_ranges p ≡ true → crash_range p r ≡ true → length (crash_text r) ≤ 13
+unfolding crash_text
 crash-size p r g e =
     let s = crash-small p r g e in
     omega (arith, pair_size 67 r.tick r.node, field-size 6 r.tick (omega arith), field-size 1 r.node (omega arith))
 
-delay-size : (p : Plan) (r : Delay) → startRanges p ≡ true → delayRange p r ≡ true → length (delayText r) ≤ 13
-unfolding delayText
+delay-size : (p : Plan) (r : Delay) → start_ranges p ≡ true → delay_range p r ≡ true → length (delay_text r) ≤ 13
+unfolding delay_text
 delay-size p r g e =
     let s = delay-small p r g e in
     omega (arith, pair_size 76 r.number r.delay, field-size 5 r.number (omega arith), field-size 2 r.delay (omega arith))
 
-start-size : (p : Plan) → startRanges p ≡ true → (1 ≤ length (startText p)) × (length (startText p) ≤ 28)
-unfolding startText lineText fieldsText
+start-size : (p : Plan) → start_ranges p ≡ true → (1 ≤ length (start_text p)) × (length (start_text p) ≤ 28)
+unfolding start_text line_text fields_text
 start-size p g =
     let b = ranges-of p g in
     let n = field-size 1 p.n (omega (arith, b.n-high)) in
@@ -54,8 +54,8 @@ start-size p g =
 
 -- rows whose texts have at most k bytes
 rows-size : {A : Type 0} (text : A → List ℕ) (test : A → Bool) (k : ℕ) → ((r : A) → test r ≡ true → length (text r) ≤ k) → (rs : List A)
-    → every test rs ≡ true → length (rowsText text rs) ≤ k * length rs
-unfolding rowsText every
+    → every test rs ≡ true → length (rows_text text rs) ≤ k * length rs
+unfolding rows_text every
 rows-size text test k h [] e = zero-le
 rows-size text test k h (r ∷ rs) e =
     let first = h r (and_elim_left (test r) (every test rs) e) in
@@ -63,11 +63,11 @@ rows-size text test k h (r ∷ rs) e =
     simp length-append (omega (arith, first, rest, mul-suc k (length rs)))
 
 -- a Q line: its letter, at most 64 numbers of two digits, its end
-ring-size : (p : Plan) → planTest p ≡ true → length (ringText p.ring) ≤ 194
-unfolding ringRange
+ring-size : (p : Plan) → plan_test p ≡ true → length (ring_text p.ring) ≤ 194
+unfolding ring_range
 ring-size p g = go (ℕ_discrete (length p.ring) 0)
   where
-    go : Dec (length p.ring ≡ 0) → length (ringText p.ring) ≤ 194
+    go : Dec (length p.ring ≡ 0) → length (ring_text p.ring) ≤ 194
     go (yes e) = rw (ring-none p.ring e) (omega arith)
     go (no e) =
         let b = ranges p g in
@@ -77,14 +77,14 @@ ring-size p g = go (ℕ_discrete (length p.ring) 0)
         rw (ring-parts p.ring e) (simp length-append (omega (arith, rows, f.size, b.n-high)))
 
 -- the text of a plan that a file may hold is short
-pub plan-size : (p : Plan) → planTest p ≡ true → (1 ≤ length (planText p)) × (length (planText p) ≤ 27678)
-unfolding planText headText fewDelays
+pub plan-size : (p : Plan) → plan_test p ≡ true → (1 ≤ length (plan_text p)) × (length (plan_text p) ≤ 27678)
+unfolding plan_text head_text few_delays
 plan-size p g =
     let t = tests-of p g in
     let s = ranges-good p g in
     let b = ranges-of p s in
-    let c = rows-size crashText (crashRange p) 13 (λ r. crash-size p r s) p.crashes t.crashes in
-    let d = rows-size delayText (delayRange p) 13 (λ r. delay-size p r s) p.delays t.delays in
+    let c = rows-size crash_text (crash_range p) 13 (λ r. crash-size p r s) p.crashes t.crashes in
+    let d = rows-size delay_text (delay_range p) 13 (λ r. delay-size p r s) p.delays t.delays in
     let few : length p.delays ≤ 2048 = leb-true _ _ t.few in
     let z = start-size p s in
     (simp length-append (omega (arith, z.0)), simp length-append (omega (arith, z.1, ring-size p g, crashes-few p g, b.n-high)))

@@ -11,20 +11,20 @@ use borrow.Author.Tests.{eqb-true}
 use Rattle.text.specs.declared.Number.{Number}
 use Rattle.text.specs.declared.Number.TheVariants.{Value, NoNumber}
 use Rattle.text.specs.Number.{ceiling}
-use Rattle.text.specs.Field.{numberFieldAt, ends, field}
+use Rattle.text.specs.Field.{number_field_at, ends, field}
 use Rattle.text.proofs.FieldTrip.{field-trip, ends-trip}
-use Rattle.plans.specs.Plan.{Crash, Delay, Plan, startPlan}
-use Rattle.runfile.specs.Text.{fieldsText, lineText, startText, crashText, delayText}
-use Rattle.runfile.specs.File.{Row, start, ring, crash, delay, fieldThen, pair_of, ringOf, start_of, crashOf, delayOf, form_of, row_of}
-use Rattle.runfile.specs.Reader.{thereThen, withRest, numbersThere, numbersAt}
+use Rattle.plans.specs.Plan.{Crash, Delay, Plan, start_plan}
+use Rattle.runfile.specs.Text.{fields_text, line_text, start_text, crash_text, delay_text}
+use Rattle.runfile.specs.File.{Row, start, ring, crash, delay, field_then, pair_of, ring_of, start_of, crash_of, delay_of, form_of, row_of}
+use Rattle.runfile.specs.Reader.{there_then, with_rest, numbers_there, numbers_at}
 use Rattle.runfile.proofs.Rings.{ring-form, there-count}
 use Rattle.runfile.proofs.Written.{Small}
 
 -- ---- what was read, taken apart
 
-field-inv : (x : Number) (f : ℕ → ℕ → Option Row) (r : Row) → fieldThen x f ≡ some r
+field-inv : (x : Number) (f : ℕ → ℕ → Option Row) (r : Row) → field_then x f ≡ some r
     → (v : ℕ) × (j : ℕ) × (x ≡ Value v j) × (f v j ≡ some r)
-unfolding fieldThen
+unfolding field_then
 field-inv (Value v j) f r e = (v, j, refl, e)
 field-inv NoNumber f r e = let z : ◌≡◌ {A = ℕ} 0 1 = cc in absurd (omega arith)
 
@@ -36,20 +36,20 @@ end-inv false x r e = let z : ◌≡◌ {A = ℕ} 0 1 = cc in absurd (omega arit
 record Two (l : List ℕ) (a b : ℕ) : Type 0 where
   i : ℕ
   j : ℕ
-  one : numberFieldAt l 1 ≡ Value a i
-  two : numberFieldAt l i ≡ Value b j
+  one : number_field_at l 1 ≡ Value a i
+  two : number_field_at l i ≡ Value b j
   feed : ends l j ≡ true
 
 pair-inv : (row : ℕ → ℕ → Row) (l : List ℕ) (r : Row) → pair_of row l ≡ some r → (a : ℕ) × (b : ℕ) × Two l a b × (row a b ≡ r)
 unfolding pair_of
 pair-inv row l r e =
-    let x = field-inv (numberFieldAt l 1) _ r e in
-    let y = field-inv (numberFieldAt l x.1) _ r x.3 in
+    let x = field-inv (number_field_at l 1) _ r e in
+    let y = field-inv (number_field_at l x.1) _ r x.3 in
     let z = end-inv (ends l y.1) (row x.0 y.0) r y.3 in
     (x.0, y.0, record { i = x.1; j = y.1; one = x.2; two = y.2; feed = z.0 }, z.1)
 
-two-text : (l : List ℕ) (a b : ℕ) → Two l a b → a < ceiling → b < ceiling → drop 1 l ≡ fieldsText (a ∷ b ∷ [])
-unfolding fieldsText
+two-text : (l : List ℕ) (a b : ℕ) → Two l a b → a < ceiling → b < ceiling → drop 1 l ≡ fields_text (a ∷ b ∷ [])
+unfolding fields_text
 two-text l a b t ha hb =
     field-trip l 1 a t.i t.one ha
     ∙ ap (λ (s : List ℕ). field a ++ s) (field-trip l t.i b t.j t.two hb ∙ ap (λ (s : List ℕ). field b ++ s) (ends-trip l t.j t.feed))
@@ -61,23 +61,23 @@ record Five (l : List ℕ) (n h w d end : ℕ) : Type 0 where
   k : ℕ
   m : ℕ
   z : ℕ
-  one : numberFieldAt l 1 ≡ Value n i
-  two : numberFieldAt l i ≡ Value h j
-  three : numberFieldAt l j ≡ Value w k
-  four : numberFieldAt l k ≡ Value d m
-  five : numberFieldAt l m ≡ Value end z
+  one : number_field_at l 1 ≡ Value n i
+  two : number_field_at l i ≡ Value h j
+  three : number_field_at l j ≡ Value w k
+  four : number_field_at l k ≡ Value d m
+  five : number_field_at l m ≡ Value end z
   feed : ends l z ≡ true
 
 start-inv : (l : List ℕ) (r : Row) → start_of l ≡ some r
-    → (n : ℕ) × (h : ℕ) × (w : ℕ) × (d : ℕ) × (end : ℕ) × Five l n h w d end × (start (startPlan n h w d end) ≡ r)
+    → (n : ℕ) × (h : ℕ) × (w : ℕ) × (d : ℕ) × (end : ℕ) × Five l n h w d end × (start (start_plan n h w d end) ≡ r)
 unfolding start_of
 start-inv l r e =
-    let n = field-inv (numberFieldAt l 1) _ r e in
-    let h = field-inv (numberFieldAt l n.1) _ r n.3 in
-    let w = field-inv (numberFieldAt l h.1) _ r h.3 in
-    let d = field-inv (numberFieldAt l w.1) _ r w.3 in
-    let t = field-inv (numberFieldAt l d.1) _ r d.3 in
-    let z = end-inv (ends l t.1) (start (startPlan n.0 h.0 w.0 d.0 t.0)) r t.3 in (
+    let n = field-inv (number_field_at l 1) _ r e in
+    let h = field-inv (number_field_at l n.1) _ r n.3 in
+    let w = field-inv (number_field_at l h.1) _ r h.3 in
+    let d = field-inv (number_field_at l w.1) _ r w.3 in
+    let t = field-inv (number_field_at l d.1) _ r d.3 in
+    let z = end-inv (ends l t.1) (start (start_plan n.0 h.0 w.0 d.0 t.0)) r t.3 in (
       n.0,
       h.0,
       w.0,
@@ -88,8 +88,8 @@ start-inv l r e =
     )
 
 five-text : (l : List ℕ) (n h w d end : ℕ) → Five l n h w d end → n < ceiling → h < ceiling → w < ceiling → d < ceiling → end < ceiling
-    → drop 1 l ≡ fieldsText (n ∷ h ∷ w ∷ d ∷ end ∷ [])
-unfolding fieldsText
+    → drop 1 l ≡ fields_text (n ∷ h ∷ w ∷ d ∷ end ∷ [])
+unfolding fields_text
 five-text l n h w d end t hn hh hw hd he =
     field-trip l 1 n t.i t.one hn
     ∙ ap (λ (s : List ℕ). field n ++ s) (field-trip l t.i h t.j t.two hh
@@ -99,17 +99,17 @@ five-text l n h w d end t hn hh hw hd he =
     ∙ ap (λ (s : List ℕ). field end ++ s) (ends-trip l t.z t.feed)))))
 
 -- the numbers of a Q line
-ring-inv : (n : ℕ) (l : List ℕ) (r : Row) → ringOf n l ≡ some r → (numbersThere n l 1 ≡ true) × (ring (numbersAt n l 1) ≡ r)
-ring-inv n l r e = end-inv (numbersThere n l 1) (ring (numbersAt n l 1)) r (sym (ring-form n l) ∙ e)
+ring-inv : (n : ℕ) (l : List ℕ) (r : Row) → ring_of n l ≡ some r → (numbers_there n l 1 ≡ true) × (ring (numbers_at n l 1) ≡ r)
+ring-inv n l r e = end-inv (numbers_there n l 1) (ring (numbers_at n l 1)) r (sym (ring-form n l) ∙ e)
 
-numbers-text : (k : ℕ) (l : List ℕ) (i : ℕ) → numbersThere k l i ≡ true → Small (numbersAt k l i) → drop i l ≡ fieldsText (numbersAt k l i)
-unfolding numbersThere thereThen numbersAt withRest fieldsText Small
+numbers-text : (k : ℕ) (l : List ℕ) (i : ℕ) → numbers_there k l i ≡ true → Small (numbers_at k l i) → drop i l ≡ fields_text (numbers_at k l i)
+unfolding numbers_there there_then numbers_at with_rest fields_text Small
 numbers-text zero l i h small = ends-trip l i h
-numbers-text (suc k) l i h small = by (numberFieldAt l i) refl h small (λ j. numbers-text k l j)
+numbers-text (suc k) l i h small = by (number_field_at l i) refl h small (λ j. numbers-text k l j)
   where
-    by : (y : Number) → numberFieldAt l i ≡ y → thereThen y (λ j. numbersThere k l j) ≡ true → Small (withRest y (λ j. numbersAt k l j))
-        → ((j : ℕ) → numbersThere k l j ≡ true → Small (numbersAt k l j) → drop j l ≡ fieldsText (numbersAt k l j))
-        → drop i l ≡ fieldsText (withRest y (λ j. numbersAt k l j))
+    by : (y : Number) → number_field_at l i ≡ y → there_then y (λ j. numbers_there k l j) ≡ true → Small (with_rest y (λ j. numbers_at k l j))
+        → ((j : ℕ) → numbers_there k l j ≡ true → Small (numbers_at k l j) → drop j l ≡ fields_text (numbers_at k l j))
+        → drop i l ≡ fields_text (with_rest y (λ j. numbers_at k l j))
     by (Value x j) e h small rest = field-trip l i x j e small.0 ∙ ap (λ (s : List ℕ). field x ++ s) (rest j h small.1)
     by NoNumber e h small rest = absurd (true≢false (sym h))
 
@@ -122,9 +122,9 @@ Lettered letter form l r = (s : List ℕ) × (l ≡ letter ∷ s) × (form l ≡
 -- what a line says comes from its letter's form
 data Said (n : ℕ) (l : List ℕ) (r : Row) : Type 0 where
   by-start : Lettered 80 start_of l r → Said n l r
-  by-ring : Lettered 81 (ringOf n) l r → Said n l r
-  by-crash : Lettered 67 crashOf l r → Said n l r
-  by-delay : Lettered 76 delayOf l r → Said n l r
+  by-ring : Lettered 81 (ring_of n) l r → Said n l r
+  by-crash : Lettered 67 crash_of l r → Said n l r
+  by-delay : Lettered 76 delay_of l r → Said n l r
 
 row-inv : (n : ℕ) (l : List ℕ) (r : Row) → row_of n l ≡ some r → Said n l r
 unfolding row_of form_of
@@ -132,7 +132,7 @@ row-inv n [] r e = let z : ◌≡◌ {A = ℕ} 0 1 = cc in absurd (omega arith)
 row-inv n (b ∷ s) r e = by (eqb b 80) refl (eqb b 81) refl (eqb b 67) refl (eqb b 76) refl e
   where
     by : (x : Bool) → eqb b 80 ≡ x → (w : Bool) → eqb b 81 ≡ w → (y : Bool) → eqb b 67 ≡ y → (z : Bool) → eqb b 76 ≡ z
-        → cond x (start_of (b ∷ s)) (cond w (ringOf n (b ∷ s)) (cond y (crashOf (b ∷ s)) (cond z (delayOf (b ∷ s)) none))) ≡ some r
+        → cond x (start_of (b ∷ s)) (cond w (ring_of n (b ∷ s)) (cond y (crash_of (b ∷ s)) (cond z (delay_of (b ∷ s)) none))) ≡ some r
         → Said n (b ∷ s) r
     by true p w o y q z t e = by-start (s, ap (λ (c : ℕ). c ∷ s) (eqb-true b 80 p), e)
     by false p true o y q z t e = by-ring (s, ap (λ (c : ℕ). c ∷ s) (eqb-true b 81 o), e)
@@ -140,16 +140,16 @@ row-inv n (b ∷ s) r e = by (eqb b 80) refl (eqb b 81) refl (eqb b 67) refl (eq
     by false p false o false q true t e = by-delay (s, ap (λ (c : ℕ). c ∷ s) (eqb-true b 76 t), e)
     by false p false o false q false t e = let z : ◌≡◌ {A = ℕ} 0 1 = cc in absurd (omega arith)
 
-lettered-text : (letter : ℕ) (l s xs : List ℕ) → l ≡ letter ∷ s → drop 1 l ≡ fieldsText xs → l ≡ lineText letter xs
-unfolding lineText
+lettered-text : (letter : ℕ) (l s xs : List ℕ) → l ≡ letter ∷ s → drop 1 l ≡ fields_text xs → l ≡ line_text letter xs
+unfolding line_text
 lettered-text letter l s xs e t = e ∙ ap (λ (k : List ℕ). letter ∷ k) (sym (ap (drop 1) e) ∙ t)
 
 -- a C line
-pub crash-text : (n : ℕ) (l : List ℕ) (r : Crash) → row_of n l ≡ some (crash r) → r.tick < ceiling → r.node < ceiling → l ≡ crashText r
-unfolding ringOf crashOf delayOf crashText
+pub crash-text : (n : ℕ) (l : List ℕ) (r : Crash) → row_of n l ≡ some (crash r) → r.tick < ceiling → r.node < ceiling → l ≡ crash_text r
+unfolding ring_of crash_of delay_of crash_text
 crash-text n l r e ht hk = by (row-inv n l (crash r) e)
   where
-    by : Said n l (crash r) → l ≡ crashText r
+    by : Said n l (crash r) → l ≡ crash_text r
     by (by-start x) = let w = start-inv l (crash r) x.2 in let z : ◌≡◌ {A = ℕ} 0 1 = cc w.6 in absurd (omega arith)
     by (by-ring x) = let w = ring-inv n l (crash r) x.2 in let z : ◌≡◌ {A = ℕ} 0 1 = cc w.1 in absurd (omega arith)
     by (by-crash x) =
@@ -160,11 +160,11 @@ crash-text n l r e ht hk = by (row-inv n l (crash r) e)
     by (by-delay x) = let w = pair-inv _ l (crash r) x.2 in let z : ◌≡◌ {A = ℕ} 0 1 = cc w.3 in absurd (omega arith)
 
 -- an L line
-pub delay-text : (n : ℕ) (l : List ℕ) (r : Delay) → row_of n l ≡ some (delay r) → r.number < ceiling → r.delay < ceiling → l ≡ delayText r
-unfolding ringOf crashOf delayOf delayText
+pub delay-text : (n : ℕ) (l : List ℕ) (r : Delay) → row_of n l ≡ some (delay r) → r.number < ceiling → r.delay < ceiling → l ≡ delay_text r
+unfolding ring_of crash_of delay_of delay_text
 delay-text n l r e ht hk = by (row-inv n l (delay r) e)
   where
-    by : Said n l (delay r) → l ≡ delayText r
+    by : Said n l (delay r) → l ≡ delay_text r
     by (by-start x) = let w = start-inv l (delay r) x.2 in let z : ◌≡◌ {A = ℕ} 0 1 = cc w.6 in absurd (omega arith)
     by (by-ring x) = let w = ring-inv n l (delay r) x.2 in let z : ◌≡◌ {A = ℕ} 0 1 = cc w.1 in absurd (omega arith)
     by (by-crash x) = let w = pair-inv _ l (delay r) x.2 in let z : ◌≡◌ {A = ℕ} 0 1 = cc w.3 in absurd (omega arith)
@@ -175,16 +175,16 @@ delay-text n l r e ht hk = by (row-inv n l (delay r) e)
         lettered-text 76 l x.0 (r.number ∷ r.delay ∷ []) x.1 (two-text l w.0 w.1 w.2 (rw t ht) (rw k hk) ∙ rw (t, k))
 
 -- a Q line: as many numbers as nodes
-pub ring-text : (n : ℕ) (l ks : List ℕ) → row_of n l ≡ some (ring ks) → Small ks → (length ks ≡ n) × (l ≡ lineText 81 ks)
-unfolding crashOf delayOf
+pub ring-text : (n : ℕ) (l ks : List ℕ) → row_of n l ≡ some (ring ks) → Small ks → (length ks ≡ n) × (l ≡ line_text 81 ks)
+unfolding crash_of delay_of
 ring-text n l ks e small = by (row-inv n l (ring ks) e)
   where
-    by : Said n l (ring ks) → (length ks ≡ n) × (l ≡ lineText 81 ks)
+    by : Said n l (ring ks) → (length ks ≡ n) × (l ≡ line_text 81 ks)
     by (by-start x) = let w = start-inv l (ring ks) x.2 in let z : ◌≡◌ {A = ℕ} 0 1 = cc w.6 in absurd (omega arith)
     by (by-ring x) =
         let w = ring-inv n l (ring ks) x.2 in
-        let same : numbersAt n l 1 ≡ ks = cc w.1 in
-        let text : drop 1 l ≡ fieldsText ks = numbers-text n l 1 w.0 (rw same small) ∙ ap fieldsText same in
+        let same : numbers_at n l 1 ≡ ks = cc w.1 in
+        let text : drop 1 l ≡ fields_text ks = numbers-text n l 1 w.0 (rw same small) ∙ ap fields_text same in
         (ap length (sym same) ∙ there-count n l 1 w.0, lettered-text 81 l x.0 ks x.1 text)
     by (by-crash x) = let w = pair-inv _ l (ring ks) x.2 in let z : ◌≡◌ {A = ℕ} 0 1 = cc w.3 in absurd (omega arith)
     by (by-delay x) = let w = pair-inv _ l (ring ks) x.2 in let z : ◌≡◌ {A = ℕ} 0 1 = cc w.3 in absurd (omega arith)
@@ -199,24 +199,24 @@ record Opens (l : List ℕ) (p : Plan) : Type 0 where
   rest : List ℕ
   letter : l ≡ 80 ∷ rest
   fields : Five l n h w d end
-  plan : startPlan n h w d end ≡ p
+  plan : start_plan n h w d end ≡ p
 
 opens : (n : ℕ) (l : List ℕ) (p : Plan) → row_of n l ≡ some (start p) → Opens l p
-unfolding crashOf delayOf
+unfolding crash_of delay_of
 opens n l p e = by (row-inv n l (start p) e)
   where
     by : Said n l (start p) → Opens l p
     by (by-start x) =
         let w = start-inv l (start p) x.2 in
-        let q : startPlan w.0 w.1 w.2 w.3 w.4 ≡ p = cc w.6 in
+        let q : start_plan w.0 w.1 w.2 w.3 w.4 ≡ p = cc w.6 in
         record { n = w.0; h = w.1; w = w.2; d = w.3; end = w.4; rest = x.0; letter = x.1; fields = w.5; plan = q }
     by (by-ring x) = let w = ring-inv n l (start p) x.2 in let z : ◌≡◌ {A = ℕ} 0 1 = cc w.1 in absurd (omega arith)
     by (by-crash x) = let w = pair-inv _ l (start p) x.2 in let z : ◌≡◌ {A = ℕ} 0 1 = cc w.3 in absurd (omega arith)
     by (by-delay x) = let w = pair-inv _ l (start p) x.2 in let z : ◌≡◌ {A = ℕ} 0 1 = cc w.3 in absurd (omega arith)
 
 pub start-text : (n : ℕ) (l : List ℕ) (p : Plan) → row_of n l ≡ some (start p)
-    → p.n < ceiling → p.h < ceiling → p.w < ceiling → p.d < ceiling → p.end < ceiling → l ≡ startText p
-unfolding startPlan startText
+    → p.n < ceiling → p.h < ceiling → p.w < ceiling → p.d < ceiling → p.end < ceiling → l ≡ start_text p
+unfolding start_plan start_text
 start-text n l p e hn hh hw hd he =
     let o = opens n l p e in
     let k : o.n ≡ p.n = ap (λ (q : Plan). q.n) o.plan in
@@ -230,7 +230,7 @@ start-text n l p e hn hh hw hd he =
 
 -- what a P line leaves out
 pub start-rows : (n : ℕ) (l : List ℕ) (p : Plan) → row_of n l ≡ some (start p) → (p.crashes ≡ []) × (p.delays ≡ []) × (p.ring ≡ [])
-unfolding startPlan
+unfolding start_plan
 start-rows n l p e =
     let o = opens n l p e in (
       ap (λ (q : Plan). q.crashes) (sym o.plan),

@@ -9,13 +9,13 @@ use mathlib.Core.Option.{Option, some}
 use lib.ListN.{length, drop, get_or, length-drop}
 use borrow.Author.Tests.{ne_eqb}
 use Rattle.text.specs.Number.{digit, ceiling, decimal}
-use Rattle.text.specs.Field.{ends, field, onto, numberFieldAt}
+use Rattle.text.specs.Field.{ends, field, onto, number_field_at}
 use Rattle.text.specs.declared.Number.TheVariants.{Value}
 use Rattle.text.proofs.NumberLaws.{decimal-small, decimal-more}
 use Rattle.text.proofs.FieldTrip.{drop_past, field_back, ends-back}
-use Rattle.plans.specs.Plan.{Crash, Delay, Plan, startPlan}
-use Rattle.runfile.specs.Text.{fieldsText, lineText, startText, crashText, delayText}
-use Rattle.runfile.specs.File.{Row, start, ring, crash, delay, lines, fieldThen, pair_of, numbersThen, ringOf, start_of, crashOf, delayOf, form_of, row_of}
+use Rattle.plans.specs.Plan.{Crash, Delay, Plan, start_plan}
+use Rattle.runfile.specs.Text.{fields_text, line_text, start_text, crash_text, delay_text}
+use Rattle.runfile.specs.File.{Row, start, ring, crash, delay, lines, field_then, pair_of, numbers_then, ring_of, start_of, crash_of, delay_of, form_of, row_of}
 use Rattle.runfile.proofs.Forms.{pair-some, start-some}
 
 -- ---- fields that were written
@@ -39,17 +39,17 @@ unfolding digit
 feed-no = refl
 
 -- a field before another one, in a line that r follows
-pub field_next : (l : List ℕ) (at x y : ℕ) (ys r : List ℕ) → drop at l ≡ fieldsText (x ∷ y ∷ ys) ++ r → x < ceiling
-    → (numberFieldAt l at ≡ Value x (at + length (field x))) × (drop (at + length (field x)) l ≡ fieldsText (y ∷ ys) ++ r)
-unfolding fieldsText
+pub field_next : (l : List ℕ) (at x y : ℕ) (ys r : List ℕ) → drop at l ≡ fields_text (x ∷ y ∷ ys) ++ r → x < ceiling
+    → (number_field_at l at ≡ Value x (at + length (field x))) × (drop (at + length (field x)) l ≡ fields_text (y ∷ ys) ++ r)
+unfolding fields_text
 field_next l at x y ys r e h =
-    let parts = e ∙ append_assoc (field x) (fieldsText (y ∷ ys)) r in
+    let parts = e ∙ append_assoc (field x) (fields_text (y ∷ ys)) r in
     (field_back l at x 44 _ parts h comma-no, drop_past l at (field x) _ parts)
 
 -- the last field
-pub field-last : (l : List ℕ) (at x : ℕ) (r : List ℕ) → drop at l ≡ fieldsText (x ∷ []) ++ r → x < ceiling
-    → (numberFieldAt l at ≡ Value x (at + length (field x))) × (drop (at + length (field x)) l ≡ 10 ∷ r)
-unfolding fieldsText
+pub field-last : (l : List ℕ) (at x : ℕ) (r : List ℕ) → drop at l ≡ fields_text (x ∷ []) ++ r → x < ceiling
+    → (number_field_at l at ≡ Value x (at + length (field x))) × (drop (at + length (field x)) l ≡ 10 ∷ r)
+unfolding fields_text
 field-last l at x r e h =
     let parts = e ∙ append_assoc (field x) (10 ∷ []) r in
     (field_back l at x 10 r parts h feed-no, drop_past l at (field x) (10 ∷ r) parts)
@@ -59,20 +59,20 @@ end-there : (l : List ℕ) (at : ℕ) → drop at l ≡ 10 ∷ [] → ends l at 
 end-there l at e = ends-back l at (omega (arith, length-drop at l, ap length e)) e
 
 pub pair-back : (row : ℕ → ℕ → Row) (letter a b : ℕ) → a < ceiling → b < ceiling
-    → pair_of row (lineText letter (a ∷ b ∷ [])) ≡ some (row a b)
-unfolding lineText
+    → pair_of row (line_text letter (a ∷ b ∷ [])) ≡ some (row a b)
+unfolding line_text
 pair-back row letter a b ha hb =
-    let l : List ℕ = letter ∷ fieldsText (a ∷ b ∷ []) in
-    let x = field_next l 1 a b [] [] (sym (append-nil (fieldsText (a ∷ b ∷ [])))) ha in
+    let l : List ℕ = letter ∷ fields_text (a ∷ b ∷ []) in
+    let x = field_next l 1 a b [] [] (sym (append-nil (fields_text (a ∷ b ∷ [])))) ha in
     let y = field-last l (1 + length (field a)) b [] x.1 hb in
     pair-some row l a _ x.0 b _ y.0 (end-there l _ y.1)
 
 pub start_back : (n h w d end : ℕ) → n < ceiling → h < ceiling → w < ceiling → d < ceiling → end < ceiling
-    → start_of (lineText 80 (n ∷ h ∷ w ∷ d ∷ end ∷ [])) ≡ some (start (startPlan n h w d end))
-unfolding lineText
+    → start_of (line_text 80 (n ∷ h ∷ w ∷ d ∷ end ∷ [])) ≡ some (start (start_plan n h w d end))
+unfolding line_text
 start_back n h w d end hn hh hw hd he =
-    let l : List ℕ = 80 ∷ fieldsText (n ∷ h ∷ w ∷ d ∷ end ∷ []) in
-    let a = field_next l 1 n h (w ∷ d ∷ end ∷ []) [] (sym (append-nil (fieldsText (n ∷ h ∷ w ∷ d ∷ end ∷ [])))) hn in
+    let l : List ℕ = 80 ∷ fields_text (n ∷ h ∷ w ∷ d ∷ end ∷ []) in
+    let a = field_next l 1 n h (w ∷ d ∷ end ∷ []) [] (sym (append-nil (fields_text (n ∷ h ∷ w ∷ d ∷ end ∷ [])))) hn in
     let b = field_next l _ h w (d ∷ end ∷ []) [] a.1 hh in
     let c = field_next l _ w d (end ∷ []) [] b.1 hw in
     let e = field_next l _ d end [] [] c.1 hd in
@@ -80,32 +80,32 @@ start_back n h w d end hn hh hw hd he =
     start-some l n _ a.0 h _ b.0 w _ c.0 d _ e.0 end _ f.0 (end-there l _ f.1)
 
 -- the numbers of a Q line
-numbers-back : (l : List ℕ) (i : ℕ) (ks : List ℕ) (f : List ℕ → Option Row) → drop i l ≡ fieldsText ks → Small ks
-    → numbersThen (length ks) l i f ≡ f ks
-unfolding numbersThen fieldThen fieldsText Small
+numbers-back : (l : List ℕ) (i : ℕ) (ks : List ℕ) (f : List ℕ → Option Row) → drop i l ≡ fields_text ks → Small ks
+    → numbers_then (length ks) l i f ≡ f ks
+unfolding numbers_then field_then fields_text Small
 numbers-back l i [] f e small = rw (end-there l i e)
 numbers-back l i (x ∷ []) f e small =
-    let a = field-last l i x [] (e ∙ sym (append-nil (fieldsText (x ∷ [])))) small.0 in
+    let a = field-last l i x [] (e ∙ sym (append-nil (fields_text (x ∷ [])))) small.0 in
     rw a.0 (numbers-back l (i + length (field x)) [] (λ xs. f (x ∷ xs)) a.1 small.1)
 numbers-back l i (x ∷ y ∷ ys) f e small =
-    let a = field_next l i x y ys [] (e ∙ sym (append-nil (fieldsText (x ∷ y ∷ ys)))) small.0 in
-    rw a.0 (numbers-back l (i + length (field x)) (y ∷ ys) (λ xs. f (x ∷ xs)) (a.1 ∙ append-nil (fieldsText (y ∷ ys))) small.1)
+    let a = field_next l i x y ys [] (e ∙ sym (append-nil (fields_text (x ∷ y ∷ ys)))) small.0 in
+    rw a.0 (numbers-back l (i + length (field x)) (y ∷ ys) (λ xs. f (x ∷ xs)) (a.1 ∙ append-nil (fields_text (y ∷ ys))) small.1)
 
-pub ring-read : (n : ℕ) (ks : List ℕ) → length ks ≡ n → Small ks → row_of n (lineText 81 ks) ≡ some (ring ks)
-unfolding lineText row_of form_of ringOf
-ring-read n ks e small = rw (← e) (numbers-back (81 ∷ fieldsText ks) 1 ks (λ xs. some (ring xs)) refl small)
+pub ring-read : (n : ℕ) (ks : List ℕ) → length ks ≡ n → Small ks → row_of n (line_text 81 ks) ≡ some (ring ks)
+unfolding line_text row_of form_of ring_of
+ring-read n ks e small = rw (← e) (numbers-back (81 ∷ fields_text ks) 1 ks (λ xs. some (ring xs)) refl small)
 
-pub crash-read : (n : ℕ) (r : Crash) → r.tick < ceiling → r.node < ceiling → row_of n (crashText r) ≡ some (crash r)
-unfolding crashText lineText row_of form_of crashOf
+pub crash-read : (n : ℕ) (r : Crash) → r.tick < ceiling → r.node < ceiling → row_of n (crash_text r) ≡ some (crash r)
+unfolding crash_text line_text row_of form_of crash_of
 crash-read n r ht hk = pair-back (λ t k. crash (record { tick = t; node = k })) 67 r.tick r.node ht hk
 
-pub delay-read : (n : ℕ) (r : Delay) → r.number < ceiling → r.delay < ceiling → row_of n (delayText r) ≡ some (delay r)
-unfolding delayText lineText row_of form_of delayOf
+pub delay-read : (n : ℕ) (r : Delay) → r.number < ceiling → r.delay < ceiling → row_of n (delay_text r) ≡ some (delay r)
+unfolding delay_text line_text row_of form_of delay_of
 delay-read n r hk ht = pair-back (λ k t. delay (record { number = k; delay = t })) 76 r.number r.delay hk ht
 
 pub start-read : (p : Plan) → p.n < ceiling → p.h < ceiling → p.w < ceiling → p.d < ceiling → p.end < ceiling
-    → row_of 0 (startText p) ≡ some (start (startPlan p.n p.h p.w p.d p.end))
-unfolding startText lineText row_of form_of
+    → row_of 0 (start_text p) ≡ some (start (start_plan p.n p.h p.w p.d p.end))
+unfolding start_text line_text row_of form_of
 start-read p hn hh hw hd he = start_back p.n p.h p.w p.d p.end hn hh hw hd he
 
 -- ---- a line's bytes have one line feed, the last
@@ -142,15 +142,15 @@ unfolding lines onto Plain
 line_plain [] s h = refl
 line_plain (b ∷ t) s h = rw (ne_eqb b 10 h.0, line_plain t s h.1)
 
-fields-line : (t xs s : List ℕ) → Plain t → Small xs → lines (t ++ (fieldsText xs ++ s)) ≡ (t ++ fieldsText xs) ∷ lines s
-unfolding fieldsText Small
+fields-line : (t xs s : List ℕ) → Plain t → Small xs → lines (t ++ (fields_text xs ++ s)) ≡ (t ++ fields_text xs) ∷ lines s
+unfolding fields_text Small
 fields-line t [] s h k = line_plain t s h
 fields-line t (x ∷ xs) s h k =
-    rw (append_assoc (field x) (fieldsText xs) s, ← append_assoc t (field x) (fieldsText xs ++ s), ← append_assoc t (field x) (fieldsText xs))
+    rw (append_assoc (field x) (fields_text xs) s, ← append_assoc t (field x) (fields_text xs ++ s), ← append_assoc t (field x) (fields_text xs))
     (fields-line (t ++ field x) xs s (plain-append t (field x) h (plain-field x k.0)) k.1)
 
 -- a line that is written is the first line of what it begins
 pub line_first : (letter : ℕ) (xs s : List ℕ) → (letter ≡ 10 → ⊥) → Small xs
-    → lines (lineText letter xs ++ s) ≡ lineText letter xs ∷ lines s
-unfolding lineText Plain
+    → lines (line_text letter xs ++ s) ≡ line_text letter xs ∷ lines s
+unfolding line_text Plain
 line_first letter xs s h k = fields-line (letter ∷ []) xs s (h, tt) k

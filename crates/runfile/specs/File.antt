@@ -3,27 +3,27 @@
 -- 02's #101 for the line Q and number 13, and its #109, by which 4 'is given no longer'. Assumes nothing.
 use Rattle.std.specs.Prelude.{Bool, cond, ◌&&◌, List, [], ◌∷◌, ℕ, zero, suc, eqb, length}
 use Rattle.std.proofs.Math.Option.{Option, none, some}
-use Rattle.limits.specs.Limits.{mostBytes}
-use Rattle.limits.specs.Refusals.{badLength, badForm, outOfRange, notRising, manyDelays, notEachOnce}
-use Rattle.ring.specs.Ring.{eachOnce}
+use Rattle.limits.specs.Limits.{most_bytes}
+use Rattle.limits.specs.Refusals.{bad_length, bad_form, out_of_range, not_rising, many_delays, not_each_once}
+use Rattle.ring.specs.Ring.{each_once}
 use Rattle.text.specs.declared.Number.{Number}
 use Rattle.text.specs.declared.Number.TheVariants.{Value, NoNumber}
-use Rattle.text.specs.Field.{lineFeed, onto, ends, numberFieldAt}
-use Rattle.plans.specs.Plan.{Crash, Delay, Plan, startPlan, withCrash, withDelay, within, startRanges, crashRange, delayRange, crashOrder}
-use Rattle.plans.specs.Plan.{delayOrder, fewDelays, withRing, ringRange}
-use Rattle.runfile.specs.Text.{letterP, letterQ, letterC, letterL}
+use Rattle.text.specs.Field.{line_feed, onto, ends, number_field_at}
+use Rattle.plans.specs.Plan.{Crash, Delay, Plan, start_plan, with_crash, with_delay, within, start_ranges, crash_range, delay_range, crash_order}
+use Rattle.plans.specs.Plan.{delay_order, few_delays, with_ring, ring_range}
+use Rattle.runfile.specs.Text.{letter_p, letter_q, letter_c, letter_l}
 
 pub data FileAnswer : Type 0 where
   accepted : Plan → FileAnswer
   -- the refusal's number and its line, from 1, else 0
-  turnedDown : ℕ → ℕ → FileAnswer
+  turned_down : ℕ → ℕ → FileAnswer
 
 -- ---- lines
 
 -- the lines of a file, each with its line feed. What follows the last line feed is a line too
 unfoldable pub lines : List ℕ → List (List ℕ)
 lines [] = []
-lines (b ∷ s) = cond (eqb b lineFeed) ((b ∷ []) ∷ lines s) (onto b (lines s))
+lines (b ∷ s) = cond (eqb b line_feed) ((b ∷ []) ∷ lines s) (onto b (lines s))
 
 -- ---- a line's form
 
@@ -35,49 +35,49 @@ pub data Row : Type 0 where
   delay : Delay → Row
 
 -- what a field that was read leads to
-unfoldable pub fieldThen : Number → (ℕ → ℕ → Option Row) → Option Row
-fieldThen (Value x i) f = f x i
-fieldThen NoNumber f = none
+unfoldable pub field_then : Number → (ℕ → ℕ → Option Row) → Option Row
+field_then (Value x i) f = f x i
+field_then NoNumber f = none
 
 -- two numbers after the letter, and the line's end
 unfoldable pub pair_of : (ℕ → ℕ → Row) → List ℕ → Option Row
 pair_of row l =
-    fieldThen (numberFieldAt l 1) λ a i.
-    fieldThen (numberFieldAt l i) λ b j.
+    field_then (number_field_at l 1) λ a i.
+    field_then (number_field_at l i) λ b j.
     cond (ends l j) (some (row a b)) none
 
-unfoldable pub crashOf : List ℕ → Option Row
-crashOf l = pair_of (λ t k. crash (record { tick = t; node = k })) l
+unfoldable pub crash_of : List ℕ → Option Row
+crash_of l = pair_of (λ t k. crash (record { tick = t; node = k })) l
 
-unfoldable pub delayOf : List ℕ → Option Row
-delayOf l = pair_of (λ k t. delay (record { number = k; delay = t })) l
+unfoldable pub delay_of : List ℕ → Option Row
+delay_of l = pair_of (λ k t. delay (record { number = k; delay = t })) l
 
 -- five numbers after the letter, and the line's end
 unfoldable pub start_of : List ℕ → Option Row
 start_of l =
-    fieldThen (numberFieldAt l 1) λ n i.
-    fieldThen (numberFieldAt l i) λ h j.
-    fieldThen (numberFieldAt l j) λ w k.
-    fieldThen (numberFieldAt l k) λ d m.
-    fieldThen (numberFieldAt l m) λ end e.
-    cond (ends l e) (some (start (startPlan n h w d end))) none
+    field_then (number_field_at l 1) λ n i.
+    field_then (number_field_at l i) λ h j.
+    field_then (number_field_at l j) λ w k.
+    field_then (number_field_at l k) λ d m.
+    field_then (number_field_at l m) λ end e.
+    cond (ends l e) (some (start (start_plan n h w d end))) none
 
 -- k numbers from a place on, and the line's end; what they lead to
-unfoldable pub numbersThen : ℕ → List ℕ → ℕ → (List ℕ → Option Row) → Option Row
-numbersThen zero l i f = cond (ends l i) (f []) none
-numbersThen (suc k) l i f = fieldThen (numberFieldAt l i) λ x j. numbersThen k l j (λ xs. f (x ∷ xs))
+unfoldable pub numbers_then : ℕ → List ℕ → ℕ → (List ℕ → Option Row) → Option Row
+numbers_then zero l i f = cond (ends l i) (f []) none
+numbers_then (suc k) l i f = field_then (number_field_at l i) λ x j. numbers_then k l j (λ xs. f (x ∷ xs))
 
 -- 'one line Q with N node numbers'
-unfoldable pub ringOf : ℕ → List ℕ → Option Row
-ringOf n l = numbersThen n l 1 (λ ks. some (ring ks))
+unfoldable pub ring_of : ℕ → List ℕ → Option Row
+ring_of n l = numbers_then n l 1 (λ ks. some (ring ks))
 
 -- a line of a file with n nodes, by its letter; none where its form is bad: 'letter, field count, digits, line feed'
 unfoldable pub form_of : ℕ → ℕ → List ℕ → Option Row
 form_of n letter l =
-    cond (eqb letter letterP) (start_of l)
-    (cond (eqb letter letterQ) (ringOf n l)
-    (cond (eqb letter letterC) (crashOf l)
-    (cond (eqb letter letterL) (delayOf l) none)))
+    cond (eqb letter letter_p) (start_of l)
+    (cond (eqb letter letter_q) (ring_of n l)
+    (cond (eqb letter letter_c) (crash_of l)
+    (cond (eqb letter letter_l) (delay_of l) none)))
 
 unfoldable pub row_of : ℕ → List ℕ → Option Row
 row_of n [] = none
@@ -95,74 +95,74 @@ unfoldable pub or_else : Bool → ℕ → Step → Step
 or_else passed number step = cond passed step (stop number)
 
 -- a P line: out of range. 'A file with W below H + D .. now runs by the same rules'
-unfoldable pub startLine : Plan → Step
-startLine p = or_else (startRanges p) outOfRange (next p)
+unfoldable pub start_line : Plan → Step
+start_line p = or_else (start_ranges p) out_of_range (next p)
 
 -- no Q, C or L line came yet: 'order of letters'
 unfoldable pub fresh : Plan → Bool
 fresh p = eqb (length p.ring) 0 && (eqb (length p.crashes) 0 && eqb (length p.delays) 0)
 
 -- a Q line: not right after the P line, out of range, then not each node once
-unfoldable pub ringLine : Plan → List ℕ → Step
-ringLine p ks =
-    or_else (fresh p) badForm
-    (or_else (ringRange p ks) outOfRange
-    (or_else (eachOnce ks) notEachOnce
-    (next (withRing p ks))))
+unfoldable pub ring_line : Plan → List ℕ → Step
+ring_line p ks =
+    or_else (fresh p) bad_form
+    (or_else (ring_range p ks) out_of_range
+    (or_else (each_once ks) not_each_once
+    (next (with_ring p ks))))
 
 -- no L line came yet: 'order of letters'
 unfoldable pub early : Plan → Bool
 early p = eqb (length p.delays) 0
 
 -- a C line: after an L line, out of range, then not rising
-unfoldable pub crashLine : Plan → Crash → Step
-crashLine p r =
-    or_else (early p) badForm
-    (or_else (crashRange p r) outOfRange
-    (or_else (crashOrder (withCrash p r).crashes) notRising
-    (next (withCrash p r))))
+unfoldable pub crash_line : Plan → Crash → Step
+crash_line p r =
+    or_else (early p) bad_form
+    (or_else (crash_range p r) out_of_range
+    (or_else (crash_order (with_crash p r).crashes) not_rising
+    (next (with_crash p r))))
 
 -- an L line: out of range, not rising, then the 2,049th
-unfoldable pub delayLine : Plan → Delay → Step
-delayLine p r =
-    or_else (delayRange p r) outOfRange
-    (or_else (delayOrder (withDelay p r).delays) notRising
-    (or_else (fewDelays (withDelay p r).delays) manyDelays
-    (next (withDelay p r))))
+unfoldable pub delay_line : Plan → Delay → Step
+delay_line p r =
+    or_else (delay_range p r) out_of_range
+    (or_else (delay_order (with_delay p r).delays) not_rising
+    (or_else (few_delays (with_delay p r).delays) many_delays
+    (next (with_delay p r))))
 
 -- the first line is the P line
-unfoldable pub firstLine : Option Row → Step
-firstLine none = stop badForm
-firstLine (some (start p)) = startLine p
-firstLine (some (ring ks)) = stop badForm
-firstLine (some (crash r)) = stop badForm
-firstLine (some (delay r)) = stop badForm
+unfoldable pub first_line : Option Row → Step
+first_line none = stop bad_form
+first_line (some (start p)) = start_line p
+first_line (some (ring ks)) = stop bad_form
+first_line (some (crash r)) = stop bad_form
+first_line (some (delay r)) = stop bad_form
 
 -- and no later line is
-unfoldable pub laterLine : Plan → Option Row → Step
-laterLine p none = stop badForm
-laterLine p (some (start q)) = stop badForm
-laterLine p (some (ring ks)) = ringLine p ks
-laterLine p (some (crash r)) = crashLine p r
-laterLine p (some (delay r)) = delayLine p r
+unfoldable pub later_line : Plan → Option Row → Step
+later_line p none = stop bad_form
+later_line p (some (start q)) = stop bad_form
+later_line p (some (ring ks)) = ring_line p ks
+later_line p (some (crash r)) = crash_line p r
+later_line p (some (delay r)) = delay_line p r
 
 -- ---- the whole file
 
 -- a line, and then the rest
-unfoldable pub stepThen : Step → ℕ → (Plan → FileAnswer) → FileAnswer
-stepThen (next p) line f = f p
-stepThen (stop number) line f = turnedDown number line
+unfoldable pub step_then : Step → ℕ → (Plan → FileAnswer) → FileAnswer
+step_then (next p) line f = f p
+step_then (stop number) line f = turned_down number line
 
 -- the lines after the P line, from this line on
-unfoldable pub laterLines : Plan → ℕ → List (List ℕ) → FileAnswer
-laterLines p line [] = accepted p
-laterLines p line (l ∷ ls) = stepThen (laterLine p (row_of p.n l)) line (λ q. laterLines q (suc line) ls)
+unfoldable pub later_lines : Plan → ℕ → List (List ℕ) → FileAnswer
+later_lines p line [] = accepted p
+later_lines p line (l ∷ ls) = step_then (later_line p (row_of p.n l)) line (λ q. later_lines q (suc line) ls)
 
 -- the first line, before which no node is known, and the others
-unfoldable pub allLines : List (List ℕ) → FileAnswer
-allLines [] = turnedDown badForm 1
-allLines (l ∷ ls) = stepThen (firstLine (row_of 0 l)) 1 (λ p. laterLines p 2 ls)
+unfoldable pub all_lines : List (List ℕ) → FileAnswer
+all_lines [] = turned_down bad_form 1
+all_lines (l ∷ ls) = step_then (first_line (row_of 0 l)) 1 (λ p. later_lines p 2 ls)
 
 -- a file of a length that is allowed, line after line
-unfoldable pub fileOf : List ℕ → FileAnswer
-fileOf s = cond (within 1 mostBytes (length s)) (allLines (lines s)) (turnedDown badLength 0)
+unfoldable pub file_of : List ℕ → FileAnswer
+file_of s = cond (within 1 most_bytes (length s)) (all_lines (lines s)) (turned_down bad_length 0)

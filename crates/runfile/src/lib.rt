@@ -1,13 +1,13 @@
 // Run files: their reader, the numbers and rows of an accepted file, and their writer.
 ghost use Rattle.std.specs.Prelude.{◌≡◌, true, not, ◌&&◌, [], ◌∷◌, ◌++◌, ◌+◌, ◌<◌, ◌≤◌, drop, length};
 ghost use Rattle.ring.specs.Ring.{listed};
-ghost use Rattle.text.specs.Field.{field, lineFeed};
+ghost use Rattle.text.specs.Field.{field, line_feed};
 ghost use Rattle.text.specs.Put.{Put};
-ghost use Rattle.runfile.specs.Text.{letterQ, lineText, startText, crashText, delayText};
-ghost use Rattle.runfile.specs.File.{row_of, fileOf, allLines, lines, firstLine, laterLine, startLine, crashLine, delayLine, ringOf, crashOf, delayOf};
-ghost use Rattle.plans.specs.Plan.{startPlan};
-ghost use Rattle.runfile.specs.Reader.{read_of, lineAnswer, Tells, Passed, follows as Reader·follows, lineLength, entry_at, fields_at};
-ghost use Rattle.runfile.specs.Reader.{numbersThere, numbersAt, ringRefusal};
+ghost use Rattle.runfile.specs.Text.{letter_q, line_text, start_text, crash_text, delay_text};
+ghost use Rattle.runfile.specs.File.{row_of, file_of, all_lines, lines, first_line, later_line, start_line, crash_line, delay_line, ring_of, crash_of, delay_of};
+ghost use Rattle.plans.specs.Plan.{start_plan};
+ghost use Rattle.runfile.specs.Reader.{read_of, line_answer, Tells, Passed, follows as Reader·follows, line_length, entry_at, fields_at};
+ghost use Rattle.runfile.specs.Reader.{numbers_there, numbers_at, ring_refusal};
 
 use limits::{
     ACCEPTED, BAD_FORM, BAD_LENGTH, MANY_DELAYS, MOST_BYTES, MOST_D, MOST_DELAYS, MOST_H,
@@ -65,7 +65,7 @@ enum Line {
 
 // The values of a P line.
 fn take_start(n: u64, h: u64, w: u64, d: u64, end: u64) -> Line
-    ensures { result ≡ lineAnswer (startLine (startPlan n h w d end)) }
+    ensures { result ≡ line_answer (start_line (start_plan n h w d end)) }
 {
     let Ranged::Within(n) = text::in_range(n, 1, MOST_NODES as u64) else {
         return Line::Stop(OUT_OF_RANGE);
@@ -100,7 +100,7 @@ fn take_start(n: u64, h: u64, w: u64, d: u64, end: u64) -> Line
 
 // The first line, which is to be the P line.
 fn first_line(l: &[u8]) -> Line
-    ensures { result ≡ lineAnswer (firstLine (row_of 0 l.now)) }
+    ensures { result ≡ line_answer (first_line (row_of 0 l.now)) }
 {
     if l.len() == 0 {
         return Line::Stop(BAD_FORM);
@@ -145,7 +145,7 @@ fn follows(floor: u64, first: u64, tick: u64, node: u64) -> bool
 // A C line after those before it.
 fn take_crash(st: Sofar, tick: u64, node: u64) -> Line
     requires { (1 ≤ st.n) × (st.n ≤ 64) × (st.crashes < 65536) }
-    ensures { Tells st (λ p. crashLine p (record { tick = tick; node = node })) result }
+    ensures { Tells st (λ p. crash_line p (record { tick = tick; node = node })) result }
 {
     if st.delays != 0 {
         return Line::Stop(BAD_FORM);
@@ -180,7 +180,7 @@ fn take_crash(st: Sofar, tick: u64, node: u64) -> Line
 
 // An L line after those before it.
 fn take_delay(st: Sofar, number: u64, delay: u64) -> Line
-    ensures { Tells st (λ p. delayLine p (record { number = number; delay = delay })) result }
+    ensures { Tells st (λ p. delay_line p (record { number = number; delay = delay })) result }
 {
     let Ranged::Within(number) = text::in_range(number, 0, MOST_NUMBER) else {
         return Line::Stop(OUT_OF_RANGE);
@@ -212,7 +212,7 @@ fn take_delay(st: Sofar, number: u64, delay: u64) -> Line
 
 // Whether n numbers and the line's end follow the letter.
 fn has_numbers(l: &[u8], n: u64) -> bool
-    ensures { result ≡ numbersThere n l.now 1 }
+    ensures { result ≡ numbers_there n l.now 1 }
 {
     let mut left = n;
     let mut i: usize = 1;
@@ -238,8 +238,8 @@ fn still_once(once: bool, seen: u64, node: u8) -> bool
 
 // The number that refuses the n numbers after the letter, 0 where none does: first whether each is a node, then whether one stands twice.
 fn ring_refusal(l: &[u8], n: u64) -> u64
-    requires { (1 ≤ n) × (n ≤ 64) × (numbersThere n l.now 1 ≡ true) }
-    ensures { result ≡ ringRefusal n (numbersAt n l.now 1) }
+    requires { (1 ≤ n) × (n ≤ 64) × (numbers_there n l.now 1 ≡ true) }
+    ensures { result ≡ ring_refusal n (numbers_at n l.now 1) }
 {
     let mut seen: u64 = 0;
     let mut once = true;
@@ -266,9 +266,9 @@ fn ring_refusal(l: &[u8], n: u64) -> u64
 
 // A Q line of good form right after the P line.
 fn take_ring(st: Sofar, l: &[u8]) -> Line
-    requires le_n { (1 ≤ st.n) × (st.n ≤ 64) × (numbersThere st.n l.now 1 ≡ true) }
+    requires le_n { (1 ≤ st.n) × (st.n ≤ 64) × (numbers_there st.n l.now 1 ≡ true) }
     requires ring_value { (st.ring ≡ 0) × (st.crashes ≡ 0) × (st.delays ≡ 0) }
-    ensures { Tells st (λ p. laterLine p (ringOf p.n l.now)) result }
+    ensures { Tells st (λ p. later_line p (ring_of p.n l.now)) result }
 {
     let number = ring_refusal(l, st.n);
     if number != ACCEPTED {
@@ -293,7 +293,7 @@ fn take_ring(st: Sofar, l: &[u8]) -> Line
 // A Q line: right after the P line, N numbers and the line's end, then the numbers' ranges and each node once.
 fn ring_line(st: Sofar, l: &[u8]) -> Line
     requires { (1 ≤ st.n) × (st.n ≤ 64) }
-    ensures { Tells st (λ p. laterLine p (ringOf p.n l.now)) result }
+    ensures { Tells st (λ p. later_line p (ring_of p.n l.now)) result }
 {
     if st.ring != 0 {
         return Line::Stop(BAD_FORM);
@@ -313,7 +313,7 @@ fn ring_line(st: Sofar, l: &[u8]) -> Line
 // A C line: two numbers and the line's end.
 fn crash_line(st: Sofar, l: &[u8]) -> Line
     requires { (1 ≤ st.n) × (st.n ≤ 64) × (st.crashes < 65536) }
-    ensures { Tells st (λ p. laterLine p (crashOf l.now)) result }
+    ensures { Tells st (λ p. later_line p (crash_of l.now)) result }
 {
     let Number::Value(tick, i) = text::read_field(l, 1) else {
         return Line::Stop(BAD_FORM);
@@ -329,7 +329,7 @@ fn crash_line(st: Sofar, l: &[u8]) -> Line
 
 // An L line: two numbers and the line's end.
 fn delay_line(st: Sofar, l: &[u8]) -> Line
-    ensures { Tells st (λ p. laterLine p (delayOf l.now)) result }
+    ensures { Tells st (λ p. later_line p (delay_of l.now)) result }
 {
     let Number::Value(number, i) = text::read_field(l, 1) else {
         return Line::Stop(BAD_FORM);
@@ -346,7 +346,7 @@ fn delay_line(st: Sofar, l: &[u8]) -> Line
 // A line after the P line, by its letter.
 fn later_line(st: Sofar, l: &[u8]) -> Line
     requires { (1 ≤ st.n) × (st.n ≤ 64) × (st.crashes < 65536) }
-    ensures { Tells st (λ p. laterLine p (row_of p.n l.now)) result }
+    ensures { Tells st (λ p. later_line p (row_of p.n l.now)) result }
 {
     if l.len() == 0 {
         return Line::Stop(BAD_FORM);
@@ -363,7 +363,7 @@ fn later_line(st: Sofar, l: &[u8]) -> Line
 // The place after the line that starts at the place at.
 fn line_end(s: &[u8], at: usize) -> usize
     requires { at ≤ length s.now }
-    ensures { (result ≡ at + lineLength (drop at s.now)) × (result ≤ length s.now) }
+    ensures { (result ≡ at + line_length (drop at s.now)) × (result ≤ length s.now) }
 {
     let mut i = at;
     while i < s.len() {
@@ -378,7 +378,7 @@ fn line_end(s: &[u8], at: usize) -> usize
 // The lines after the P line, which ends at the place rows and of which first is kept.
 fn later_lines(s: &[u8], first: Sofar, rows: usize) -> Read
     requires { (length s.now ≤ 65536) × Passed s.now rows first 2 rows }
-    ensures { result ≡ read_of (allLines (lines s.now)) }
+    ensures { result ≡ read_of (all_lines (lines s.now)) }
 {
     let mut st = first;
     let mut line: u64 = 2;
@@ -412,7 +412,7 @@ fn later_lines(s: &[u8], first: Sofar, rows: usize) -> Read
 
 // What a file comes to: its length, then its lines one after another, the first bad line deciding.
 pub fn read_file(s: &[u8]) -> Read
-    ensures { result ≡ read_of (fileOf s.now) }
+    ensures { result ≡ read_of (file_of s.now) }
 {
     if s.len() == 0 {
         return Read::Refused(BAD_LENGTH, 0);
@@ -498,8 +498,8 @@ fn put_two(out: &mut [u8], at: usize, a: u64, b: u64) -> usize
 
 // A letter, two fields and a line feed.
 fn put_row(out: &mut [u8], at: usize, letter: u8, a: u64, b: u64) -> usize
-    requires { at + length (lineText letter (a ∷ b ∷ [])) ≤ length out.old }
-    ensures { Put out.old at (lineText letter (a ∷ b ∷ [])) result out.new }
+    requires { at + length (line_text letter (a ∷ b ∷ [])) ≤ length out.old }
+    ensures { Put out.old at (line_text letter (a ∷ b ∷ [])) result out.new }
 {
     let fields = text::put_byte(out, at, letter);
     let end = put_two(out, fields, a, b);
@@ -508,8 +508,8 @@ fn put_row(out: &mut [u8], at: usize, letter: u8, a: u64, b: u64) -> usize
 
 // A P line.
 pub fn put_start(out: &mut [u8], at: usize, n: u64, h: u64, w: u64, d: u64, end: u64) -> usize
-    requires { at + length (startText (startPlan n h w d end)) ≤ length out.old }
-    ensures { Put out.old at (startText (startPlan n h w d end)) result out.new }
+    requires { at + length (start_text (start_plan n h w d end)) ≤ length out.old }
+    ensures { Put out.old at (start_text (start_plan n h w d end)) result out.new }
 {
     let i = text::put_byte(out, at, b'P');
     let j = put_two(out, i, n, h);
@@ -522,8 +522,8 @@ pub fn put_start(out: &mut [u8], at: usize, n: u64, h: u64, w: u64, d: u64, end:
 
 // The letter.
 pub fn put_ring_letter(out: &mut [u8], at: usize) -> usize
-    requires { at + length (letterQ ∷ []) ≤ length out.old }
-    ensures { Put out.old at (letterQ ∷ []) result out.new }
+    requires { at + length (letter_q ∷ []) ≤ length out.old }
+    ensures { Put out.old at (letter_q ∷ []) result out.new }
 {
     text::put_byte(out, at, b'Q')
 }
@@ -538,24 +538,24 @@ pub fn put_ring_node(out: &mut [u8], at: usize, node: u64) -> usize
 
 // The end.
 pub fn put_ring_end(out: &mut [u8], at: usize) -> usize
-    requires { at + length (lineFeed ∷ []) ≤ length out.old }
-    ensures { Put out.old at (lineFeed ∷ []) result out.new }
+    requires { at + length (line_feed ∷ []) ≤ length out.old }
+    ensures { Put out.old at (line_feed ∷ []) result out.new }
 {
     text::put_byte(out, at, b'\n')
 }
 
 // A C line.
 pub fn put_crash(out: &mut [u8], at: usize, tick: u64, node: u64) -> usize
-    requires { at + length (crashText (record { tick = tick; node = node })) ≤ length out.old }
-    ensures { Put out.old at (crashText (record { tick = tick; node = node })) result out.new }
+    requires { at + length (crash_text (record { tick = tick; node = node })) ≤ length out.old }
+    ensures { Put out.old at (crash_text (record { tick = tick; node = node })) result out.new }
 {
     put_row(out, at, b'C', tick, node)
 }
 
 // An L line.
 pub fn put_delay(out: &mut [u8], at: usize, number: u64, delay: u64) -> usize
-    requires { at + length (delayText (record { number = number; delay = delay })) ≤ length out.old }
-    ensures { Put out.old at (delayText (record { number = number; delay = delay })) result out.new }
+    requires { at + length (delay_text (record { number = number; delay = delay })) ≤ length out.old }
+    ensures { Put out.old at (delay_text (record { number = number; delay = delay })) result out.new }
 {
     put_row(out, at, b'L', number, delay)
 }

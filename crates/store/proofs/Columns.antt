@@ -13,7 +13,7 @@ use lib.Seq.{length-take-le}
 use Rattle.fields.specs.Fields.{field_at, put_at, cleared}
 use Rattle.model.specs.Platform.{without}
 use Rattle.store.specs.Gap.{closed}
-use Rattle.store.specs.Columns.{Field, Column, withValues, cell, cellPut, cellOut, fieldCleared, numbersPut, size, used, packs, columnBytes, bytes_of}
+use Rattle.store.specs.Columns.{Field, Column, with_values, cell, cell_put, cell_out, field_cleared, numbers_put, size, used, packs, column_bytes, bytes_of}
 use Rattle.store.proofs.Parts.{cleared-part, length-packs, get-packs, put-packs, closed-packs, add-packs}
 
 pub length_without : {A : Type 0} (i : ℕ) (l : List A) → i < length l → suc (length (without i l)) ≡ length l
@@ -24,8 +24,8 @@ length_without i l h =
 
 -- ---- one column
 
-pub length-column : (c : Column) → length c.values ≤ c.field.places → length (columnBytes c) ≡ size c.field
-unfolding columnBytes
+pub length-column : (c : Column) → length c.values ≤ c.field.places → length (column_bytes c) ≡ size c.field
+unfolding column_bytes
 length-column c h =
     let w : ℕ = c.field.width in
     let le : w * length c.values ≤ w * c.field.places = mul-le-mul_left w h in
@@ -43,19 +43,19 @@ module _ (a z : List ℕ) (c : Column) (o : ℕ) (starts : length a ≡ o) where
   abbrev rest : ℕ → List ℕ
   rest n = replicate (size c.field - w * n) 0
 
-  get-column : (i : ℕ) → i < length xs → get_or xs i 0 < 256 ^ w → field_at (a ++ (columnBytes c ++ z)) (o + w * i) w ≡ get_or xs i 0
-  unfolding columnBytes
+  get-column : (i : ℕ) → i < length xs → get_or xs i 0 < 256 ^ w → field_at (a ++ (column_bytes c ++ z)) (o + w * i) w ≡ get_or xs i 0
+  unfolding column_bytes
   get-column i h fits = rw (append_assoc (packs w xs) (rest (length xs)) z) (get-packs w a (rest (length xs) ++ z) xs o i starts h fits)
 
-  put-column : (i x : ℕ) → i < length xs → put_at (a ++ (columnBytes c ++ z)) (o + w * i) w x ≡ a ++ (columnBytes (withValues c (set xs i x)) ++ z)
-  unfolding columnBytes
+  put-column : (i x : ℕ) → i < length xs → put_at (a ++ (column_bytes c ++ z)) (o + w * i) w x ≡ a ++ (column_bytes (with_values c (set xs i x)) ++ z)
+  unfolding column_bytes
   put-column i x h =
       rw (append_assoc (packs w xs) (rest (length xs)) z, append_assoc (packs w (set xs i x)) (rest (length (set xs i x))) z, length-set xs i x)
       (put-packs w a (rest (length xs) ++ z) xs o i starts h x)
 
   add-column : (x : ℕ) → length xs < c.field.places
-      → put_at (a ++ (columnBytes c ++ z)) (o + w * length xs) w x ≡ a ++ (columnBytes (withValues c (xs ++ (x ∷ []))) ++ z)
-  unfolding columnBytes
+      → put_at (a ++ (column_bytes c ++ z)) (o + w * length xs) w x ≡ a ++ (column_bytes (with_values c (xs ++ (x ∷ []))) ++ z)
+  unfolding column_bytes
   add-column x h =
       let n : ℕ = length xs in
       let le : w * suc n ≤ size c.field = mul-le-mul_left w h in
@@ -67,8 +67,8 @@ module _ (a z : List ℕ) (c : Column) (o : ℕ) (starts : length a ≡ o) where
       ∙ rw m (simp append_assoc)
 
   take-column : (i : ℕ) → i < length xs → length xs ≤ c.field.places
-      → closed (a ++ (columnBytes c ++ z)) (o + w * i) w (o + w * length xs) ≡ a ++ (columnBytes (withValues c (without i xs)) ++ z)
-  unfolding columnBytes
+      → closed (a ++ (column_bytes c ++ z)) (o + w * i) w (o + w * length xs) ≡ a ++ (column_bytes (with_values c (without i xs)) ++ z)
+  unfolding column_bytes
   take-column i h room =
       let n : ℕ = length xs in
       let m : ℕ = length (without i xs) in
@@ -81,8 +81,8 @@ module _ (a z : List ℕ) (c : Column) (o : ℕ) (starts : length a ≡ o) where
       ∙ closed-packs w a (rest n ++ z) xs o i starts h
       ∙ rw zs (simp append_assoc)
 
-  clear-column : length xs ≤ c.field.places → cleared (a ++ (columnBytes c ++ z)) o (o + used c) ≡ a ++ (columnBytes (withValues c []) ++ z)
-  unfolding columnBytes packs
+  clear-column : length xs ≤ c.field.places → cleared (a ++ (column_bytes c ++ z)) o (o + used c) ≡ a ++ (column_bytes (with_values c []) ++ z)
+  unfolding column_bytes packs
   clear-column room =
       let n : ℕ = length xs in
       let le : w * n ≤ size c.field = mul-le-mul_left w room in
@@ -102,7 +102,7 @@ Laid o (c ∷ cs) = (c.field.at ≡ o) × (length c.values ≤ c.field.places) �
 pub bytes-append : (cs ds : List Column) → bytes_of (cs ++ ds) ≡ bytes_of cs ++ bytes_of ds
 unfolding bytes_of
 bytes-append [] ds = refl
-bytes-append (c ∷ cs) ds = rw (bytes-append cs ds) (sym (append_assoc (columnBytes c) (bytes_of cs) (bytes_of ds)))
+bytes-append (c ∷ cs) ds = rw (bytes-append cs ds) (sym (append_assoc (column_bytes c) (bytes_of cs) (bytes_of ds)))
 
 -- column c, after the columns of front
 module _ (c : Column) (back : List Column) where
@@ -113,7 +113,7 @@ module _ (c : Column) (back : List Column) where
 
   -- other numbers in a column leave the columns laid
   pub laid-with : (front : List Column) (o : ℕ) (ys : List ℕ) → length ys ≤ c.field.places → Laid o (front ++ (c ∷ back))
-      → Laid o (front ++ (withValues c ys ∷ back))
+      → Laid o (front ++ (with_values c ys ∷ back))
   unfolding Laid
   laid-with [] o ys h l = (l.0, h, l.2)
   laid-with (d ∷ front) o ys h l = (l.0, l.1, laid-with front (o + size d.field) ys h l.2)
@@ -123,7 +123,7 @@ module _ (c : Column) (back : List Column) where
   front_ends [] o l = omega (arith, l.0)
   front_ends (d ∷ front) o l =
       let rec : o + size d.field + length (bytes_of front) ≡ c.field.at = front_ends front (o + size d.field) l.2 in
-      rw (length-append (columnBytes d) (bytes_of front), length-column d l.1) (omega arith)
+      rw (length-append (column_bytes d) (bytes_of front), length-column d l.1) (omega arith)
 
 -- columns that start at 0; column c among them
 module _ (front : List Column) (c : Column) (back : List Column) (laid : Laid 0 (front ++ (c ∷ back))) where
@@ -135,14 +135,14 @@ module _ (front : List Column) (c : Column) (back : List Column) (laid : Laid 0 
 
   -- the same columns with other numbers in c
   abbrev with : List ℕ → List Column
-  with ys = front ++ (withValues c ys ∷ back)
+  with ys = front ++ (with_values c ys ∷ back)
 
   starts : length (bytes_of front) ≡ at
   starts = let e : 0 + length (bytes_of front) ≡ at = front_ends c back front 0 laid in omega arith
 
-  around : (ys : List ℕ) → bytes_of (with ys) ≡ bytes_of front ++ (columnBytes (withValues c ys) ++ bytes_of back)
+  around : (ys : List ℕ) → bytes_of (with ys) ≡ bytes_of front ++ (column_bytes (with_values c ys) ++ bytes_of back)
   unfolding bytes_of
-  around ys = bytes-append front (withValues c ys ∷ back)
+  around ys = bytes-append front (with_values c ys ∷ back)
 
   -- the number at place i is got
   pub get-cell : (i : ℕ) → i < n → get_or c.values i 0 < 256 ^ c.field.width
@@ -150,30 +150,30 @@ module _ (front : List Column) (c : Column) (back : List Column) (laid : Laid 0 
   get-cell i h fits = rw (around c.values) (get-column (bytes_of front) (bytes_of back) c at starts i h fits)
 
   -- a number is put at place i
-  pub put-cell : (i x : ℕ) → i < n → cellPut (bytes_of (front ++ (c ∷ back))) c.field i x ≡ bytes_of (with (set c.values i x))
+  pub put-cell : (i x : ℕ) → i < n → cell_put (bytes_of (front ++ (c ∷ back))) c.field i x ≡ bytes_of (with (set c.values i x))
   put-cell i x h =
-      ap (λ (l : List ℕ). cellPut l c.field i x) (around c.values)
+      ap (λ (l : List ℕ). cell_put l c.field i x) (around c.values)
       ∙ put-column (bytes_of front) (bytes_of back) c at starts i x h
       ∙ sym (around (set c.values i x))
 
   -- a number is put after the last
-  pub add-cell : (x : ℕ) → n < c.field.places → cellPut (bytes_of (front ++ (c ∷ back))) c.field n x ≡ bytes_of (with (c.values ++ (x ∷ [])))
+  pub add-cell : (x : ℕ) → n < c.field.places → cell_put (bytes_of (front ++ (c ∷ back))) c.field n x ≡ bytes_of (with (c.values ++ (x ∷ [])))
   add-cell x h =
-      ap (λ (l : List ℕ). cellPut l c.field n x) (around c.values)
+      ap (λ (l : List ℕ). cell_put l c.field n x) (around c.values)
       ∙ add-column (bytes_of front) (bytes_of back) c at starts x h
       ∙ sym (around (c.values ++ (x ∷ [])))
 
   -- the number at place i is taken out, and those after it move down
-  pub take-cell : (i : ℕ) → i < n → cellOut (bytes_of (front ++ (c ∷ back))) c.field i n ≡ bytes_of (with (without i c.values))
+  pub take-cell : (i : ℕ) → i < n → cell_out (bytes_of (front ++ (c ∷ back))) c.field i n ≡ bytes_of (with (without i c.values))
   take-cell i h =
-      ap (λ (l : List ℕ). cellOut l c.field i n) (around c.values)
+      ap (λ (l : List ℕ). cell_out l c.field i n) (around c.values)
       ∙ take-column (bytes_of front) (bytes_of back) c at starts i h (laid-room c back front 0 laid)
       ∙ sym (around (without i c.values))
 
   -- all numbers are cleared away
-  pub clear-cells : fieldCleared (bytes_of (front ++ (c ∷ back))) c.field n ≡ bytes_of (with [])
+  pub clear-cells : field_cleared (bytes_of (front ++ (c ∷ back))) c.field n ≡ bytes_of (with [])
   clear-cells =
-      ap (λ (l : List ℕ). fieldCleared l c.field n) (around c.values)
+      ap (λ (l : List ℕ). field_cleared l c.field n) (around c.values)
       ∙ clear-column (bytes_of front) (bytes_of back) c at starts (laid-room c back front 0 laid)
       ∙ sym (around [])
 
@@ -182,52 +182,52 @@ module _ (front : List Column) (c : Column) (back : List Column) (laid : Laid 0 
 -- columns with another number in a field, which holds one
 unfoldable pub with_number : List Column → Field → ℕ → List Column
 with_number [] f x = []
-with_number (c ∷ cs) f x = cond (eqb c.field.at f.at) (withValues c (x ∷ []) ∷ cs) (c ∷ with_number cs f x)
+with_number (c ∷ cs) f x = cond (eqb c.field.at f.at) (with_values c (x ∷ []) ∷ cs) (c ∷ with_number cs f x)
 
-unfoldable pub hasNumber : List Column → Field → Bool
-hasNumber [] f = false
-hasNumber (c ∷ cs) f = cond (eqb c.field.at f.at) (eqb c.field.width f.width && eqb (length c.values) 1) (hasNumber cs f)
+unfoldable pub has_number : List Column → Field → Bool
+has_number [] f = false
+has_number (c ∷ cs) f = cond (eqb c.field.at f.at) (eqb c.field.width f.width && eqb (length c.values) 1) (has_number cs f)
 
 set-one : (xs : List ℕ) (x : ℕ) → length xs ≡ 1 → set xs 0 x ≡ x ∷ []
 set-one [] x h = absurd (omega arith)
 set-one (y ∷ []) x h = refl
 set-one (y ∷ z ∷ xs) x h = absurd (omega arith)
 
-pub number_put : (front cs : List Column) (f : Field) (x : ℕ) → hasNumber cs f ≡ true → Laid 0 (front ++ cs)
-    → (cellPut (bytes_of (front ++ cs)) f 0 x ≡ bytes_of (front ++ with_number cs f x)) × Laid 0 (front ++ with_number cs f x)
-unfolding hasNumber with_number
+pub number_put : (front cs : List Column) (f : Field) (x : ℕ) → has_number cs f ≡ true → Laid 0 (front ++ cs)
+    → (cell_put (bytes_of (front ++ cs)) f 0 x ≡ bytes_of (front ++ with_number cs f x)) × Laid 0 (front ++ with_number cs f x)
+unfolding has_number with_number
 number_put front [] f x h l = let z : ◌≡◌ {A = ℕ} 0 1 = cc in absurd (omega arith)
 number_put front (c ∷ cs) f x h l =
     go (eqb c.field.at f.at) refl (λ h. number_put (front ++ (c ∷ [])) cs f x h (rw (append_assoc front (c ∷ []) cs) l))
   where
     go : (t : Bool) → eqb c.field.at f.at ≡ t
-        → (hasNumber cs f ≡ true → (cellPut (bytes_of ((front ++ (c ∷ [])) ++ cs)) f 0 x ≡ bytes_of ((front ++ (c ∷ [])) ++ with_number cs f x))
+        → (has_number cs f ≡ true → (cell_put (bytes_of ((front ++ (c ∷ [])) ++ cs)) f 0 x ≡ bytes_of ((front ++ (c ∷ [])) ++ with_number cs f x))
         × Laid 0 ((front ++ (c ∷ [])) ++ with_number cs f x))
-        → (cellPut (bytes_of (front ++ (c ∷ cs))) f 0 x ≡ bytes_of (front ++ with_number (c ∷ cs) f x)) × Laid 0 (front ++ with_number (c ∷ cs) f x)
+        → (cell_put (bytes_of (front ++ (c ∷ cs))) f 0 x ≡ bytes_of (front ++ with_number (c ∷ cs) f x)) × Laid 0 (front ++ with_number (c ∷ cs) f x)
     go true e rec =
         let h' = (and-eq-true_iff (eqb c.field.width f.width) (eqb (length c.values) 1)).0 (rw e at h) in
         let at : c.field.at ≡ f.at = eqb-true c.field.at f.at e in
         let width : c.field.width ≡ f.width = eqb-true c.field.width f.width h'.0 in
         let one : length c.values ≡ 1 = eqb-true (length c.values) 1 h'.1 in
-        let put : put_at (bytes_of (front ++ (c ∷ cs))) (f.at + f.width * 0) f.width x ≡ bytes_of (front ++ (withValues c (x ∷ []) ∷ cs)) =
+        let put : put_at (bytes_of (front ++ (c ∷ cs))) (f.at + f.width * 0) f.width x ≡ bytes_of (front ++ (with_values c (x ∷ []) ∷ cs)) =
         rw (← at, ← width, ← set-one c.values x one) (put-cell front c cs l 0 x (omega arith)) in
         rw e (put, laid-with c cs front 0 (x ∷ []) (omega (arith, laid-room c cs front 0 l)) l)
     go false e rec = rw (e, ← append_assoc front (c ∷ []) cs, ← append_assoc front (c ∷ []) (with_number cs f x)) (rec (rw e at h))
 
 -- several of them, one after another
-unfoldable pub withNumbers : List Column → List (Field × ℕ) → List Column
-withNumbers cs [] = cs
-withNumbers cs (n ∷ ns) = withNumbers (with_number cs n.0 n.1) ns
+unfoldable pub with_numbers : List Column → List (Field × ℕ) → List Column
+with_numbers cs [] = cs
+with_numbers cs (n ∷ ns) = with_numbers (with_number cs n.0 n.1) ns
 
-unfoldable pub hasNumbers : List Column → List (Field × ℕ) → Bool
-hasNumbers cs [] = true
-hasNumbers cs (n ∷ ns) = hasNumber cs n.0 && hasNumbers (with_number cs n.0 n.1) ns
+unfoldable pub has_numbers : List Column → List (Field × ℕ) → Bool
+has_numbers cs [] = true
+has_numbers cs (n ∷ ns) = has_number cs n.0 && has_numbers (with_number cs n.0 n.1) ns
 
-pub numbers-put : (cs : List Column) (ns : List (Field × ℕ)) → hasNumbers cs ns ≡ true → Laid 0 cs
-    → numbersPut (bytes_of cs) ns ≡ bytes_of (withNumbers cs ns)
-unfolding hasNumbers withNumbers numbersPut
+pub numbers-put : (cs : List Column) (ns : List (Field × ℕ)) → has_numbers cs ns ≡ true → Laid 0 cs
+    → numbers_put (bytes_of cs) ns ≡ bytes_of (with_numbers cs ns)
+unfolding has_numbers with_numbers numbers_put
 numbers-put cs [] h l = refl
 numbers-put cs (n ∷ ns) h l =
-    let h' = (and-eq-true_iff (hasNumber cs n.0) (hasNumbers (with_number cs n.0 n.1) ns)).0 h in
+    let h' = (and-eq-true_iff (has_number cs n.0) (has_numbers (with_number cs n.0 n.1) ns)).0 h in
     let first = number_put [] cs n.0 n.1 h'.0 l in
-    ap (λ (b : List ℕ). numbersPut b ns) first.0 ∙ numbers-put (with_number cs n.0 n.1) ns h'.1 first.1
+    ap (λ (b : List ℕ). numbers_put b ns) first.0 ∙ numbers-put (with_number cs n.0 n.1) ns h'.1 first.1

@@ -9,11 +9,11 @@ use lib.ListN.{length, get_or, take}
 use lib.Seq.{take-suc}
 use Rattle.plans.proofs.Listed.{with-snoc}
 use Rattle.ring.specs.Ring.{listing}
-use Rattle.plans.specs.Plan.{Plan, Crash, planTest}
-use Rattle.model.specs.Platform.{crashedList}
-use Rattle.plans.specs.Plain.{noCrash, row_at}
-use Rattle.store.specs.Store.{planIn}
+use Rattle.plans.specs.Plan.{Plan, Crash, plan_test}
+use Rattle.model.specs.Platform.{crashed_list}
+use Rattle.plans.specs.Plain.{no_crash, row_at}
+use Rattle.store.specs.Store.{plan_in}
 
-pub crashed-next : (p : Plan) (i : ℕ) → i < length p.crashes → crashedList p (i + 1) ≡ listing (crashedList p i) (row_at p i).node
-unfolding crashedList
-crashed-next p i h = rw (add-one i, take-suc p.crashes i noCrash h) (with-snoc (take i p.crashes) 0 (row_at p i))
+pub crashed-next : (p : Plan) (i : ℕ) → i < length p.crashes → crashed_list p (i + 1) ≡ listing (crashed_list p i) (row_at p i).node
+unfolding crashed_list
+crashed-next p i h = rw (add-one i, take-suc p.crashes i no_crash h) (with-snoc (take i p.crashes) 0 (row_at p i))

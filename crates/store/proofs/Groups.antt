@@ -9,11 +9,11 @@ use borrow.Author.Tests.{eqb-true, leb-true, le-leb}
 use lib.Dec.{eqb, leb}
 use lib.ListN.{length, take, drop, get_or, set, length-map, length-set, length-append}
 use Rattle.model.specs.Platform.{without}
-use Rattle.store.specs.Columns.{Field, Column, cellPut, cellOut, fieldCleared, cell, bytes_of, roomTest, restZero, unusedTest}
-use Rattle.store.specs.Columns.{Part, columnOf, columnsOf, numbersOf, cellsAt, RowFits, RowsFit}
-use Rattle.store.specs.Columns.{eachPart, rowPut, rowOut, rowsCleared, placesTest, restTest}
+use Rattle.store.specs.Columns.{Field, Column, cell_put, cell_out, field_cleared, cell, bytes_of, room_test, rest_zero, unused_test}
+use Rattle.store.specs.Columns.{Part, column_of, columns_of, numbers_of, cells_at, RowFits, RowsFit}
+use Rattle.store.specs.Columns.{each_part, row_put, row_out, rows_cleared, places_test, rest_test}
 use Rattle.store.proofs.Columns.{Laid, laid-with, get-cell, put-cell, add-cell, take-cell, clear-cells}
-use Rattle.store.proofs.Columns.{length_without, hasNumber, with_number, number_put}
+use Rattle.store.proofs.Columns.{length_without, has_number, with_number, number_put}
 
 -- ---- a part of rows of which one is changed
 
@@ -43,89 +43,89 @@ module _ {A : Type 0} (f : A → ℕ) where
 module _ {A : Type 0} (change : List ℕ → Part A → List ℕ) (rows rows' : List A) where
   abbrev Changes : Part A → Type 0
   Changes g =
-      (front back : List Column) → length rows' ≤ g.field.places → Laid 0 (front ++ (columnOf rows g ∷ back))
-      → change (bytes_of (front ++ (columnOf rows g ∷ back))) g ≡ bytes_of (front ++ (columnOf rows' g ∷ back))
+      (front back : List Column) → length rows' ≤ g.field.places → Laid 0 (front ++ (column_of rows g ∷ back))
+      → change (bytes_of (front ++ (column_of rows g ∷ back))) g ≡ bytes_of (front ++ (column_of rows' g ∷ back))
 
   -- the bytes are those of the columns with rows', which start and end where they did
-  pub rows-changed : ((g : Part A) → Changes g) → (k : ℕ) (gs : List (Part A)) → placesTest k gs ≡ true → length rows' ≤ k
-      → (front back : List Column) → Laid 0 (front ++ (columnsOf gs rows ++ back))
-      → (eachPart change gs (bytes_of (front ++ (columnsOf gs rows ++ back))) ≡ bytes_of (front ++ (columnsOf gs rows' ++ back)))
-      × Laid 0 (front ++ (columnsOf gs rows' ++ back))
-  unfolding columnsOf eachPart placesTest
+  pub rows-changed : ((g : Part A) → Changes g) → (k : ℕ) (gs : List (Part A)) → places_test k gs ≡ true → length rows' ≤ k
+      → (front back : List Column) → Laid 0 (front ++ (columns_of gs rows ++ back))
+      → (each_part change gs (bytes_of (front ++ (columns_of gs rows ++ back))) ≡ bytes_of (front ++ (columns_of gs rows' ++ back)))
+      × Laid 0 (front ++ (columns_of gs rows' ++ back))
+  unfolding columns_of each_part places_test
   rows-changed one k [] h r front back l = (refl, l)
   rows-changed one k (g ∷ gs) h r front back l =
-      let h' = (and-eq-true_iff (eqb g.field.places k) (placesTest k gs)).0 h in
+      let h' = (and-eq-true_iff (eqb g.field.places k) (places_test k gs)).0 h in
       let places : g.field.places ≡ k = eqb-true g.field.places k h'.0 in
       let room : length rows' ≤ g.field.places = omega arith in
-      let c : Column = columnOf rows' g in
-      let rest : List Column = columnsOf gs rows ++ back in
-      let laid : Laid 0 (front ++ (c ∷ rest)) = laid-with (columnOf rows g) rest front 0 (map g.get rows') (rw (length-map rows' g.get) room) l in
+      let c : Column = column_of rows' g in
+      let rest : List Column = columns_of gs rows ++ back in
+      let laid : Laid 0 (front ++ (c ∷ rest)) = laid-with (column_of rows g) rest front 0 (map g.get rows') (rw (length-map rows' g.get) room) l in
       let split : (ds : List Column) → (front ++ (c ∷ [])) ++ ds ≡ front ++ (c ∷ ds) = λ ds. append_assoc front (c ∷ []) ds in
       let then = rows-changed one k gs h'.1 r (front ++ (c ∷ [])) back (rw (split rest) laid) in (
-        ap (eachPart change gs) (one g front rest room l ∙ ap bytes_of (sym (split rest))) ∙ then.0 ∙ ap bytes_of (split (columnsOf gs rows' ++ back)),
-        rw (split (columnsOf gs rows' ++ back)) at then.1,
+        ap (each_part change gs) (one g front rest room l ∙ ap bytes_of (sym (split rest))) ∙ then.0 ∙ ap bytes_of (split (columns_of gs rows' ++ back)),
+        rw (split (columns_of gs rows' ++ back)) at then.1,
       )
 
 -- parts of k places, whose columns stand between front and back
-module _ {A : Type 0} (k : ℕ) (gs : List (Part A)) (places : placesTest k gs ≡ true) (front back : List Column) (rows : List A)
-    (laid : Laid 0 (front ++ (columnsOf gs rows ++ back))) where
+module _ {A : Type 0} (k : ℕ) (gs : List (Part A)) (places : places_test k gs ≡ true) (front back : List Column) (rows : List A)
+    (laid : Laid 0 (front ++ (columns_of gs rows ++ back))) where
   abbrev with : List A → List Column
-  with l = front ++ (columnsOf gs l ++ back)
+  with l = front ++ (columns_of gs l ++ back)
 
   -- a row is put at place i
-  pub row_put : (i : ℕ) (r : A) → i < length rows → length rows ≤ k
-      → (rowPut gs (bytes_of (with rows)) i r ≡ bytes_of (with (set rows i r))) × Laid 0 (with (set rows i r))
-  row_put i r h room =
-      rows-changed (λ l g. cellPut l g.field i (g.get r)) rows (set rows i r) one k gs places (rw (length-set rows i r) room) front back laid
+  pub row-put : (i : ℕ) (r : A) → i < length rows → length rows ≤ k
+      → (row_put gs (bytes_of (with rows)) i r ≡ bytes_of (with (set rows i r))) × Laid 0 (with (set rows i r))
+  row-put i r h room =
+      rows-changed (λ l g. cell_put l g.field i (g.get r)) rows (set rows i r) one k gs places (rw (length-set rows i r) room) front back laid
     where
-      one : (g : Part A) → Changes (λ l g. cellPut l g.field i (g.get r)) rows (set rows i r) g
-      one g a z room l = rw (map-set g.get rows i r) (put-cell a (columnOf rows g) z l i (g.get r) (rw (length-map rows g.get) h))
+      one : (g : Part A) → Changes (λ l g. cell_put l g.field i (g.get r)) rows (set rows i r) g
+      one g a z room l = rw (map-set g.get rows i r) (put-cell a (column_of rows g) z l i (g.get r) (rw (length-map rows g.get) h))
 
   -- a row is put after the last
   pub row-added : (r : A) → length rows < k
-      → (rowPut gs (bytes_of (with rows)) (length rows) r ≡ bytes_of (with (rows ++ (r ∷ [])))) × Laid 0 (with (rows ++ (r ∷ [])))
+      → (row_put gs (bytes_of (with rows)) (length rows) r ≡ bytes_of (with (rows ++ (r ∷ [])))) × Laid 0 (with (rows ++ (r ∷ [])))
   row-added r h =
       let room : length (rows ++ (r ∷ [])) ≤ k = rw (length-append rows (r ∷ [])) (omega arith) in
-      rows-changed (λ l g. cellPut l g.field (length rows) (g.get r)) rows (rows ++ (r ∷ [])) one k gs places room front back laid
+      rows-changed (λ l g. cell_put l g.field (length rows) (g.get r)) rows (rows ++ (r ∷ [])) one k gs places room front back laid
     where
-      one : (g : Part A) → Changes (λ l g. cellPut l g.field (length rows) (g.get r)) rows (rows ++ (r ∷ [])) g
+      one : (g : Part A) → Changes (λ l g. cell_put l g.field (length rows) (g.get r)) rows (rows ++ (r ∷ [])) g
       one g a z room l =
           let e : length (map g.get rows) ≡ length rows = length-map rows g.get in
           let less : length (map g.get rows) < g.field.places = omega (arith, length-append rows (r ∷ [])) in
-          rw (map-append g.get rows (r ∷ []), ← e) (add-cell a (columnOf rows g) z l (g.get r) less)
+          rw (map-append g.get rows (r ∷ []), ← e) (add-cell a (column_of rows g) z l (g.get r) less)
 
   -- the row at place i is taken out, and those after it move down
-  pub row_out : (i : ℕ) → i < length rows → length rows ≤ k
-      → (rowOut gs (bytes_of (with rows)) i (length rows) ≡ bytes_of (with (without i rows))) × Laid 0 (with (without i rows))
-  row_out i h room =
+  pub row-out : (i : ℕ) → i < length rows → length rows ≤ k
+      → (row_out gs (bytes_of (with rows)) i (length rows) ≡ bytes_of (with (without i rows))) × Laid 0 (with (without i rows))
+  row-out i h room =
       let less : length (without i rows) ≤ k = omega (arith, length_without i rows h) in
-      rows-changed (λ l g. cellOut l g.field i (length rows)) rows (without i rows) one k gs places less front back laid
+      rows-changed (λ l g. cell_out l g.field i (length rows)) rows (without i rows) one k gs places less front back laid
     where
-      one : (g : Part A) → Changes (λ l g. cellOut l g.field i (length rows)) rows (without i rows) g
+      one : (g : Part A) → Changes (λ l g. cell_out l g.field i (length rows)) rows (without i rows) g
       one g a z room l =
           let e : length (map g.get rows) ≡ length rows = length-map rows g.get in
-          rw (map-without g.get i rows, ← e) (take-cell a (columnOf rows g) z l i (rw e h))
+          rw (map-without g.get i rows, ← e) (take-cell a (column_of rows g) z l i (rw e h))
 
   -- all rows are cleared away
-  pub rows-cleared : (rowsCleared gs (bytes_of (with rows)) (length rows) ≡ bytes_of (with [])) × Laid 0 (with [])
-  rows-cleared = rows-changed (λ l g. fieldCleared l g.field (length rows)) rows [] one k gs places (omega arith) front back laid
+  pub rows-cleared : (rows_cleared gs (bytes_of (with rows)) (length rows) ≡ bytes_of (with [])) × Laid 0 (with [])
+  rows-cleared = rows-changed (λ l g. field_cleared l g.field (length rows)) rows [] one k gs places (omega arith) front back laid
     where
-      one : (g : Part A) → Changes (λ l g. fieldCleared l g.field (length rows)) rows [] g
-      one g a z room l = let e : length (map g.get rows) ≡ length rows = length-map rows g.get in rw (← e) (clear-cells a (columnOf rows g) z l)
+      one : (g : Part A) → Changes (λ l g. field_cleared l g.field (length rows)) rows [] g
+      one g a z room l = let e : length (map g.get rows) ≡ length rows = length-map rows g.get in rw (← e) (clear-cells a (column_of rows g) z l)
 
   -- a row is put after the last, then the count of the rows
-  pub row-counted : (r : A) (count : Field) → length rows < k → hasNumber (with (rows ++ (r ∷ []))) count ≡ true
-      → cellPut (rowPut gs (bytes_of (with rows)) (length rows) r) count 0 (length rows + 1)
+  pub row-counted : (r : A) (count : Field) → length rows < k → has_number (with (rows ++ (r ∷ []))) count ≡ true
+      → cell_put (row_put gs (bytes_of (with rows)) (length rows) r) count 0 (length rows + 1)
       ≡ bytes_of (with_number (with (rows ++ (r ∷ []))) count (length rows + 1))
   row-counted r count h has =
       let added = row-added r h in
-      ap (λ (l : List ℕ). cellPut l count 0 (length rows + 1)) added.0
+      ap (λ (l : List ℕ). cell_put l count 0 (length rows + 1)) added.0
       ∙ (number_put [] (with (rows ++ (r ∷ []))) count (length rows + 1) has added.1).0
 
 -- parts that are changed one group after another
 pub each_append : {A : Type 0} (change : List ℕ → Part A → List ℕ) (gs hs : List (Part A)) (b : List ℕ)
-    → eachPart change (gs ++ hs) b ≡ eachPart change hs (eachPart change gs b)
-unfolding eachPart
+    → each_part change (gs ++ hs) b ≡ each_part change hs (each_part change gs b)
+unfolding each_part
 each_append change [] hs b = refl
 each_append change (g ∷ gs) hs b = each_append change gs hs (change b g)
 
@@ -137,14 +137,14 @@ get_d_part get (x ∷ l) zero z d h = refl
 get_d_part get (x ∷ l) (suc i) z d h = get_d_part get l i z d (omega arith)
 
 -- the cells at place i have the numbers of row i
-pub row_read : {A : Type 0} (gs : List (Part A)) (front back : List Column) (rows : List A) → Laid 0 (front ++ (columnsOf gs rows ++ back))
+pub row_read : {A : Type 0} (gs : List (Part A)) (front back : List Column) (rows : List A) → Laid 0 (front ++ (columns_of gs rows ++ back))
     → (i : ℕ) (d : A) → i < length rows → RowFits gs (get_or rows i d)
-    → cellsAt gs (bytes_of (front ++ (columnsOf gs rows ++ back))) i ≡ numbersOf gs (get_or rows i d)
-unfolding columnsOf cellsAt numbersOf RowFits
+    → cells_at gs (bytes_of (front ++ (columns_of gs rows ++ back))) i ≡ numbers_of gs (get_or rows i d)
+unfolding columns_of cells_at numbers_of RowFits
 row_read [] front back rows l i d h f = refl
 row_read (g ∷ gs) front back rows l i d h f =
-    let c : Column = columnOf rows g in
-    let after : List Column = columnsOf gs rows ++ back in
+    let c : Column = column_of rows g in
+    let after : List Column = columns_of gs rows ++ back in
     let value : get_or (map g.get rows) i 0 ≡ g.get (get_or rows i d) = get_d_part g.get rows i 0 d h in
     let one : cell (bytes_of (front ++ (c ∷ after))) g.field i ≡ g.get (get_or rows i d) =
     get-cell front c after l i (rw (length-map rows g.get) h) (rw value f.0) ∙ value in
@@ -199,40 +199,40 @@ and-group : (a b c : Bool) → (a && (b && c)) ≡ ((a && b) && c)
 and-group true b c = refl
 and-group false b c = refl
 
-pub room-append : (cs ds : List Column) → roomTest (cs ++ ds) ≡ (roomTest cs && roomTest ds)
-unfolding roomTest
+pub room-append : (cs ds : List Column) → room_test (cs ++ ds) ≡ (room_test cs && room_test ds)
+unfolding room_test
 room-append [] ds = refl
-room-append (c ∷ cs) ds = rw (room-append cs ds) (and-group (leb (length c.values) c.field.places) (roomTest cs) (roomTest ds))
+room-append (c ∷ cs) ds = rw (room-append cs ds) (and-group (leb (length c.values) c.field.places) (room_test cs) (room_test ds))
 
-pub unused-append : (b : List ℕ) (cs ds : List Column) → unusedTest b (cs ++ ds) ≡ (unusedTest b cs && unusedTest b ds)
-unfolding unusedTest
+pub unused-append : (b : List ℕ) (cs ds : List Column) → unused_test b (cs ++ ds) ≡ (unused_test b cs && unused_test b ds)
+unfolding unused_test
 unused-append b [] ds = refl
-unused-append b (c ∷ cs) ds = rw (unused-append b cs ds) (and-group (restZero b c.field (length c.values)) (unusedTest b cs) (unusedTest b ds))
+unused-append b (c ∷ cs) ds = rw (unused-append b cs ds) (and-group (rest_zero b c.field (length c.values)) (unused_test b cs) (unused_test b ds))
 
 module _ {A : Type 0} (rows : List A) where
   -- rows that are no more than the places of each part
-  pub room-rows : (k : ℕ) (gs : List (Part A)) → placesTest k gs ≡ true → length rows ≤ k → roomTest (columnsOf gs rows) ≡ true
-  unfolding roomTest columnsOf placesTest
+  pub room-rows : (k : ℕ) (gs : List (Part A)) → places_test k gs ≡ true → length rows ≤ k → room_test (columns_of gs rows) ≡ true
+  unfolding room_test columns_of places_test
   room-rows k [] h r = refl
   room-rows k (g ∷ gs) h r =
-      let h' = (and-eq-true_iff (eqb g.field.places k) (placesTest k gs)).0 h in
+      let h' = (and-eq-true_iff (eqb g.field.places k) (places_test k gs)).0 h in
       rw (eqb-true g.field.places k h'.0, length-map rows g.get, le-leb (length rows) k r, room-rows k gs h'.1 r)
 
   -- the test of one part is that of them all
-  pub rooms-test : (k : ℕ) (gs : List (Part A)) → placesTest k gs ≡ true → 0 < length gs → roomTest (columnsOf gs rows) ≡ leb (length rows) k
-  unfolding roomTest columnsOf placesTest
+  pub rooms-test : (k : ℕ) (gs : List (Part A)) → places_test k gs ≡ true → 0 < length gs → room_test (columns_of gs rows) ≡ leb (length rows) k
+  unfolding room_test columns_of places_test
   rooms-test k [] h some = absurd (omega arith)
   rooms-test k (g ∷ gs) h some =
-      let h' = (and-eq-true_iff (eqb g.field.places k) (placesTest k gs)).0 h in
+      let h' = (and-eq-true_iff (eqb g.field.places k) (places_test k gs)).0 h in
       rw (eqb-true g.field.places k h'.0, length-map rows g.get) (go (leb (length rows) k) refl h'.1)
     where
-      go : (t : Bool) → leb (length rows) k ≡ t → placesTest k gs ≡ true
-          → (leb (length rows) k && roomTest (map (columnOf rows) gs)) ≡ leb (length rows) k
+      go : (t : Bool) → leb (length rows) k ≡ t → places_test k gs ≡ true
+          → (leb (length rows) k && room_test (map (column_of rows) gs)) ≡ leb (length rows) k
       go true e h = rw (e, room-rows k gs h (leb-true (length rows) k e))
       go false e h = rw e
 
   -- what is unused follows from how many rows there are
-  pub rests-test : (b : List ℕ) (gs : List (Part A)) → unusedTest b (columnsOf gs rows) ≡ restTest gs b (length rows)
-  unfolding unusedTest columnsOf restTest
+  pub rests-test : (b : List ℕ) (gs : List (Part A)) → unused_test b (columns_of gs rows) ≡ rest_test gs b (length rows)
+  unfolding unused_test columns_of rest_test
   rests-test b [] = refl
   rests-test b (g ∷ gs) = rw (length-map rows g.get, rests-test b gs)

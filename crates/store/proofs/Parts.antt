@@ -10,7 +10,7 @@ use Rattle.fields.specs.Fields.{bytes, field_at, put_at, cleared}
 use Rattle.fields.proofs.Bytes.{length-bytes}
 use Rattle.fields.proofs.Fields.{put-eq, field-part}
 use Rattle.model.specs.Platform.{without}
-use Rattle.store.specs.Gap.{movedDown, closed}
+use Rattle.store.specs.Gap.{moved_down, closed}
 use Rattle.store.specs.Columns.{packs}
 
 -- a number of w bytes is put over b
@@ -24,7 +24,7 @@ put-part a b c o w x ha hb =
 -- of four lists in a row, the second is taken out
 pub closed_parts : (p q r t : List ℕ) (a by e : ℕ) → length p ≡ a → length q ≡ by → a + by + length r ≡ e
     → closed (p ++ (q ++ (r ++ t))) a by e ≡ p ++ (r ++ (replicate by 0 ++ t))
-unfolding closed cleared movedDown
+unfolding closed cleared moved_down
 closed_parts p q r t a by e hp hq he =
     let l : List ℕ = p ++ (q ++ (r ++ t)) in
     let n : e - (a + by) ≡ length r = omega arith in
@@ -32,7 +32,7 @@ closed_parts p q r t a by e hp hq he =
     let lpr : length (p ++ r) ≡ e - by = length-append p r ∙ omega arith in
     let tp : take a l ≡ p = take_at p (q ++ (r ++ t)) a hp in
     let dq : drop (a + by) l ≡ r ++ t = ap (drop (a + by)) (sym (append_assoc p q (r ++ t))) ∙ drop_at (p ++ q) (r ++ t) (a + by) lpq in
-    let mv : movedDown l a by e ≡ (p ++ r) ++ drop (a + length r) l =
+    let mv : moved_down l a by e ≡ (p ++ r) ++ drop (a + length r) l =
     rw (n, tp, dq, take_at r t (length r) refl) in
     let rest : drop e l ≡ t =
     ap (drop e) (simp append_assoc) ∙ drop_at ((p ++ q) ++ r) t e (length-append (p ++ q) r ∙ omega arith) in

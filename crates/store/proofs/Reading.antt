@@ -14,8 +14,8 @@ use Rattle.ring.proofs.Rows.{length-numbers}
 use Rattle.fields.specs.Fields.{zeros, field_at}
 use Rattle.fields.proofs.Zeros.{zeros-all}
 use Rattle.fields.proofs.Fields.{bytes-field, field_lt, field-none, field-more}
-use Rattle.store.specs.Columns.{Field, field, Column, cell, size, used, packs, columnBytes, bytes_of, joined, roomTest, unusedTest}
-use Rattle.store.specs.Columns.{Part, columnsOf, numbersOf, cellsAt, RowFits, RowsFit}
+use Rattle.store.specs.Columns.{Field, field, Column, cell, size, used, packs, column_bytes, bytes_of, joined, room_test, unused_test}
+use Rattle.store.specs.Columns.{Part, columns_of, numbers_of, cells_at, RowFits, RowsFit}
 use Rattle.store.proofs.Columns.{Laid, length-column}
 use Rattle.store.proofs.Groups.{get_d_part, row_read, fit_at, fit-each}
 
@@ -104,8 +104,8 @@ module _ (b : List ℕ) (byte : (i : ℕ) → get_or b i 0 < 256) where
   column-read : (c : Column) → length c.values ≤ c.field.places → c.field.at + size c.field ≤ length b
       → c.values ≡ map (cell b c.field) (numbers 0 (length c.values))
       → zeros (slice (c.field.at + used c) (c.field.at + size c.field) b) ≡ true
-      → columnBytes c ≡ take (size c.field) (drop c.field.at b)
-  unfolding columnBytes
+      → column_bytes c ≡ take (size c.field) (drop c.field.at b)
+  unfolding column_bytes
   column-read c room ends same zero_rest =
       let f : Field = c.field in
       let w : ℕ = f.width in
@@ -128,18 +128,18 @@ module _ (b : List ℕ) (byte : (i : ℕ) → get_or b i 0 < 256) where
       rw (t, p)
 
   -- columns that are read have the bytes they were read from
-  pub read_back : (cs : List Column) (o : ℕ) → joined o (length b) cs ≡ true → roomTest cs ≡ true → ReadFrom b cs → unusedTest b cs ≡ true
+  pub read_back : (cs : List Column) (o : ℕ) → joined o (length b) cs ≡ true → room_test cs ≡ true → ReadFrom b cs → unused_test b cs ≡ true
       → bytes_of cs ≡ drop o b
-  unfolding joined roomTest ReadFrom unusedTest bytes_of
+  unfolding joined room_test ReadFrom unused_test bytes_of
   read_back [] o j r h u = let e : o ≡ length b = eqb-true o (length b) j in rw e (sym (drop-length b))
   read_back (c ∷ cs) o j r h u =
       let f : Field = c.field in
       let j' = (and-eq-true_iff (eqb f.at o) (joined (o + size f) (length b) cs)).0 j in
-      let r' = (and-eq-true_iff (leb (length c.values) f.places) (roomTest cs)).0 r in
-      let u' = (and-eq-true_iff (zeros (slice (f.at + used c) (f.at + size f) b)) (unusedTest b cs)).0 u in
+      let r' = (and-eq-true_iff (leb (length c.values) f.places) (room_test cs)).0 r in
+      let u' = (and-eq-true_iff (zeros (slice (f.at + used c) (f.at + size f) b)) (unused_test b cs)).0 u in
       let at : f.at ≡ o = eqb-true f.at o j'.0 in
       let within : o + size f ≤ length b = joined-within cs (o + size f) (length b) j'.1 in
-      let first : columnBytes c ≡ take (size f) (drop o b) =
+      let first : column_bytes c ≡ take (size f) (drop o b) =
       column-read c (leb-true (length c.values) f.places r'.0) (omega arith) h.0 u'.0 ∙ rw at in
       rw (first, read_back cs (o + size f) j'.1 r'.1 h.1 u'.1, ← drop-drop (size f) o b) (take-append-drop (size f) (drop o b))
 
@@ -148,7 +148,7 @@ module _ (b : List ℕ) (byte : (i : ℕ) → get_or b i 0 < 256) where
 -- row i of those that are read has the numbers of the cells at i
 module _ {A : Type 0} (b : List ℕ) (rows : List A) (d : A) where
   abbrev Read : List (Part A) → Type 0
-  Read gs = (i : ℕ) → i < length rows → numbersOf gs (get_or rows i d) ≡ cellsAt gs b i
+  Read gs = (i : ℕ) → i < length rows → numbers_of gs (get_or rows i d) ≡ cells_at gs b i
 
   first : (x y : ℕ) (xs ys : List ℕ) → x ∷ xs ≡ y ∷ ys → x ≡ y
   first x y xs ys e = cc
@@ -156,8 +156,8 @@ module _ {A : Type 0} (b : List ℕ) (rows : List A) (d : A) where
   later : (x y : ℕ) (xs ys : List ℕ) → x ∷ xs ≡ y ∷ ys → xs ≡ ys
   later x y xs ys e = cc
 
-  pub columns-read : (gs : List (Part A)) (rest : List Column) → Read gs → ReadFrom b rest → ReadFrom b (columnsOf gs rows ++ rest)
-  unfolding ReadFrom columnsOf numbersOf cellsAt
+  pub columns-read : (gs : List (Part A)) (rest : List Column) → Read gs → ReadFrom b rest → ReadFrom b (columns_of gs rows ++ rest)
+  unfolding ReadFrom columns_of numbers_of cells_at
   columns-read [] rest h r = r
   columns-read (g ∷ gs) rest h r =
       let e : length (map g.get rows) ≡ length rows = length-map rows g.get in
@@ -167,17 +167,17 @@ module _ {A : Type 0} (b : List ℕ) (rows : List A) (d : A) where
 
   -- and its numbers fit
   pub rows-read-fit : ((i : ℕ) → get_or b i 0 < 256) → (gs : List (Part A)) → Read gs → RowsFit gs rows
-  unfolding numbersOf cellsAt RowFits
+  unfolding numbers_of cells_at RowFits
   rows-read-fit byte gs h = fit-each gs rows (λ i. d) (λ i k. fits gs (get_or rows i d) i (h i k))
     where
-      fits : (gs : List (Part A)) (r : A) (i : ℕ) → numbersOf gs r ≡ cellsAt gs b i → RowFits gs r
+      fits : (gs : List (Part A)) (r : A) (i : ℕ) → numbers_of gs r ≡ cells_at gs b i → RowFits gs r
       fits [] r i e = tt
       fits (g ∷ gs) r i e = (rw (first _ _ _ _ e) (field_lt b (g.field.at + g.field.width * i) g.field.width byte), fits gs r i (later _ _ _ _ e))
 
 -- columns among which are those of rows: the rows whose numbers are read one after another are those rows
-pub rows-read : {A : Type 0} (cs front back : List Column) (gs : List (Part A)) (rows : List A) → cs ≡ front ++ (columnsOf gs rows ++ back)
+pub rows-read : {A : Type 0} (cs front back : List Column) (gs : List (Part A)) (rows : List A) → cs ≡ front ++ (columns_of gs rows ++ back)
     → Laid 0 cs → RowsFit gs rows → (d : A) (row : ℕ → A)
-    → ((i : ℕ) → cellsAt gs (bytes_of cs) i ≡ numbersOf gs (get_or rows i d) → row i ≡ get_or rows i d)
+    → ((i : ℕ) → cells_at gs (bytes_of cs) i ≡ numbers_of gs (get_or rows i d) → row i ≡ get_or rows i d)
     → map row (numbers 0 (length rows)) ≡ rows
 rows-read cs front back gs rows split laid f d row same =
     made-rows row rows d (λ i h. same i (rw split (row_read gs front back rows (rw (← split) laid) i d h (fit_at gs rows i d f h))))
@@ -188,12 +188,12 @@ same_at e k = ap (λ (x : List ℕ). get_or x k 0) e
 
 -- ---- columns that have room
 
-pub columns-laid : (cs : List Column) (o e : ℕ) → joined o e cs ≡ true → roomTest cs ≡ true → Laid o cs
-unfolding joined roomTest Laid
+pub columns-laid : (cs : List Column) (o e : ℕ) → joined o e cs ≡ true → room_test cs ≡ true → Laid o cs
+unfolding joined room_test Laid
 columns-laid [] o e j r = tt
 columns-laid (c ∷ cs) o e j r =
     let j' = (and-eq-true_iff (eqb c.field.at o) (joined (o + size c.field) e cs)).0 j in
-    let r' = (and-eq-true_iff (leb (length c.values) c.field.places) (roomTest cs)).0 r in
+    let r' = (and-eq-true_iff (leb (length c.values) c.field.places) (room_test cs)).0 r in
     let rest : Laid (o + size c.field) cs = columns-laid cs (o + size c.field) e j'.1 r'.1 in
     (eqb-true c.field.at o j'.0, leb-true (length c.values) c.field.places r'.0, rest)
 
@@ -203,4 +203,4 @@ laid-length [] o e j l = omega (arith, eqb-true o e j)
 laid-length (c ∷ cs) o e j l =
     let j' = (and-eq-true_iff (eqb c.field.at o) (joined (o + size c.field) e cs)).0 j in
     let rec : o + size c.field + length (bytes_of cs) ≡ e = laid-length cs (o + size c.field) e j'.1 l.2 in
-    rw (length-append (columnBytes c) (bytes_of cs), length-column c l.1) (omega arith)
+    rw (length-append (column_bytes c) (bytes_of cs), length-column c l.1) (omega arith)

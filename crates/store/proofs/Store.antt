@@ -16,16 +16,16 @@ use Rattle.node.specs.declared.Node.{Node}
 use Rattle.plans.specs.Plan.{Plan, Crash, Delay}
 use Rattle.node.specs.Node.{alone}
 use Rattle.fields.specs.Fields.{field_at}
-use Rattle.model.specs.Platform.{State, InFlight, node_of, messageAt, noMessage}
+use Rattle.model.specs.Platform.{State, InFlight, node_of, message_at, no_message}
 use Rattle.plans.specs.Plain.{row_at}
-use Rattle.store.specs.Columns.{Column, unused, cell, number, joined, roomTest, unusedTest}
-use Rattle.store.specs.Columns.{columnsOf, numbersOf, cellsAt, RowFits, RowsFit, placesTest}
-use Rattle.limits.specs.Limits.{storeSize}
-use Rattle.store.specs.Store.{nodeCount, crashCount, delayCount, messageCount, ringSize, spareHead, ringNodes, spareTail}
-use Rattle.store.specs.Store.{emitters, observers, watches, heartbeats, deadLists, marks, crashTicks, crashNodes, delayNumbers, delayTicks}
-use Rattle.store.specs.Store.{messageNumbers, messageDues, messageKinds, messageSenders, messageReceivers, messageSubjects, messageLists}
-use Rattle.store.specs.Store.{Contents, contents, headParts, ringParts, nodeParts, crashParts, delayParts, timeParts, routeParts, messageParts}
-use Rattle.store.specs.Store.{columns, encode, nodeIn, crashRowIn, delayRowIn, messageIn, planIn, stateIn}
+use Rattle.store.specs.Columns.{Column, unused, cell, number, joined, room_test, unused_test}
+use Rattle.store.specs.Columns.{columns_of, numbers_of, cells_at, RowFits, RowsFit, places_test}
+use Rattle.limits.specs.Limits.{store_size}
+use Rattle.store.specs.Store.{node_count, crash_count, delay_count, message_count, ring_size, spare_head, ring_nodes, spare_tail}
+use Rattle.store.specs.Store.{emitters, observers, watches, heartbeats, dead_lists, marks, crash_ticks, crash_nodes, delay_numbers, delay_ticks}
+use Rattle.store.specs.Store.{message_numbers, message_dues, message_kinds, message_senders, message_receivers, message_subjects, message_lists}
+use Rattle.store.specs.Store.{Contents, contents, head_parts, ring_parts, node_parts, crash_parts, delay_parts, time_parts, route_parts, message_parts}
+use Rattle.store.specs.Store.{columns, encode, node_in, crash_row_in, delay_row_in, message_in, plan_in, state_in}
 use Rattle.store.specs.Inside.{Counts, Fits, Held}
 use Rattle.store.proofs.Columns.{Laid}
 use Rattle.store.proofs.Groups.{row_read, room-append, room-rows, rooms-test}
@@ -35,85 +35,85 @@ use Rattle.store.proofs.Reading.{columns-laid, laid-length, same_at}
 -- ---- the layout
 
 -- the fields of the layout stand one after another and fill the store
-pub placed : (p : Plan) (s : State) → joined 0 storeSize (columns p s) ≡ true
-unfolding columns columnsOf headParts ringParts nodeParts crashParts delayParts timeParts routeParts joined
+pub placed : (p : Plan) (s : State) → joined 0 store_size (columns p s) ≡ true
+unfolding columns columns_of head_parts ring_parts node_parts crash_parts delay_parts time_parts route_parts joined
 placed p s = refl
 
 -- the parts of each kind of row have as many places
-pub head-places : placesTest 1 headParts ≡ true
-unfolding placesTest headParts
+pub head-places : places_test 1 head_parts ≡ true
+unfolding places_test head_parts
 head-places = refl
 
-pub ring-places : placesTest 64 ringParts ≡ true
-unfolding placesTest ringParts
+pub ring-places : places_test 64 ring_parts ≡ true
+unfolding places_test ring_parts
 ring-places = refl
 
-pub node-places : placesTest 64 nodeParts ≡ true
-unfolding placesTest nodeParts
+pub node-places : places_test 64 node_parts ≡ true
+unfolding places_test node_parts
 node-places = refl
 
-pub crash-places : placesTest 64 crashParts ≡ true
-unfolding placesTest crashParts
+pub crash-places : places_test 64 crash_parts ≡ true
+unfolding places_test crash_parts
 crash-places = refl
 
-pub delay-places : placesTest 2048 delayParts ≡ true
-unfolding placesTest delayParts
+pub delay-places : places_test 2048 delay_parts ≡ true
+unfolding places_test delay_parts
 delay-places = refl
 
-pub message-places : placesTest 2048 messageParts ≡ true
-unfolding placesTest timeParts routeParts
+pub message-places : places_test 2048 message_parts ≡ true
+unfolding places_test time_parts route_parts
 message-places = refl
 
 module _ (p : Plan) (s : State) where
   -- the columns that stand before and after those of the Q line, of the nodes, of the C rows, of the L rows and of the messages
-  abbrev pub beforeRing : List Column
-  beforeRing = columnsOf headParts (contents p s ∷ []) ++ (unused spareHead ∷ [])
+  abbrev pub before_ring : List Column
+  before_ring = columns_of head_parts (contents p s ∷ []) ++ (unused spare_head ∷ [])
 
-  abbrev pub beforeNodes : List Column
-  beforeNodes = beforeRing ++ columnsOf ringParts p.ring
+  abbrev pub before_nodes : List Column
+  before_nodes = before_ring ++ columns_of ring_parts p.ring
 
-  abbrev pub beforeCrashes : List Column
-  beforeCrashes = beforeNodes ++ columnsOf nodeParts s.nodes
+  abbrev pub before_crashes : List Column
+  before_crashes = before_nodes ++ columns_of node_parts s.nodes
 
-  abbrev pub beforeDelays : List Column
-  beforeDelays = beforeCrashes ++ columnsOf crashParts p.crashes
+  abbrev pub before_delays : List Column
+  before_delays = before_crashes ++ columns_of crash_parts p.crashes
 
-  abbrev pub beforeMessages : List Column
-  beforeMessages = beforeDelays ++ columnsOf delayParts p.delays
+  abbrev pub before_messages : List Column
+  before_messages = before_delays ++ columns_of delay_parts p.delays
 
-  abbrev pub afterMessages : List Column
-  afterMessages = unused spareTail ∷ []
+  abbrev pub after_messages : List Column
+  after_messages = unused spare_tail ∷ []
 
-  abbrev pub afterDelays : List Column
-  afterDelays = columnsOf messageParts s.flight ++ afterMessages
+  abbrev pub after_delays : List Column
+  after_delays = columns_of message_parts s.flight ++ after_messages
 
-  abbrev pub afterCrashes : List Column
-  afterCrashes = columnsOf delayParts p.delays ++ afterDelays
+  abbrev pub after_crashes : List Column
+  after_crashes = columns_of delay_parts p.delays ++ after_delays
 
-  abbrev pub afterNodes : List Column
-  afterNodes = columnsOf crashParts p.crashes ++ afterCrashes
+  abbrev pub after_nodes : List Column
+  after_nodes = columns_of crash_parts p.crashes ++ after_crashes
 
-  abbrev pub afterRing : List Column
-  afterRing = columnsOf nodeParts s.nodes ++ afterNodes
+  abbrev pub after_ring : List Column
+  after_ring = columns_of node_parts s.nodes ++ after_nodes
 
-  pub at-ring : columns p s ≡ beforeRing ++ (columnsOf ringParts p.ring ++ afterRing)
-  unfolding columns columnsOf headParts
+  pub at-ring : columns p s ≡ before_ring ++ (columns_of ring_parts p.ring ++ after_ring)
+  unfolding columns columns_of head_parts
   at-ring = refl
 
-  pub at-nodes : columns p s ≡ beforeNodes ++ (columnsOf nodeParts s.nodes ++ afterNodes)
-  unfolding columns columnsOf headParts ringParts
+  pub at-nodes : columns p s ≡ before_nodes ++ (columns_of node_parts s.nodes ++ after_nodes)
+  unfolding columns columns_of head_parts ring_parts
   at-nodes = refl
 
-  pub at-crashes : columns p s ≡ beforeCrashes ++ (columnsOf crashParts p.crashes ++ afterCrashes)
-  unfolding columns columnsOf headParts ringParts nodeParts
+  pub at-crashes : columns p s ≡ before_crashes ++ (columns_of crash_parts p.crashes ++ after_crashes)
+  unfolding columns columns_of head_parts ring_parts node_parts
   at-crashes = refl
 
-  pub at-delays : columns p s ≡ beforeDelays ++ (columnsOf delayParts p.delays ++ afterDelays)
-  unfolding columns columnsOf headParts ringParts nodeParts crashParts
+  pub at-delays : columns p s ≡ before_delays ++ (columns_of delay_parts p.delays ++ after_delays)
+  unfolding columns columns_of head_parts ring_parts node_parts crash_parts
   at-delays = refl
 
-  pub at-messages : columns p s ≡ beforeMessages ++ (columnsOf messageParts s.flight ++ afterMessages)
-  unfolding columns columnsOf headParts ringParts nodeParts crashParts delayParts
+  pub at-messages : columns p s ≡ before_messages ++ (columns_of message_parts s.flight ++ after_messages)
+  unfolding columns columns_of head_parts ring_parts node_parts crash_parts delay_parts
   at-messages = refl
 
   -- ---- room
@@ -123,38 +123,38 @@ module _ (p : Plan) (s : State) where
       leb (length p.ring) 64
       && (leb (length s.nodes) 64 && (leb (length p.crashes) 64 && (leb (length p.delays) 2048 && leb (length s.flight) 2048)))
 
-  ring-room : roomTest (columnsOf ringParts p.ring) ≡ leb (length p.ring) 64
-  unfolding ringParts
-  ring-room = rooms-test p.ring 64 ringParts ring-places (lit< tt)
+  ring-room : room_test (columns_of ring_parts p.ring) ≡ leb (length p.ring) 64
+  unfolding ring_parts
+  ring-room = rooms-test p.ring 64 ring_parts ring-places (lit< tt)
 
-  nodes-room : roomTest (columnsOf nodeParts s.nodes) ≡ leb (length s.nodes) 64
-  unfolding nodeParts
-  nodes-room = rooms-test s.nodes 64 nodeParts node-places (lit< tt)
+  nodes-room : room_test (columns_of node_parts s.nodes) ≡ leb (length s.nodes) 64
+  unfolding node_parts
+  nodes-room = rooms-test s.nodes 64 node_parts node-places (lit< tt)
 
-  crashes-room : roomTest (columnsOf crashParts p.crashes) ≡ leb (length p.crashes) 64
-  unfolding crashParts
-  crashes-room = rooms-test p.crashes 64 crashParts crash-places (lit< tt)
+  crashes-room : room_test (columns_of crash_parts p.crashes) ≡ leb (length p.crashes) 64
+  unfolding crash_parts
+  crashes-room = rooms-test p.crashes 64 crash_parts crash-places (lit< tt)
 
-  delays-room : roomTest (columnsOf delayParts p.delays) ≡ leb (length p.delays) 2048
-  unfolding delayParts
-  delays-room = rooms-test p.delays 2048 delayParts delay-places (lit< tt)
+  delays-room : room_test (columns_of delay_parts p.delays) ≡ leb (length p.delays) 2048
+  unfolding delay_parts
+  delays-room = rooms-test p.delays 2048 delay_parts delay-places (lit< tt)
 
-  messages-room : roomTest (columnsOf messageParts s.flight) ≡ leb (length s.flight) 2048
-  unfolding timeParts routeParts
-  messages-room = rooms-test s.flight 2048 messageParts message-places (lit< tt)
+  messages-room : room_test (columns_of message_parts s.flight) ≡ leb (length s.flight) 2048
+  unfolding time_parts route_parts
+  messages-room = rooms-test s.flight 2048 message_parts message-places (lit< tt)
 
-  pub room-parts : roomTest (columns p s) ≡ rooms
-  unfolding columns roomTest
+  pub room-parts : room_test (columns p s) ≡ rooms
+  unfolding columns room_test
   room-parts =
       rw (
-        room-append (columnsOf headParts (contents p s ∷ [])),
-        room-rows (contents p s ∷ []) 1 headParts head-places (lit< tt),
-        room-append (columnsOf ringParts p.ring),
-        room-append (columnsOf nodeParts s.nodes),
-        room-append (columnsOf crashParts p.crashes),
-        room-append (columnsOf delayParts p.delays),
-        room-append (columnsOf messageParts s.flight),
-        and-true (roomTest (columnsOf messageParts s.flight)),
+        room-append (columns_of head_parts (contents p s ∷ [])),
+        room-rows (contents p s ∷ []) 1 head_parts head-places (lit< tt),
+        room-append (columns_of ring_parts p.ring),
+        room-append (columns_of node_parts s.nodes),
+        room-append (columns_of crash_parts p.crashes),
+        room-append (columns_of delay_parts p.delays),
+        room-append (columns_of message_parts s.flight),
+        and-true (room_test (columns_of message_parts s.flight)),
         ring-room,
         nodes-room,
         crashes-room,
@@ -165,15 +165,15 @@ module _ (p : Plan) (s : State) where
   -- no more nodes, rows and messages than there are places
   counts-room : length p.ring ≤ 64 → length s.nodes ≤ 64 → length p.crashes ≤ 64 → length p.delays ≤ 2048
       → length s.flight ≤ 2048
-      → roomTest (columns p s) ≡ true
+      → room_test (columns p s) ≡ true
   counts-room r n c l m = rw (room-parts, le-leb _ 64 r, le-leb _ 64 n, le-leb _ 64 c, le-leb _ 2048 l, le-leb _ 2048 m)
 
   pub room-laid : length p.ring ≤ 64 → length s.nodes ≤ 64 → length p.crashes ≤ 64 → length p.delays ≤ 2048
       → length s.flight ≤ 2048
       → Laid 0 (columns p s)
-  room-laid r n c l m = columns-laid (columns p s) 0 storeSize (placed p s) (counts-room r n c l m)
+  room-laid r n c l m = columns-laid (columns p s) 0 store_size (placed p s) (counts-room r n c l m)
 
-  pub room-counts : length s.nodes ≡ p.n → roomTest (columns p s) ≡ true → Counts p s
+  pub room-counts : length s.nodes ≡ p.n → room_test (columns p s) ≡ true → Counts p s
   room-counts e room =
       let ring = (and-eq-true_iff (leb (length p.ring) 64) _).0 (sym room-parts ∙ room) in
       let nodes = (and-eq-true_iff (leb (length s.nodes) 64) _).0 ring.1 in
@@ -188,229 +188,229 @@ module _ (p : Plan) (s : State) where
       }
 
   module _ (f : Fits p s) where
-    pub room-encode : roomTest (columns p s) ≡ true
+    pub room-encode : room_test (columns p s) ≡ true
     room-encode = let c = f.counts in counts-room c.ring (omega (arith, f.nodes)) c.crashes c.delays c.messages
 
     pub laid : Laid 0 (columns p s)
-    laid = columns-laid (columns p s) 0 storeSize (placed p s) room-encode
+    laid = columns-laid (columns p s) 0 store_size (placed p s) room-encode
 
-    pub length-encode : length (encode p s) ≡ storeSize
+    pub length-encode : length (encode p s) ≡ store_size
     unfolding encode
-    length-encode = omega (arith, laid-length (columns p s) 0 storeSize (placed p s) laid)
+    length-encode = omega (arith, laid-length (columns p s) 0 store_size (placed p s) laid)
 
     abbrev b : List ℕ
     b = encode p s
 
     -- ---- what was encoded is read
 
-    head_read : cellsAt headParts b 0 ≡ numbersOf headParts (contents p s)
+    head_read : cells_at head_parts b 0 ≡ numbers_of head_parts (contents p s)
     unfolding encode columns
     head_read =
-        let back : List Column = unused spareHead ∷ (columnsOf ringParts p.ring ++ afterRing) in
-        row_read headParts [] back (contents p s ∷ []) laid 0 (contents p s) (lit< tt) f.head
+        let back : List Column = unused spare_head ∷ (columns_of ring_parts p.ring ++ after_ring) in
+        row_read head_parts [] back (contents p s ∷ []) laid 0 (contents p s) (lit< tt) f.head
 
     -- the number of the head's part k
-    read : (k : ℕ) → get_or (cellsAt headParts b 0) k 0 ≡ get_or (numbersOf headParts (contents p s)) k 0
+    read : (k : ℕ) → get_or (cells_at head_parts b 0) k 0 ≡ get_or (numbers_of head_parts (contents p s)) k 0
     read = same_at head_read
 
-    ring-read : map (cell b ringNodes) (numbers 0 (length p.ring)) ≡ p.ring
-    unfolding encode cellsAt numbersOf ringParts
+    ring-read : map (cell b ring_nodes) (numbers 0 (length p.ring)) ≡ p.ring
+    unfolding encode cells_at numbers_of ring_parts
     ring-read =
-        rows-read (columns p s) beforeRing afterRing ringParts p.ring at-ring laid f.ringRows 0 (cell b ringNodes) (λ i e. same_at e 0)
+        rows-read (columns p s) before_ring after_ring ring_parts p.ring at-ring laid f.ring_rows 0 (cell b ring_nodes) (λ i e. same_at e 0)
 
-    nodes-read : map (nodeIn b) (numbers 0 (length s.nodes)) ≡ s.nodes
-    unfolding encode cellsAt numbersOf nodeParts
+    nodes-read : map (node_in b) (numbers 0 (length s.nodes)) ≡ s.nodes
+    unfolding encode cells_at numbers_of node_parts
     nodes-read =
         let d : Node = record { emitter = 0; observer = 0; watch = 0; heartbeat = 0; list = 0; mark = 0 } in
-        rows-read (columns p s) beforeNodes afterNodes nodeParts s.nodes at-nodes laid f.nodeRows d (nodeIn b)
+        rows-read (columns p s) before_nodes after_nodes node_parts s.nodes at-nodes laid f.node_rows d (node_in b)
         (λ i e. rw (same_at e 0, same_at e 1, same_at e 2, same_at e 3, same_at e 4, same_at e 5))
 
-    crashes-read : map (crashRowIn b) (numbers 0 (length p.crashes)) ≡ p.crashes
-    unfolding encode cellsAt numbersOf crashParts
+    crashes-read : map (crash_row_in b) (numbers 0 (length p.crashes)) ≡ p.crashes
+    unfolding encode cells_at numbers_of crash_parts
     crashes-read =
         let d : Crash = record { tick = 0; node = 0 } in
-        rows-read (columns p s) beforeCrashes afterCrashes crashParts p.crashes at-crashes laid f.crashRows d (crashRowIn b)
+        rows-read (columns p s) before_crashes after_crashes crash_parts p.crashes at-crashes laid f.crash_rows d (crash_row_in b)
         (λ i e. rw (same_at e 0, same_at e 1))
 
-    delays-read : map (delayRowIn b) (numbers 0 (length p.delays)) ≡ p.delays
-    unfolding encode cellsAt numbersOf delayParts
+    delays-read : map (delay_row_in b) (numbers 0 (length p.delays)) ≡ p.delays
+    unfolding encode cells_at numbers_of delay_parts
     delays-read =
         let d : Delay = record { number = 0; delay = 0 } in
-        rows-read (columns p s) beforeDelays afterDelays delayParts p.delays at-delays laid f.delayRows d (delayRowIn b)
+        rows-read (columns p s) before_delays after_delays delay_parts p.delays at-delays laid f.delay_rows d (delay_row_in b)
         (λ i e. rw (same_at e 0, same_at e 1))
 
-    messages-read : map (messageIn b) (numbers 0 (length s.flight)) ≡ s.flight
-    unfolding encode cellsAt numbersOf timeParts routeParts
+    messages-read : map (message_in b) (numbers 0 (length s.flight)) ≡ s.flight
+    unfolding encode cells_at numbers_of time_parts route_parts
     messages-read =
         let d : InFlight = record { number = 0; kind = 0; from = 0; to = 0; subject = 0; due = 0; list = 0 } in
-        rows-read (columns p s) beforeMessages afterMessages messageParts s.flight at-messages laid f.messageRows d (messageIn b)
+        rows-read (columns p s) before_messages after_messages message_parts s.flight at-messages laid f.message_rows d (message_in b)
         (λ i e. rw (same_at e 0, same_at e 1, same_at e 2, same_at e 3, same_at e 4, same_at e 5, same_at e 6))
 
     -- what was encoded is what the bytes hold
-    pub plan-encode : planIn (encode p s) ≡ p
-    unfolding planIn cellsAt numbersOf headParts
+    pub plan-encode : plan_in (encode p s) ≡ p
+    unfolding plan_in cells_at numbers_of head_parts
     plan-encode = rw (read 0, read 1, read 2, read 3, read 4, read 6, read 9, read 11, ring-read, crashes-read, delays-read)
 
-    pub state-encode : stateIn (encode p s) ≡ s
-    unfolding stateIn cellsAt numbersOf headParts
+    pub state-encode : state_in (encode p s) ≡ s
+    unfolding state_in cells_at numbers_of head_parts
     state-encode =
-        let count : number b nodeCount ≡ length s.nodes = read 0 ∙ sym f.nodes in
+        let count : number b node_count ≡ length s.nodes = read 0 ∙ sym f.nodes in
         rw (count, read 5, read 7, read 8, read 10, nodes-read, messages-read)
 
     pub held-encode : Held (encode p s)
     held-encode = record { size = length-encode; canonical = rw (plan-encode, state-encode); fits = rw (plan-encode, state-encode) f }
 
 -- a store's count of crash rows done fits its byte
-pub done-lt : (b : List ℕ) → Held b → (stateIn b).done < 256
-unfolding RowFits headParts
+pub done-lt : (b : List ℕ) → Held b → (state_in b).done < 256
+unfolding RowFits head_parts
 done-lt b v = let h = v.fits.head in search rules
 
 -- ---- bytes that are read
 
 module _ (b : List ℕ) where
-  pub length-nodes : length (stateIn b).nodes ≡ (planIn b).n
-  unfolding stateIn planIn
-  length-nodes = length-made (nodeIn b) (number b nodeCount)
+  pub length-nodes : length (state_in b).nodes ≡ (plan_in b).n
+  unfolding state_in plan_in
+  length-nodes = length-made (node_in b) (number b node_count)
 
   -- the counts
-  pub ring-counted : length (planIn b).ring ≡ number b ringSize
-  unfolding planIn
-  ring-counted = length-made (cell b ringNodes) (number b ringSize)
+  pub ring-counted : length (plan_in b).ring ≡ number b ring_size
+  unfolding plan_in
+  ring-counted = length-made (cell b ring_nodes) (number b ring_size)
 
-  pub crashes-counted : length (planIn b).crashes ≡ number b crashCount
-  unfolding planIn
-  crashes-counted = length-made (crashRowIn b) (number b crashCount)
+  pub crashes-counted : length (plan_in b).crashes ≡ number b crash_count
+  unfolding plan_in
+  crashes-counted = length-made (crash_row_in b) (number b crash_count)
 
-  pub delays-counted : length (planIn b).delays ≡ number b delayCount
-  unfolding planIn
-  delays-counted = length-made (delayRowIn b) (number b delayCount)
+  pub delays-counted : length (plan_in b).delays ≡ number b delay_count
+  unfolding plan_in
+  delays-counted = length-made (delay_row_in b) (number b delay_count)
 
-  pub messages-counted : length (stateIn b).flight ≡ number b messageCount
-  unfolding stateIn
-  messages-counted = length-made (messageIn b) (number b messageCount)
+  pub messages-counted : length (state_in b).flight ≡ number b message_count
+  unfolding state_in
+  messages-counted = length-made (message_in b) (number b message_count)
 
   -- the row at a place, by the bytes of its fields
-  pub node-read : (i : ℕ) → i < (planIn b).n
-      → node_of (stateIn b) i
+  pub node-read : (i : ℕ) → i < (plan_in b).n
+      → node_of (state_in b) i
       ≡ record {
         emitter = field_at b (emitters.at + i) 1;
         observer = field_at b (observers.at + i) 1;
         watch = cell b watches i;
         heartbeat = cell b heartbeats i;
-        list = cell b deadLists i;
+        list = cell b dead_lists i;
         mark = cell b marks i;
       }
-  unfolding planIn stateIn
-  node-read i h = row_made (nodeIn b) (number b nodeCount) i (alone i 0 0) h ∙ rw (one-mul i)
+  unfolding plan_in state_in
+  node-read i h = row_made (node_in b) (number b node_count) i (alone i 0 0) h ∙ rw (one-mul i)
 
-  pub ring-number : (i : ℕ) → i < length (planIn b).ring → get_or (planIn b).ring i 0 ≡ field_at b (ringNodes.at + i) 1
-  unfolding planIn
+  pub ring-number : (i : ℕ) → i < length (plan_in b).ring → get_or (plan_in b).ring i 0 ≡ field_at b (ring_nodes.at + i) 1
+  unfolding plan_in
   ring-number i h =
-      let k : i < number b ringSize = omega (arith, ring-counted) in
-      row_made (cell b ringNodes) (number b ringSize) i 0 k ∙ rw (one-mul i)
+      let k : i < number b ring_size = omega (arith, ring-counted) in
+      row_made (cell b ring_nodes) (number b ring_size) i 0 k ∙ rw (one-mul i)
 
   -- they are the store's own bytes
-  pub ring-part : ringNodes.at + number b ringSize ≤ length b → (planIn b).ring ≡ slice ringNodes.at (ringNodes.at + number b ringSize) b
-  unfolding planIn
-  ring-part h = bytes_read b ringNodes.at ringNodes.places (number b ringSize) h
+  pub ring-part : ring_nodes.at + number b ring_size ≤ length b → (plan_in b).ring ≡ slice ring_nodes.at (ring_nodes.at + number b ring_size) b
+  unfolding plan_in
+  ring-part h = bytes_read b ring_nodes.at ring_nodes.places (number b ring_size) h
 
-  pub crash-read : (i : ℕ) → i < length (planIn b).crashes
-      → row_at (planIn b) i ≡ record { tick = cell b crashTicks i; node = field_at b (crashNodes.at + i) 1 }
-  unfolding planIn
+  pub crash-read : (i : ℕ) → i < length (plan_in b).crashes
+      → row_at (plan_in b) i ≡ record { tick = cell b crash_ticks i; node = field_at b (crash_nodes.at + i) 1 }
+  unfolding plan_in
   crash-read i h =
-      let k : i < number b crashCount = omega (arith, crashes-counted) in
-      row_made (crashRowIn b) (number b crashCount) i (record { tick = 0; node = 0 }) k ∙ rw (one-mul i)
+      let k : i < number b crash_count = omega (arith, crashes-counted) in
+      row_made (crash_row_in b) (number b crash_count) i (record { tick = 0; node = 0 }) k ∙ rw (one-mul i)
 
-  pub delay-read : (i : ℕ) → i < length (planIn b).delays
-      → get_or (planIn b).delays i (record { number = 0; delay = 0 }) ≡ record { number = cell b delayNumbers i; delay = field_at b (delayTicks.at + i) 1 }
-  unfolding planIn
+  pub delay-read : (i : ℕ) → i < length (plan_in b).delays
+      → get_or (plan_in b).delays i (record { number = 0; delay = 0 }) ≡ record { number = cell b delay_numbers i; delay = field_at b (delay_ticks.at + i) 1 }
+  unfolding plan_in
   delay-read i h =
-      let k : i < number b delayCount = omega (arith, delays-counted) in
-      row_made (delayRowIn b) (number b delayCount) i (record { number = 0; delay = 0 }) k ∙ rw (one-mul i)
+      let k : i < number b delay_count = omega (arith, delays-counted) in
+      row_made (delay_row_in b) (number b delay_count) i (record { number = 0; delay = 0 }) k ∙ rw (one-mul i)
 
-  pub message-read : (i : ℕ) → i < length (stateIn b).flight
-      → messageAt (stateIn b) i
+  pub message-read : (i : ℕ) → i < length (state_in b).flight
+      → message_at (state_in b) i
       ≡ record {
-        number = cell b messageNumbers i;
-        kind = field_at b (messageKinds.at + i) 1;
-        from = field_at b (messageSenders.at + i) 1;
-        to = field_at b (messageReceivers.at + i) 1;
-        subject = field_at b (messageSubjects.at + i) 1;
-        due = cell b messageDues i;
-        list = cell b messageLists i;
+        number = cell b message_numbers i;
+        kind = field_at b (message_kinds.at + i) 1;
+        from = field_at b (message_senders.at + i) 1;
+        to = field_at b (message_receivers.at + i) 1;
+        subject = field_at b (message_subjects.at + i) 1;
+        due = cell b message_dues i;
+        list = cell b message_lists i;
       }
-  unfolding stateIn
+  unfolding state_in
   message-read i h =
-      let k : i < number b messageCount = omega (arith, messages-counted) in
-      row_made (messageIn b) (number b messageCount) i noMessage k ∙ rw (one-mul i)
+      let k : i < number b message_count = omega (arith, messages-counted) in
+      row_made (message_in b) (number b message_count) i no_message k ∙ rw (one-mul i)
 
   -- the numbers of the head and of each row are those that the bytes have
   abbrev head : Contents
-  head = contents (planIn b) (stateIn b)
+  head = contents (plan_in b) (state_in b)
 
-  head-cells : (i : ℕ) → i < 1 → numbersOf headParts (get_or (head ∷ []) i head) ≡ cellsAt headParts b i
-  unfolding numbersOf cellsAt headParts planIn stateIn
+  head-cells : (i : ℕ) → i < 1 → numbers_of head_parts (get_or (head ∷ []) i head) ≡ cells_at head_parts b i
+  unfolding numbers_of cells_at head_parts plan_in state_in
   head-cells zero h =
       rw (
-        length-made (crashRowIn b) (number b crashCount),
-        length-made (delayRowIn b) (number b delayCount),
-        length-made (messageIn b) (number b messageCount),
-        length-made (cell b ringNodes) (number b ringSize),
+        length-made (crash_row_in b) (number b crash_count),
+        length-made (delay_row_in b) (number b delay_count),
+        length-made (message_in b) (number b message_count),
+        length-made (cell b ring_nodes) (number b ring_size),
       )
   head-cells (suc i) h = absurd (omega arith)
 
-  ring-cells : (i : ℕ) → i < length (planIn b).ring → numbersOf ringParts (get_or (planIn b).ring i (cell b ringNodes 0)) ≡ cellsAt ringParts b i
-  unfolding numbersOf cellsAt ringParts planIn
+  ring-cells : (i : ℕ) → i < length (plan_in b).ring → numbers_of ring_parts (get_or (plan_in b).ring i (cell b ring_nodes 0)) ≡ cells_at ring_parts b i
+  unfolding numbers_of cells_at ring_parts plan_in
   ring-cells i h =
-      let k : i < number b ringSize = rw (← length-made (cell b ringNodes) (number b ringSize)) h in
-      rw (row_made (cell b ringNodes) (number b ringSize) i (cell b ringNodes 0) k)
+      let k : i < number b ring_size = rw (← length-made (cell b ring_nodes) (number b ring_size)) h in
+      rw (row_made (cell b ring_nodes) (number b ring_size) i (cell b ring_nodes 0) k)
 
-  node-cells : (i : ℕ) → i < length (stateIn b).nodes → numbersOf nodeParts (get_or (stateIn b).nodes i (nodeIn b 0)) ≡ cellsAt nodeParts b i
-  unfolding numbersOf cellsAt nodeParts stateIn
-  node-cells i h = rw (row_made (nodeIn b) (number b nodeCount) i (nodeIn b 0) (rw (← length-made (nodeIn b) (number b nodeCount)) h))
+  node-cells : (i : ℕ) → i < length (state_in b).nodes → numbers_of node_parts (get_or (state_in b).nodes i (node_in b 0)) ≡ cells_at node_parts b i
+  unfolding numbers_of cells_at node_parts state_in
+  node-cells i h = rw (row_made (node_in b) (number b node_count) i (node_in b 0) (rw (← length-made (node_in b) (number b node_count)) h))
 
-  crash-cells : (i : ℕ) → i < length (planIn b).crashes → numbersOf crashParts (get_or (planIn b).crashes i (crashRowIn b 0)) ≡ cellsAt crashParts b i
-  unfolding numbersOf cellsAt crashParts planIn
-  crash-cells i h = rw (row_made (crashRowIn b) (number b crashCount) i (crashRowIn b 0) (rw (← length-made (crashRowIn b) (number b crashCount)) h))
+  crash-cells : (i : ℕ) → i < length (plan_in b).crashes → numbers_of crash_parts (get_or (plan_in b).crashes i (crash_row_in b 0)) ≡ cells_at crash_parts b i
+  unfolding numbers_of cells_at crash_parts plan_in
+  crash-cells i h = rw (row_made (crash_row_in b) (number b crash_count) i (crash_row_in b 0) (rw (← length-made (crash_row_in b) (number b crash_count)) h))
 
-  delay-cells : (i : ℕ) → i < length (planIn b).delays → numbersOf delayParts (get_or (planIn b).delays i (delayRowIn b 0)) ≡ cellsAt delayParts b i
-  unfolding numbersOf cellsAt delayParts planIn
-  delay-cells i h = rw (row_made (delayRowIn b) (number b delayCount) i (delayRowIn b 0) (rw (← length-made (delayRowIn b) (number b delayCount)) h))
+  delay-cells : (i : ℕ) → i < length (plan_in b).delays → numbers_of delay_parts (get_or (plan_in b).delays i (delay_row_in b 0)) ≡ cells_at delay_parts b i
+  unfolding numbers_of cells_at delay_parts plan_in
+  delay-cells i h = rw (row_made (delay_row_in b) (number b delay_count) i (delay_row_in b 0) (rw (← length-made (delay_row_in b) (number b delay_count)) h))
 
-  message-cells : (i : ℕ) → i < length (stateIn b).flight
-      → numbersOf messageParts (get_or (stateIn b).flight i (messageIn b 0)) ≡ cellsAt messageParts b i
-  unfolding numbersOf cellsAt timeParts routeParts stateIn
-  message-cells i h = rw (row_made (messageIn b) (number b messageCount) i (messageIn b 0) (rw (← length-made (messageIn b) (number b messageCount)) h))
+  message-cells : (i : ℕ) → i < length (state_in b).flight
+      → numbers_of message_parts (get_or (state_in b).flight i (message_in b 0)) ≡ cells_at message_parts b i
+  unfolding numbers_of cells_at time_parts route_parts state_in
+  message-cells i h = rw (row_made (message_in b) (number b message_count) i (message_in b 0) (rw (← length-made (message_in b) (number b message_count)) h))
 
-  all_read : ReadFrom b (columns (planIn b) (stateIn b))
+  all_read : ReadFrom b (columns (plan_in b) (state_in b))
   unfolding columns ReadFrom numbers
   all_read =
-      let p : Plan = planIn b in
-      let s : State = stateIn b in
-      let messages : ReadFrom b (afterDelays p s) = columns-read b s.flight (messageIn b 0) messageParts (afterMessages p s) message-cells (refl, tt) in
-      let delays : ReadFrom b (afterCrashes p s) = columns-read b p.delays (delayRowIn b 0) delayParts (afterDelays p s) delay-cells messages in
-      let crashes : ReadFrom b (afterNodes p s) = columns-read b p.crashes (crashRowIn b 0) crashParts (afterCrashes p s) crash-cells delays in
-      let nodes : ReadFrom b (afterRing p s) = columns-read b s.nodes (nodeIn b 0) nodeParts (afterNodes p s) node-cells crashes in
-      let ring : ReadFrom b (columnsOf ringParts p.ring ++ afterRing p s) =
-      columns-read b p.ring (cell b ringNodes 0) ringParts (afterRing p s) ring-cells nodes in
-      columns-read b (head ∷ []) head headParts (unused spareHead ∷ (columnsOf ringParts p.ring ++ afterRing p s)) head-cells (refl, ring)
+      let p : Plan = plan_in b in
+      let s : State = state_in b in
+      let messages : ReadFrom b (after_delays p s) = columns-read b s.flight (message_in b 0) message_parts (after_messages p s) message-cells (refl, tt) in
+      let delays : ReadFrom b (after_crashes p s) = columns-read b p.delays (delay_row_in b 0) delay_parts (after_delays p s) delay-cells messages in
+      let crashes : ReadFrom b (after_nodes p s) = columns-read b p.crashes (crash_row_in b 0) crash_parts (after_crashes p s) crash-cells delays in
+      let nodes : ReadFrom b (after_ring p s) = columns-read b s.nodes (node_in b 0) node_parts (after_nodes p s) node-cells crashes in
+      let ring : ReadFrom b (columns_of ring_parts p.ring ++ after_ring p s) =
+      columns-read b p.ring (cell b ring_nodes 0) ring_parts (after_ring p s) ring-cells nodes in
+      columns-read b (head ∷ []) head head_parts (unused spare_head ∷ (columns_of ring_parts p.ring ++ after_ring p s)) head-cells (refl, ring)
 
   -- bytes of a store's length, with no more rows than places and unused bytes zero
-  pub held-read : ((i : ℕ) → get_or b i 0 < 256) → length b ≡ storeSize → roomTest (columns (planIn b) (stateIn b)) ≡ true
-      → unusedTest b (columns (planIn b) (stateIn b)) ≡ true → Held b
-  unfolding encode planIn RowsFit
+  pub held-read : ((i : ℕ) → get_or b i 0 < 256) → length b ≡ store_size → room_test (columns (plan_in b) (state_in b)) ≡ true
+      → unused_test b (columns (plan_in b) (state_in b)) ≡ true → Held b
+  unfolding encode plan_in RowsFit
   held-read byte size room blank =
       record {
         size = size;
-        canonical = sym (read_back b byte (columns (planIn b) (stateIn b)) 0 (rw size (placed (planIn b) (stateIn b))) room all_read blank);
+        canonical = sym (read_back b byte (columns (plan_in b) (state_in b)) 0 (rw size (placed (plan_in b) (state_in b))) room all_read blank);
         fits = record {
           nodes = length-nodes;
-          counts = room-counts (planIn b) (stateIn b) length-nodes room;
-          head = (rows-read-fit b (head ∷ []) head byte headParts head-cells).0;
-          ringRows = rows-read-fit b (planIn b).ring (cell b ringNodes 0) byte ringParts ring-cells;
-          nodeRows = rows-read-fit b (stateIn b).nodes (nodeIn b 0) byte nodeParts node-cells;
-          crashRows = rows-read-fit b (planIn b).crashes (crashRowIn b 0) byte crashParts crash-cells;
-          delayRows = rows-read-fit b (planIn b).delays (delayRowIn b 0) byte delayParts delay-cells;
-          messageRows = rows-read-fit b (stateIn b).flight (messageIn b 0) byte messageParts message-cells;
+          counts = room-counts (plan_in b) (state_in b) length-nodes room;
+          head = (rows-read-fit b (head ∷ []) head byte head_parts head-cells).0;
+          ring_rows = rows-read-fit b (plan_in b).ring (cell b ring_nodes 0) byte ring_parts ring-cells;
+          node_rows = rows-read-fit b (state_in b).nodes (node_in b 0) byte node_parts node-cells;
+          crash_rows = rows-read-fit b (plan_in b).crashes (crash_row_in b 0) byte crash_parts crash-cells;
+          delay_rows = rows-read-fit b (plan_in b).delays (delay_row_in b 0) byte delay_parts delay-cells;
+          message_rows = rows-read-fit b (state_in b).flight (message_in b 0) byte message_parts message-cells;
         };
       }

@@ -40,20 +40,20 @@ number s f = cell s f 0
 -- ---- writing
 
 -- x put at place i of a field, and the number at place i of n taken out, those after it moved down
-abbrev pub cellPut : List ℕ → Field → ℕ → ℕ → List ℕ
-cellPut s f i x = put_at s (f.at + f.width * i) f.width x
+abbrev pub cell_put : List ℕ → Field → ℕ → ℕ → List ℕ
+cell_put s f i x = put_at s (f.at + f.width * i) f.width x
 
-abbrev pub cellOut : List ℕ → Field → ℕ → ℕ → List ℕ
-cellOut s f i n = closed s (f.at + f.width * i) f.width (f.at + f.width * n)
+abbrev pub cell_out : List ℕ → Field → ℕ → ℕ → List ℕ
+cell_out s f i n = closed s (f.at + f.width * i) f.width (f.at + f.width * n)
 
 -- numbers put into fields of one place, one after another
-unfoldable pub numbersPut : List ℕ → List (Field × ℕ) → List ℕ
-numbersPut s [] = s
-numbersPut s (n ∷ ns) = numbersPut (cellPut s n.0 0 n.1) ns
+unfoldable pub numbers_put : List ℕ → List (Field × ℕ) → List ℕ
+numbers_put s [] = s
+numbers_put s (n ∷ ns) = numbers_put (cell_put s n.0 0 n.1) ns
 
 -- zeros in place of the first n numbers of a field
-abbrev pub fieldCleared : List ℕ → Field → ℕ → List ℕ
-fieldCleared s f n = cleared s f.at (f.at + f.width * n)
+abbrev pub field_cleared : List ℕ → Field → ℕ → List ℕ
+field_cleared s f n = cleared s f.at (f.at + f.width * n)
 
 -- numbers of w bytes, one after another
 unfoldable pub packs : ℕ → List ℕ → List ℕ
@@ -67,17 +67,17 @@ size f = f.width * f.places
 abbrev pub used : Column → ℕ
 used c = c.field.width * length c.values
 
-unfoldable pub columnBytes : Column → List ℕ
-columnBytes c = packs c.field.width c.values ++ replicate (size c.field - used c) 0
+unfoldable pub column_bytes : Column → List ℕ
+column_bytes c = packs c.field.width c.values ++ replicate (size c.field - used c) 0
 
 -- the bytes of columns, one after another
 unfoldable pub bytes_of : List Column → List ℕ
 bytes_of [] = []
-bytes_of (c ∷ cs) = columnBytes c ++ bytes_of cs
+bytes_of (c ∷ cs) = column_bytes c ++ bytes_of cs
 
 -- the same column with other numbers
-abbrev pub withValues : Column → List ℕ → Column
-withValues c xs = c.field holds xs
+abbrev pub with_values : Column → List ℕ → Column
+with_values c xs = c.field holds xs
 
 -- ---- the columns of records
 
@@ -90,18 +90,18 @@ abbrev pub part : {A : Type 0} → Field → (A → ℕ) → Part A
 part f get = record { field = f; get = get }
 
 -- the column of a part of rows, and the columns of all parts of them
-abbrev pub columnOf : {A : Type 0} → List A → Part A → Column
-columnOf rows g = g.field holds map g.get rows
+abbrev pub column_of : {A : Type 0} → List A → Part A → Column
+column_of rows g = g.field holds map g.get rows
 
-unfoldable pub columnsOf : {A : Type 0} → List (Part A) → List A → List Column
-columnsOf gs rows = map (columnOf rows) gs
+unfoldable pub columns_of : {A : Type 0} → List (Part A) → List A → List Column
+columns_of gs rows = map (column_of rows) gs
 
 -- the numbers of a row, and those at place i, part by part
-unfoldable pub numbersOf : {A : Type 0} → List (Part A) → A → List ℕ
-numbersOf gs r = map (λ (g : Part _). g.get r) gs
+unfoldable pub numbers_of : {A : Type 0} → List (Part A) → A → List ℕ
+numbers_of gs r = map (λ (g : Part _). g.get r) gs
 
-unfoldable pub cellsAt : {A : Type 0} → List (Part A) → List ℕ → ℕ → List ℕ
-cellsAt gs b i = map (λ (g : Part _). cell b g.field i) gs
+unfoldable pub cells_at : {A : Type 0} → List (Part A) → List ℕ → ℕ → List ℕ
+cells_at gs b i = map (λ (g : Part _). cell b g.field i) gs
 
 -- a row whose numbers fit their fields, and rows of such
 unfoldable pub RowFits : {A : Type 0} → List (Part A) → A → Type 0
@@ -113,19 +113,19 @@ RowsFit gs [] = Unit
 RowsFit gs (r ∷ rows) = RowFits gs r × RowsFit gs rows
 
 -- bytes that are changed at one part after another
-unfoldable pub eachPart : {A : Type 0} → (List ℕ → Part A → List ℕ) → List (Part A) → List ℕ → List ℕ
-eachPart change [] b = b
-eachPart change (g ∷ gs) b = eachPart change gs (change b g)
+unfoldable pub each_part : {A : Type 0} → (List ℕ → Part A → List ℕ) → List (Part A) → List ℕ → List ℕ
+each_part change [] b = b
+each_part change (g ∷ gs) b = each_part change gs (change b g)
 
 -- a row put at place i; the row at place i of n taken out; the first n rows cleared away
-abbrev pub rowPut : {A : Type 0} → List (Part A) → List ℕ → ℕ → A → List ℕ
-rowPut gs b i r = eachPart (λ l g. cellPut l g.field i (g.get r)) gs b
+abbrev pub row_put : {A : Type 0} → List (Part A) → List ℕ → ℕ → A → List ℕ
+row_put gs b i r = each_part (λ l g. cell_put l g.field i (g.get r)) gs b
 
-abbrev pub rowOut : {A : Type 0} → List (Part A) → List ℕ → ℕ → ℕ → List ℕ
-rowOut gs b i n = eachPart (λ l g. cellOut l g.field i n) gs b
+abbrev pub row_out : {A : Type 0} → List (Part A) → List ℕ → ℕ → ℕ → List ℕ
+row_out gs b i n = each_part (λ l g. cell_out l g.field i n) gs b
 
-abbrev pub rowsCleared : {A : Type 0} → List (Part A) → List ℕ → ℕ → List ℕ
-rowsCleared gs b n = eachPart (λ l g. fieldCleared l g.field n) gs b
+abbrev pub rows_cleared : {A : Type 0} → List (Part A) → List ℕ → ℕ → List ℕ
+rows_cleared gs b n = each_part (λ l g. field_cleared l g.field n) gs b
 
 -- ---- as computed tests
 
@@ -135,25 +135,25 @@ joined o e [] = eqb o e
 joined o e (c ∷ cs) = eqb c.field.at o && joined (o + size c.field) e cs
 
 -- no more numbers than places
-unfoldable pub roomTest : List Column → Bool
-roomTest [] = true
-roomTest (c ∷ cs) = leb (length c.values) c.field.places && roomTest cs
+unfoldable pub room_test : List Column → Bool
+room_test [] = true
+room_test (c ∷ cs) = leb (length c.values) c.field.places && room_test cs
 
 -- the bytes of a field beyond its first n numbers are zero
-abbrev pub restZero : List ℕ → Field → ℕ → Bool
-restZero s f n = zeros (slice (f.at + f.width * n) (f.at + size f) s)
+abbrev pub rest_zero : List ℕ → Field → ℕ → Bool
+rest_zero s f n = zeros (slice (f.at + f.width * n) (f.at + size f) s)
 
 -- the unused bytes of each column are zero
-unfoldable pub unusedTest : List ℕ → List Column → Bool
-unusedTest s [] = true
-unusedTest s (c ∷ cs) = restZero s c.field (length c.values) && unusedTest s cs
+unfoldable pub unused_test : List ℕ → List Column → Bool
+unused_test s [] = true
+unused_test s (c ∷ cs) = rest_zero s c.field (length c.values) && unused_test s cs
 
 -- every part has k places
-unfoldable pub placesTest : {A : Type 0} → ℕ → List (Part A) → Bool
-placesTest k [] = true
-placesTest k (g ∷ gs) = eqb g.field.places k && placesTest k gs
+unfoldable pub places_test : {A : Type 0} → ℕ → List (Part A) → Bool
+places_test k [] = true
+places_test k (g ∷ gs) = eqb g.field.places k && places_test k gs
 
 -- the places of each part beyond the first n are zero
-unfoldable pub restTest : {A : Type 0} → List (Part A) → List ℕ → ℕ → Bool
-restTest [] b n = true
-restTest (g ∷ gs) b n = restZero b g.field n && restTest gs b n
+unfoldable pub rest_test : {A : Type 0} → List (Part A) → List ℕ → ℕ → Bool
+rest_test [] b n = true
+rest_test (g ∷ gs) b n = rest_zero b g.field n && rest_test gs b n

@@ -1,18 +1,18 @@
 // A store is filled: zeros and the P line, the numbers of the Q line, then, after its nodes, the rows of C and L lines one after another.
 ghost use Rattle.std.specs.Prelude.{◌≡◌, ◌<◌, ◌≤◌, length};
-ghost use Rattle.limits.specs.Limits.{mostNodes, mostDelays, storeSize};
-ghost use Rattle.store.specs.Filling.{putStart, putRing, putNode, putCrash, putDelay, unopened};
-ghost use Rattle.plans.specs.Plan.{startPlan};
-ghost use Rattle.store.specs.Columns.{cellPut};
-ghost use Rattle.store.specs.Store.{deadLists, marks, encode};
+ghost use Rattle.limits.specs.Limits.{most_nodes, most_delays, store_size};
+ghost use Rattle.store.specs.Filling.{put_start, put_ring, put_node, put_crash, put_delay, unopened};
+ghost use Rattle.plans.specs.Plan.{start_plan};
+ghost use Rattle.store.specs.Columns.{cell_put};
+ghost use Rattle.store.specs.Store.{dead_lists, marks, encode};
 
 use crate::layout;
 use node::Node;
 
 // The P line.
 fn put_start(s: &mut [u8], n: u64, h: u64, w: u64, d: u64, end: u64)
-    requires { length s.old ≡ storeSize }
-    ensures { s.new ≡ putStart s.old n h w d end }
+    requires { length s.old ≡ store_size }
+    ensures { s.new ≡ put_start s.old n h w d end }
 {
     fields::put(s, layout::NODE_COUNT, 1, n);
     fields::put(s, layout::LONGEST_DELAY, 1, d);
@@ -23,8 +23,8 @@ fn put_start(s: &mut [u8], n: u64, h: u64, w: u64, d: u64, end: u64)
 
 // The dead list and the mark of node i.
 fn put_lists(s: &mut [u8], i: usize, list: u64, mark: u64)
-    requires { (i < mostNodes) × (length s.old ≡ storeSize) }
-    ensures { s.new ≡ cellPut (cellPut s.old deadLists i list) marks i mark }
+    requires { (i < most_nodes) × (length s.old ≡ store_size) }
+    ensures { s.new ≡ cell_put (cell_put s.old dead_lists i list) marks i mark }
 {
     fields::put(s, layout::DEAD_LISTS + 8 * i, 8, list);
     fields::put(s, layout::MARKS + 8 * i, 8, mark);
@@ -32,8 +32,8 @@ fn put_lists(s: &mut [u8], i: usize, list: u64, mark: u64)
 
 // Node i.
 pub fn put_node(s: &mut [u8], i: usize, a: Node)
-    requires { (i < mostNodes) × (length s.old ≡ storeSize) }
-    ensures { s.new ≡ putNode s.old i a }
+    requires { (i < most_nodes) × (length s.old ≡ store_size) }
+    ensures { s.new ≡ put_node s.old i a }
 {
     fields::put(s, layout::EMITTERS + 1 * i, 1, a.emitter as u64);
     fields::put(s, layout::OBSERVERS + 1 * i, 1, a.observer as u64);
@@ -44,8 +44,8 @@ pub fn put_node(s: &mut [u8], i: usize, a: Node)
 
 // Zeros and the P line: a store without rows, whose nodes are not opened yet.
 pub fn begin(s: &mut [u8], n: u64, h: u64, w: u64, d: u64, end: u64)
-    requires { (n ≤ mostNodes) × (length s.old ≡ storeSize) }
-    ensures { s.new ≡ encode (startPlan n h w d end) (unopened (startPlan n h w d end)) }
+    requires { (n ≤ most_nodes) × (length s.old ≡ store_size) }
+    ensures { s.new ≡ encode (start_plan n h w d end) (unopened (start_plan n h w d end)) }
 {
     fields::clear(s, 0, layout::STORE_SIZE);
     put_start(s, n, h, w, d, end);
@@ -53,8 +53,8 @@ pub fn begin(s: &mut [u8], n: u64, h: u64, w: u64, d: u64, end: u64)
 
 // A number of the Q line after the first i.
 pub fn put_ring(s: &mut [u8], i: usize, k: u64)
-    requires { (i < mostNodes) × (length s.old ≡ storeSize) }
-    ensures { s.new ≡ putRing s.old i k }
+    requires { (i < most_nodes) × (length s.old ≡ store_size) }
+    ensures { s.new ≡ put_ring s.old i k }
 {
     fields::put(s, layout::RING_NODES + 1 * i, 1, k);
     fields::put(s, layout::RING_SIZE, 1, i as u64 + 1);
@@ -62,8 +62,8 @@ pub fn put_ring(s: &mut [u8], i: usize, k: u64)
 
 // A C row after the first i.
 pub fn put_crash(s: &mut [u8], i: usize, tick: u64, node: u64)
-    requires { (i < mostNodes) × (length s.old ≡ storeSize) }
-    ensures { s.new ≡ putCrash s.old i tick node }
+    requires { (i < most_nodes) × (length s.old ≡ store_size) }
+    ensures { s.new ≡ put_crash s.old i tick node }
 {
     fields::put(s, layout::CRASH_TICKS + 4 * i, 4, tick);
     fields::put(s, layout::CRASH_NODES + 1 * i, 1, node);
@@ -72,8 +72,8 @@ pub fn put_crash(s: &mut [u8], i: usize, tick: u64, node: u64)
 
 // An L row after the first i.
 pub fn put_delay(s: &mut [u8], i: usize, number: u64, delay: u64)
-    requires { (i < mostDelays) × (length s.old ≡ storeSize) }
-    ensures { s.new ≡ putDelay s.old i number delay }
+    requires { (i < most_delays) × (length s.old ≡ store_size) }
+    ensures { s.new ≡ put_delay s.old i number delay }
 {
     fields::put(s, layout::DELAY_NUMBERS + 4 * i, 4, number);
     fields::put(s, layout::DELAY_TICKS + 1 * i, 1, delay);

@@ -1,8 +1,8 @@
 // The nodes.
 ghost use Rattle.std.specs.Prelude.{◌≡◌, ◌<◌};
 ghost use Rattle.model.specs.Platform.{node_of, start};
-ghost use Rattle.store.specs.Store.{encode, planIn, stateIn};
-ghost use Rattle.store.specs.Inside.{Sized, Held, withNode};
+ghost use Rattle.store.specs.Store.{encode, plan_in, state_in};
+ghost use Rattle.store.specs.Inside.{Sized, Held, with_node};
 ghost use Rattle.store.specs.Filling.{Unopened};
 
 use crate::{cells, fill, layout, plan};
@@ -11,8 +11,8 @@ use node::Node;
 // Node i.
 pub fn node_at(s: &[u8], i: usize) -> Node
     requires sized { Sized s.now }
-    requires i_bound { i < (planIn s.now).n }
-    ensures { result ≡ node_of (stateIn s.now) i }
+    requires i_bound { i < (plan_in s.now).n }
+    ensures { result ≡ node_of (state_in s.now) i }
 {
     let emitter = cells::get1(s, layout::EMITTERS + i);
     let observer = cells::get1(s, layout::OBSERVERS + i);
@@ -33,8 +33,8 @@ pub fn node_at(s: &[u8], i: usize) -> Node
 // Node i becomes n.
 pub fn set_node(s: &mut [u8], i: usize, n: Node)
     requires held { Held s.old }
-    requires i_bound { i < (planIn s.old).n }
-    ensures { s.new ≡ encode (planIn s.old) (withNode (stateIn s.old) i n) }
+    requires i_bound { i < (plan_in s.old).n }
+    ensures { s.new ≡ encode (plan_in s.old) (with_node (state_in s.old) i n) }
 {
     fill::put_node(s, i, n);
 }
@@ -42,7 +42,7 @@ pub fn set_node(s: &mut [u8], i: usize, n: Node)
 // All nodes, each as it is opened: the store has its P line and its Q line, and no rows.
 pub fn open_nodes(s: &mut [u8])
     requires { Unopened s.old }
-    ensures { s.new ≡ encode (planIn s.old) (start (planIn s.old)) }
+    ensures { s.new ≡ encode (plan_in s.old) (start (plan_in s.old)) }
 {
     let all = ring::number_order();
     let n = plan::node_count(s);

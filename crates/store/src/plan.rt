@@ -1,99 +1,99 @@
 // The P line, the ring's order, the rows of C and L lines, the last event's tick, the next message number and how many crash rows are done.
 ghost use Rattle.std.specs.Prelude.{◌≡◌, ◌+◌, ◌^◌, ◌<◌, ◌≤◌, length, get_or, true};
 ghost use Rattle.ring.specs.Ring.{numbers};
-ghost use Rattle.plans.specs.Plan.{planTest, delayOrder, order_of};
-ghost use Rattle.model.specs.Platform.{crashedList, delayOf};
+ghost use Rattle.plans.specs.Plan.{plan_test, delay_order, order_of};
+ghost use Rattle.model.specs.Platform.{crashed_list, delay_of};
 ghost use Rattle.plans.specs.Plain.{row_at};
-ghost use Rattle.limits.specs.Limits.{storeSize, mostNodes};
-ghost use Rattle.store.specs.Store.{encode, planIn, stateIn};
-ghost use Rattle.store.specs.Inside.{Sized, Held, FirstRow, crashRow, delayAt, delayRow, withTick, crashed, numberTaken};
+ghost use Rattle.limits.specs.Limits.{store_size, most_nodes};
+ghost use Rattle.store.specs.Store.{encode, plan_in, state_in};
+ghost use Rattle.store.specs.Inside.{Sized, Held, FirstRow, crash_row, delay_at, delay_row, with_tick, crashed, number_taken};
 
 use crate::{CrashRow, DelayRow, cells, layout};
 
 // N: how many nodes.
 pub fn node_count(s: &[u8]) -> usize
-    requires { length s.now ≡ storeSize }
-    ensures { result ≡ (planIn s.now).n }
+    requires { length s.now ≡ store_size }
+    ensures { result ≡ (plan_in s.now).n }
 {
     cells::get1(s, layout::NODE_COUNT) as usize
 }
 
 // D: the delay of a message that has no L line, and the longest.
 pub fn longest_delay(s: &[u8]) -> u32
-    requires { length s.now ≡ storeSize }
-    ensures { result ≡ (planIn s.now).d }
+    requires { length s.now ≡ store_size }
+    ensures { result ≡ (plan_in s.now).d }
 {
     cells::get1(s, layout::LONGEST_DELAY) as u32
 }
 
 // H: the heartbeat period.
 pub fn period(s: &[u8]) -> u32
-    requires { length s.now ≡ storeSize }
-    ensures { result ≡ (planIn s.now).h }
+    requires { length s.now ≡ store_size }
+    ensures { result ≡ (plan_in s.now).h }
 {
     cells::get2(s, layout::PERIOD) as u32
 }
 
 // W: the time-out.
 pub fn time_out(s: &[u8]) -> u32
-    requires { length s.now ≡ storeSize }
-    ensures { result ≡ (planIn s.now).w }
+    requires { length s.now ≡ store_size }
+    ensures { result ≡ (plan_in s.now).w }
 {
     cells::get2(s, layout::TIME_OUT) as u32
 }
 
 // The end tick.
 pub fn end_tick(s: &[u8]) -> u32
-    requires { length s.now ≡ storeSize }
-    ensures { result ≡ (planIn s.now).end }
+    requires { length s.now ≡ store_size }
+    ensures { result ≡ (plan_in s.now).end }
 {
     cells::get4(s, layout::END_TICK)
 }
 
 // The last event's tick, 0 at opening.
 pub fn last_tick(s: &[u8]) -> u32
-    requires { length s.now ≡ storeSize }
-    ensures { result ≡ (stateIn s.now).last }
+    requires { length s.now ≡ store_size }
+    ensures { result ≡ (state_in s.now).last }
 {
     cells::get4(s, layout::LAST_TICK)
 }
 
 // The number of the next message.
 pub fn next_number(s: &[u8]) -> u64
-    requires { length s.now ≡ storeSize }
-    ensures { result ≡ (stateIn s.now).next }
+    requires { length s.now ≡ store_size }
+    ensures { result ≡ (state_in s.now).next }
 {
     fields::get(s, layout::NEXT_NUMBER, 8)
 }
 
 // How many C rows are done.
 pub fn crashes_done(s: &[u8]) -> usize
-    requires { length s.now ≡ storeSize }
-    ensures { result ≡ (stateIn s.now).done }
+    requires { length s.now ≡ store_size }
+    ensures { result ≡ (state_in s.now).done }
 {
     cells::get1(s, layout::CRASHES_DONE) as usize
 }
 
 // How many numbers the Q line has, 0 where there is none.
 pub fn ring_size(s: &[u8]) -> usize
-    requires { length s.now ≡ storeSize }
-    ensures { result ≡ length (planIn s.now).ring }
+    requires { length s.now ≡ store_size }
+    ensures { result ≡ length (plan_in s.now).ring }
 {
     cells::get1(s, layout::RING_SIZE) as usize
 }
 
 // How many C rows there are.
 pub fn crash_count(s: &[u8]) -> usize
-    requires { length s.now ≡ storeSize }
-    ensures { result ≡ length (planIn s.now).crashes }
+    requires { length s.now ≡ store_size }
+    ensures { result ≡ length (plan_in s.now).crashes }
 {
     cells::get1(s, layout::CRASH_COUNT) as usize
 }
 
 // How many L rows there are.
 pub fn delay_count(s: &[u8]) -> usize
-    requires { length s.now ≡ storeSize }
-    ensures { result ≡ length (planIn s.now).delays }
+    requires { length s.now ≡ store_size }
+    ensures { result ≡ length (plan_in s.now).delays }
 {
     cells::get2(s, layout::DELAY_COUNT) as usize
 }
@@ -101,8 +101,8 @@ pub fn delay_count(s: &[u8]) -> usize
 // The number at a place of the Q line.
 pub fn ring_at(s: &[u8], i: usize) -> u8
     requires sized { Sized s.now }
-    requires i_in_bounds { i < length (planIn s.now).ring }
-    ensures { result ≡ get_or (planIn s.now).ring i 0 }
+    requires i_in_bounds { i < length (plan_in s.now).ring }
+    ensures { result ≡ get_or (plan_in s.now).ring i 0 }
 {
     cells::get1(s, layout::RING_NODES + i)
 }
@@ -110,8 +110,8 @@ pub fn ring_at(s: &[u8], i: usize) -> u8
 // The ring's order: the store's own part with the numbers of the Q line, or, where there is none, the first N of all, which are in number order.
 pub fn ring_order<'a>(s: &'a [u8], all: &'a [u8]) -> &'a [u8]
     requires sized { Sized s.now }
-    requires all_value { all.now ≡ numbers 0 mostNodes }
-    ensures { result.now ≡ order_of (planIn s.now) }
+    requires all_value { all.now ≡ numbers 0 most_nodes }
+    ensures { result.now ≡ order_of (plan_in s.now) }
 {
     let size = ring_size(s);
     if size == 0 {
@@ -124,8 +124,8 @@ pub fn ring_order<'a>(s: &'a [u8], all: &'a [u8]) -> &'a [u8]
 // The C row at a place.
 pub fn crash_at(s: &[u8], i: usize) -> CrashRow
     requires sized { Sized s.now }
-    requires i_in_bounds { i < length (planIn s.now).crashes }
-    ensures { result ≡ crashRow (row_at (planIn s.now) i) }
+    requires i_in_bounds { i < length (plan_in s.now).crashes }
+    ensures { result ≡ crash_row (row_at (plan_in s.now) i) }
 {
     let tick = cells::get4(s, layout::CRASH_TICKS + 4 * i);
     let node = cells::get1(s, layout::CRASH_NODES + i);
@@ -135,9 +135,9 @@ pub fn crash_at(s: &[u8], i: usize) -> CrashRow
 // The crashed nodes as a dead list.
 pub fn crashed_list(s: &[u8]) -> u64
     requires sized { Sized s.now }
-    requires s_value { planTest (planIn s.now) ≡ true }
-    requires s_in_bounds { (stateIn s.now).done ≤ length (planIn s.now).crashes }
-    ensures { result ≡ crashedList (planIn s.now) (stateIn s.now).done }
+    requires s_value { plan_test (plan_in s.now) ≡ true }
+    requires s_in_bounds { (state_in s.now).done ≤ length (plan_in s.now).crashes }
+    ensures { result ≡ crashed_list (plan_in s.now) (state_in s.now).done }
 {
     let done = crashes_done(s);
     let mut dead: u64 = 0;
@@ -153,8 +153,8 @@ pub fn crashed_list(s: &[u8]) -> u64
 // The L row at a place.
 pub fn delay_at(s: &[u8], i: usize) -> DelayRow
     requires sized { Sized s.now }
-    requires i_in_bounds { i < length (planIn s.now).delays }
-    ensures { result ≡ delayRow (delayAt (planIn s.now) i) }
+    requires i_in_bounds { i < length (plan_in s.now).delays }
+    ensures { result ≡ delay_row (delay_at (plan_in s.now) i) }
 {
     let number = cells::get4(s, layout::DELAY_NUMBERS + 4 * i);
     let delay = cells::get1(s, layout::DELAY_TICKS + i);
@@ -164,8 +164,8 @@ pub fn delay_at(s: &[u8], i: usize) -> DelayRow
 // The first L row whose number is not below `number`.
 fn first_row(s: &[u8], number: u64) -> usize
     requires sized { Sized s.now }
-    requires s_value { delayOrder (planIn s.now).delays ≡ true }
-    ensures { FirstRow (planIn s.now).delays number result }
+    requires s_value { delay_order (plan_in s.now).delays ≡ true }
+    ensures { FirstRow (plan_in s.now).delays number result }
 {
     let mut low = 0;
     let mut high = delay_count(s);
@@ -184,8 +184,8 @@ fn first_row(s: &[u8], number: u64) -> usize
 // The delay of a message: that of its L row, or D. Rows rise by number, so that most messages are above the last one.
 pub fn delay_of(s: &[u8], number: u64) -> u32
     requires sized { Sized s.now }
-    requires s_value { delayOrder (planIn s.now).delays ≡ true }
-    ensures { result ≡ delayOf (planIn s.now) number }
+    requires s_value { delay_order (plan_in s.now).delays ≡ true }
+    ensures { result ≡ delay_of (plan_in s.now) number }
 {
     let rows = delay_count(s);
     if rows == 0 {
@@ -207,7 +207,7 @@ pub fn delay_of(s: &[u8], number: u64) -> u32
 // The last event's tick becomes t.
 pub fn set_tick(s: &mut [u8], t: u32)
     requires { Held s.old }
-    ensures { s.new ≡ encode (planIn s.old) (withTick (stateIn s.old) t) }
+    ensures { s.new ≡ encode (plan_in s.old) (with_tick (state_in s.old) t) }
 {
     fields::put(s, layout::LAST_TICK, 4, t as u64);
 }
@@ -215,7 +215,7 @@ pub fn set_tick(s: &mut [u8], t: u32)
 // One C row more is done.
 pub fn crash_done(s: &mut [u8])
     requires { Held s.old }
-    ensures { s.new ≡ encode (planIn s.old) (crashed (stateIn s.old)) }
+    ensures { s.new ≡ encode (plan_in s.old) (crashed (state_in s.old)) }
 {
     let done = crashes_done(s) as u64;
     fields::put(s, layout::CRASHES_DONE, 1, done + 1);
@@ -224,8 +224,8 @@ pub fn crash_done(s: &mut [u8])
 // The next message number is given away.
 pub fn number_taken(s: &mut [u8])
     requires held { Held s.old }
-    requires s_bound { (stateIn s.old).next + 1 < 256 ^ 8 }
-    ensures { s.new ≡ encode (planIn s.old) (numberTaken (stateIn s.old)) }
+    requires s_bound { (state_in s.old).next + 1 < 256 ^ 8 }
+    ensures { s.new ≡ encode (plan_in s.old) (number_taken (state_in s.old)) }
 {
     let number = next_number(s);
     fields::put(s, layout::NEXT_NUMBER, 8, number + 1);

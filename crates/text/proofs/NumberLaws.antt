@@ -11,7 +11,7 @@ use lib.Dec.{leb, ltb}
 use borrow.Author.Tests.{leb-true, eq-eqb, ne_eqb, lt-ltb, le-ltb}
 use Rattle.text.specs.declared.Number.{Number}
 use Rattle.text.specs.declared.Number.TheVariants.{Value, NoNumber}
-use Rattle.text.specs.Number.{digit, ceiling, digitsFrom, number_at, shown, decimal}
+use Rattle.text.specs.Number.{digit, ceiling, digits_from, number_at, shown, decimal}
 use Rattle.text.specs.Put.{Put}
 use Rattle.text.proofs.PutLaws.{drop-next, put-kept, put_then}
 
@@ -26,27 +26,27 @@ value-eq : {m n : ℕ} (i : ℕ) → m ≡ n → Value m i ≡ Value n i
 value-eq i e = ap (λ (k : ℕ). Value k i) e
 
 -- digits after a value told up to the ceiling are read as after the value
-pub capped : (a i : ℕ) (s : List ℕ) → digitsFrom (min a ceiling) i s ≡ digitsFrom a i s
+pub capped : (a i : ℕ) (s : List ℕ) → digits_from (min a ceiling) i s ≡ digits_from a i s
 capped a i [] = value-eq i (omega arith)
 capped a i (b ∷ s) =
     ap (λ (d : Number). cond (digit b) d (Value (min (min a ceiling) ceiling) i))
     (sym (capped (min a ceiling * 10 + (b - 48)) (i + 1) s)
-    ∙ ap (λ (n : ℕ). digitsFrom n (i + 1) s) (omega arith)
+    ∙ ap (λ (n : ℕ). digits_from n (i + 1) s) (omega arith)
     ∙ capped (a * 10 + (b - 48)) (i + 1) s)
-    ∙ ap (λ (d : Number). cond (digit b) (digitsFrom (a * 10 + (b - 48)) (i + 1) s) d) (value-eq i (omega arith))
+    ∙ ap (λ (d : Number). cond (digit b) (digits_from (a * 10 + (b - 48)) (i + 1) s) d) (value-eq i (omega arith))
 
 module _ (s : List ℕ) (n i : ℕ) where
   -- a digit at i
   pub digit-more : (m : ℕ) → i < length s → digit (get_or s i 0) ≡ true → m ≡ min (n * 10 + (get_or s i 0 - 48)) ceiling
-      → digitsFrom n i (drop i s) ≡ digitsFrom m (i + 1) (drop (i + 1) s)
+      → digits_from n i (drop i s) ≡ digits_from m (i + 1) (drop (i + 1) s)
   digit-more m h e f = rw (drop-next s i h, e, f) (sym (capped (n * 10 + (get_or s i 0 - 48)) (i + 1) (drop (i + 1) s)))
 
   -- no digit at i
-  pub digit-stop : i < length s → n ≤ ceiling → digit (get_or s i 0) ≡ false → digitsFrom n i (drop i s) ≡ Value n i
+  pub digit-stop : i < length s → n ≤ ceiling → digit (get_or s i 0) ≡ false → digits_from n i (drop i s) ≡ Value n i
   digit-stop h m e = rw (drop-next s i h, e) (value-eq i (omega arith))
 
   -- nothing at i
-  pub digit-end : length s ≤ i → n ≤ ceiling → digitsFrom n i (drop i s) ≡ Value n i
+  pub digit-end : length s ≤ i → n ≤ ceiling → digits_from n i (drop i s) ≡ Value n i
   digit-end h m = rw (drop_of_length-le s h) (value-eq i (omega arith))
 
 -- what stands at a place, by the tests of the code
@@ -60,7 +60,7 @@ module _ (s : List ℕ) (at : ℕ) where
   pub number-bad : at < length s → (get_or s at 0 ≡ 48 → ⊥) → digit (get_or s at 0) ≡ false → number_at s at ≡ NoNumber
   number-bad h n e = rw (drop-next s at h, ne_eqb _ _ n, e)
 
-  pub number_digits : at < length s → (get_or s at 0 ≡ 48 → ⊥) → digit (get_or s at 0) ≡ true → number_at s at ≡ digitsFrom 0 at (drop at s)
+  pub number_digits : at < length s → (get_or s at 0 ≡ 48 → ⊥) → digit (get_or s at 0) ≡ true → number_at s at ≡ digits_from 0 at (drop at s)
   number_digits h n e = rw (drop-next s at h, ne_eqb _ _ n, e)
 
 tenth : (f n : ℕ) → n < 10 ^ suc f → n / 10 < 10 ^ f

@@ -11,7 +11,7 @@ use lib.ListN.{length, drop, length-append}
 use lib.Dec.{eqb}
 use borrow.Author.Tests.{ne_eqb, le-leb, eqb-true, eqb-false}
 use Rattle.text.specs.declared.Number.TheVariants.{Value, NoNumber}
-use Rattle.text.specs.Number.{digit, ceiling, digitsFrom, numberFrom, decimal}
+use Rattle.text.specs.Number.{digit, ceiling, digits_from, number_from, decimal}
 use Rattle.text.proofs.NumberLaws.{digit-range, decimal-small, decimal-more}
 
 -- a value above 0 with one digit more
@@ -34,21 +34,21 @@ took-none a i s v j e h =
     (0, omega arith, zero-le, rw w)
 
 -- digits only add to a value
-grows : (a i : ℕ) (s : List ℕ) (v j : ℕ) → digitsFrom a i s ≡ Value v j → min a ceiling ≤ v
+grows : (a i : ℕ) (s : List ℕ) (v j : ℕ) → digits_from a i s ≡ Value v j → min a ceiling ≤ v
 grows a i [] v j e = let p : min a ceiling ≡ v = cc in omega arith
 grows a i (b ∷ s) v j e = by (digit b) e (grows (a * 10 + (b - 48)) (i + 1) s v j)
   where
-    by : (t : Bool) → cond t (digitsFrom (a * 10 + (b - 48)) (i + 1) s) (Value (min a ceiling) i) ≡ Value v j
-        → (digitsFrom (a * 10 + (b - 48)) (i + 1) s ≡ Value v j → min (a * 10 + (b - 48)) ceiling ≤ v) → min a ceiling ≤ v
+    by : (t : Bool) → cond t (digits_from (a * 10 + (b - 48)) (i + 1) s) (Value (min a ceiling) i) ≡ Value v j
+        → (digits_from (a * 10 + (b - 48)) (i + 1) s ≡ Value v j → min (a * 10 + (b - 48)) ceiling ≤ v) → min a ceiling ≤ v
     by true e ih = omega (arith, ih e)
     by false e ih = let p : min a ceiling ≡ v = cc in omega arith
 
-pub took : (a i : ℕ) (s : List ℕ) (v j : ℕ) → digitsFrom a i s ≡ Value v j → v < ceiling → 0 < a → Took a i s v j
+pub took : (a i : ℕ) (s : List ℕ) (v j : ℕ) → digits_from a i s ≡ Value v j → v < ceiling → 0 < a → Took a i s v j
 took a i [] v j e h p = took-none a i [] v j e h
 took a i (b ∷ s) v j e h p = by (grows a i (b ∷ s) v j e) (digit b) refl e (λ d. took (a * 10 + (b - 48)) (i + 1) s v j d h (omega arith))
   where
-    by : min a ceiling ≤ v → (t : Bool) → digit b ≡ t → cond t (digitsFrom (a * 10 + (b - 48)) (i + 1) s) (Value (min a ceiling) i) ≡ Value v j
-        → (digitsFrom (a * 10 + (b - 48)) (i + 1) s ≡ Value v j → Took (a * 10 + (b - 48)) (i + 1) s v j) → Took a i (b ∷ s) v j
+    by : min a ceiling ≤ v → (t : Bool) → digit b ≡ t → cond t (digits_from (a * 10 + (b - 48)) (i + 1) s) (Value (min a ceiling) i) ≡ Value v j
+        → (digits_from (a * 10 + (b - 48)) (i + 1) s ≡ Value v j → Took (a * 10 + (b - 48)) (i + 1) s v j) → Took a i (b ∷ s) v j
     by small true t d ih =
         let r = ih d in
         let joined : decimal a ++ (b ∷ s) ≡ decimal (a * 10 + (b - 48)) ++ s = rw (decimal_digit a b p (omega arith) t, append_assoc) in
@@ -65,7 +65,7 @@ one-digit b e =
     let m : 48 + (0 * 10 + (b - 48)) ≡ b = omega arith in
     decimal-small (0 * 10 + (b - 48)) (omega arith) ∙ rw m
 
-pub read-trip : (i : ℕ) (s : List ℕ) (v j : ℕ) → numberFrom i s ≡ Value v j → v < ceiling → Trip i s v j
+pub read-trip : (i : ℕ) (s : List ℕ) (v j : ℕ) → number_from i s ≡ Value v j → v < ceiling → Trip i s v j
 read-trip i [] v j e h = let z : ◌≡◌ {A = ℕ} 0 1 = cc in absurd (omega arith)
 read-trip i (b ∷ s) v j e h = zero? (eqb b 48) refl e
   where
@@ -79,11 +79,11 @@ read-trip i (b ∷ s) v j e h = zero? (eqb b 48) refl e
     digits-case t n r = (suc r.0, omega (arith, r.1), suc-le-suc r.2, ap (λ (l : List ℕ). l ++ s) (sym (one-digit b t)) ∙ r.3)
 
     run : (t : Bool) → digit b ≡ t → (b ≡ 48 → ⊥)
-        → cond t (cond t (digitsFrom (0 * 10 + (b - 48)) (i + 1) s) (Value (min 0 ceiling) i)) NoNumber ≡ Value v j → Trip i (b ∷ s) v j
+        → cond t (cond t (digits_from (0 * 10 + (b - 48)) (i + 1) s) (Value (min 0 ceiling) i)) NoNumber ≡ Value v j → Trip i (b ∷ s) v j
     run true t n d = let r = digit-range b t in digits-case t n (took (0 * 10 + (b - 48)) (i + 1) s v j d h (omega arith))
     run false t n d = let z : ◌≡◌ {A = ℕ} 0 1 = cc in absurd (omega arith)
 
-    zero? : (t : Bool) → eqb b 48 ≡ t → cond t (Value 0 (i + 1)) (cond (digit b) (digitsFrom 0 i (b ∷ s)) NoNumber) ≡ Value v j
+    zero? : (t : Bool) → eqb b 48 ≡ t → cond t (Value 0 (i + 1)) (cond (digit b) (digits_from 0 i (b ∷ s)) NoNumber) ≡ Value v j
         → Trip i (b ∷ s) v j
     zero? true t d = zero-case (eqb-true b 48 t) d
     zero? false t d = run (digit b) refl (eqb-false b 48 t) d
@@ -93,17 +93,17 @@ digit-of : (n : ℕ) → n < 10 → digit (48 + n) ≡ true
 unfolding digit
 digit-of n h = rw (le-leb 48 (48 + n) (omega arith), le-leb (48 + n) 57 (omega arith))
 
-spelled_by : (f n : ℕ) → n < f → n < 10 ^ 20 → (i : ℕ) (r : List ℕ) → digitsFrom 0 i (decimal n ++ r) ≡ digitsFrom n (i + length (decimal n)) r
+spelled_by : (f n : ℕ) → n < f → n < 10 ^ 20 → (i : ℕ) (r : List ℕ) → digits_from 0 i (decimal n ++ r) ≡ digits_from n (i + length (decimal n)) r
 spelled_by zero n h big i r = absurd (omega arith)
 spelled_by (suc f) n h big i r = elim (dec_lt n 10) [
-  | yes p ↦ rw (decimal-small n p, digit-of n p) (ap (λ (k : ℕ). digitsFrom k (i + 1) r) (omega arith))
+  | yes p ↦ rw (decimal-small n p, digit-of n p) (ap (λ (k : ℕ). digits_from k (i + 1) r) (omega arith))
   | no p ↦
       let e : n / 10 * 10 + (48 + n % 10 - 48) ≡ n = omega arith in
       let before = spelled_by f (n / 10) (omega arith) (omega arith) i ((48 + n % 10) ∷ r) in
       rw (decimal-more n (omega arith) big, append_assoc, before, digit-of (n % 10) (omega arith), e, length-append, add_assoc)
 ]
 
-pub spelled : (n i : ℕ) (r : List ℕ) → n < 10 ^ 20 → digitsFrom 0 i (decimal n ++ r) ≡ digitsFrom n (i + length (decimal n)) r
+pub spelled : (n i : ℕ) (r : List ℕ) → n < 10 ^ 20 → digits_from 0 i (decimal n ++ r) ≡ digits_from n (i + length (decimal n)) r
 spelled n i r big = spelled_by (suc n) n (omega arith) big i r
 
 -- a number above 0 starts with a digit that is not 0
@@ -120,13 +120,13 @@ head-by (suc f) n h big p = elim (dec_lt n 10) [
   | no q ↦ head_more n (omega arith) big (head-by f (n / 10) (omega arith) (omega arith) (omega arith))
 ]
 
-number_of : (n i : ℕ) (r : List ℕ) → n < 10 ^ 20 → 0 < n → numberFrom i (decimal n ++ r) ≡ digitsFrom 0 i (decimal n ++ r)
+number_of : (n i : ℕ) (r : List ℕ) → n < 10 ^ 20 → 0 < n → number_from i (decimal n ++ r) ≡ digits_from 0 i (decimal n ++ r)
 number_of n i r big p =
     let w = head-by (suc n) n (omega arith) big p in
     rw (w.2, ne_eqb w.0 48 w.3, w.4)
 
 -- a number that was written is read again
 pub write-trip : (n i b : ℕ) (r : List ℕ) → n < 10 ^ 20 → digit b ≡ false
-    → numberFrom i (decimal n ++ b ∷ r) ≡ Value (min n ceiling) (i + length (decimal n))
+    → number_from i (decimal n ++ b ∷ r) ≡ Value (min n ceiling) (i + length (decimal n))
 write-trip zero i b r big e = rw (decimal-small 0 (omega arith)) (ap (λ (k : ℕ). Value k (i + 1)) (omega arith))
 write-trip (suc n) i b r big e = number_of (suc n) i (b ∷ r) big (omega arith) ∙ spelled (suc n) i (b ∷ r) big ∙ rw e

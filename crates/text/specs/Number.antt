@@ -4,39 +4,39 @@ use Rattle.text.specs.declared.Number.{Number}
 use Rattle.text.specs.declared.Number.TheVariants.{Value, NoNumber}
 
 -- the bytes of the digits 0 and 9
-abbrev pub digitZero : ℕ
-digitZero = 48
+abbrev pub digit_zero : ℕ
+digit_zero = 48
 
-abbrev pub digitNine : ℕ
-digitNine = 57
+abbrev pub digit_nine : ℕ
+digit_nine = 57
 
 unfoldable pub digit : ℕ → Bool
-digit b = leb digitZero b && leb b digitNine
+digit b = leb digit_zero b && leb b digit_nine
 
 -- a number may have any count of digits. Its value is told up to the ceiling, which is beyond every range
 abbrev pub ceiling : ℕ
 ceiling = 10000000
 
 -- the digits at the start of s, read on from the value a, where s stands at the place i: the value, and the place after the last digit
-abbrev pub digitsFrom : ℕ → ℕ → List ℕ → Number
-digitsFrom a i [] = Value (min a ceiling) i
-digitsFrom a i (b ∷ s) = cond (digit b) (digitsFrom (a * 10 + (b - digitZero)) (i + 1) s) (Value (min a ceiling) i)
+abbrev pub digits_from : ℕ → ℕ → List ℕ → Number
+digits_from a i [] = Value (min a ceiling) i
+digits_from a i (b ∷ s) = cond (digit b) (digits_from (a * 10 + (b - digit_zero)) (i + 1) s) (Value (min a ceiling) i)
 
 -- the number at the start of s, which stands at the place i: 0 alone, or digits of which the first is not 0
-abbrev pub numberFrom : ℕ → List ℕ → Number
-numberFrom i [] = NoNumber
-numberFrom i (b ∷ s) =
-    cond (eqb b digitZero) (Value 0 (i + 1))
-    (cond (digit b) (digitsFrom 0 i (b ∷ s)) NoNumber)
+abbrev pub number_from : ℕ → List ℕ → Number
+number_from i [] = NoNumber
+number_from i (b ∷ s) =
+    cond (eqb b digit_zero) (Value 0 (i + 1))
+    (cond (digit b) (digits_from 0 i (b ∷ s)) NoNumber)
 
 -- the number at the place `at` of s
 abbrev pub number_at : List ℕ → ℕ → Number
-number_at s at = numberFrom at (drop at s)
+number_at s at = number_from at (drop at s)
 
 -- the digits of n, of which there are at most f, the most significant first
 abbrev pub shown : ℕ → ℕ → List ℕ
 shown zero n = []
-shown (suc f) n = cond (ltb n 10) ((digitZero + n) ∷ []) (shown f (n / 10) ++ ((digitZero + n % 10) ∷ []))
+shown (suc f) n = cond (ltb n 10) ((digit_zero + n) ∷ []) (shown f (n / 10) ++ ((digit_zero + n % 10) ∷ []))
 
 -- n in decimal. Every 64-bit number has at most 20 digits
 unfoldable pub decimal : ℕ → List ℕ

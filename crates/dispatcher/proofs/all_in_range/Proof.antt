@@ -3,7 +3,7 @@ use mathlib.Core.Path.{sym, ap, ◌∙◌}
 use Prim.Native.Nat.{◌-◌}
 use native.Mathlib.Omega.{arith}
 use Rattle.fields.proofs.Answers.{fails, holds}
-use Rattle.store.specs.Store.{storeInRange}
+use Rattle.store.specs.Store.{store_in_range}
 use Rattle.dispatcher.proofs.Parts.{lent-piece, start_fits, end_fits, Testing, tests-first, tests-out, tests-next, tests-all}
 use borrow.Author.Rules.{rules}
 use Rattle.dispatcher.proofs.all_in_range.Statement.{statement}
@@ -36,7 +36,7 @@ returns c =
     let turn = test.before in
     let start = turn.before.before in
     tests-out _ _ _ turn.loop.invariant test.loop-test.true
-    (sym (ap storeInRange (lent-piece start.args.part.now turn.loop.i)) ∙ fails at-in-range.in-range.ensures c.if1.true)
+    (sym (ap store_in_range (lent-piece start.args.part.now turn.loop.i)) ∙ fails at-in-range.in-range.ensures c.if1.true)
 
 loop-again : tie.Need-loop-preserved invariant-loop decreases-loop
 loop-again c =
@@ -45,7 +45,7 @@ loop-again c =
     let turn = test.before in
     let start = turn.before.before in
     tests-next _ _ _ turn.loop.invariant test.loop-test.true
-    (sym (ap storeInRange (lent-piece start.args.part.now turn.loop.i)) ∙ holds at-in-range.in-range.ensures c.if1.false)
+    (sym (ap store_in_range (lent-piece start.args.part.now turn.loop.i)) ∙ holds at-in-range.in-range.ensures c.if1.false)
 
 returns-2 : tie.Need-returns-2 invariant-loop decreases-loop
 returns-2 c = tests-all _ _ _ c.before.loop.invariant c.loop-test.false

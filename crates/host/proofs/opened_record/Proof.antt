@@ -1,5 +1,5 @@
 -- `host::opened_record` meets its contract. Assumes nothing.
-use Rattle.host.specs.Call.{openedRecord}
+use Rattle.host.specs.Call.{opened_record}
 use Rattle.host.proofs.Tests.{ring-order, ring-size}
 use borrow.Author.Rules.{rules}
 use Rattle.host.proofs.opened_record.Statement.{statement}
@@ -14,7 +14,7 @@ opened-requires c κs =
     search rules
 
 returns : tie.Need-returns
-unfolding openedRecord
+unfolding opened_record
 returns c =
     let start = c.before.before.before in
     rw (

@@ -4,7 +4,7 @@ use mathlib.Core.Path.{◌≡◌, refl, ◌∙◌}
 use lib.ListN.{length}
 use Prim.Native.Nat.{◌-◌, ◌≤◌}
 use Rattle.host.proofs.Parts.{put-message, rest, rest-turn}
-use Rattle.limits.specs.Limits.{mostSent}
+use Rattle.limits.specs.Limits.{most_sent}
 use native.Mathlib.Omega.{arith}
 use borrow.Author.Rules.{rules}
 use Rattle.host.proofs.put_messages.Statement.{statement}
@@ -12,7 +12,7 @@ use Rattle.host.proofs.put_messages.Tie as tie
 
 abbrev invariant-loop : tie.invariant-loop
 invariant-loop count sender part₀ sent i₀ part i =
-    (i ≤ count) × (length sent ≡ mostSent) × (count ≤ mostSent) × (length part ≡ length part₀)
+    (i ≤ count) × (length sent ≡ most_sent) × (count ≤ most_sent) × (length part ≡ length part₀)
     × (rest sender sent count part₀ 0 ≡ rest sender sent count part i)
 
 abbrev decreases-loop : tie.decreases-loop

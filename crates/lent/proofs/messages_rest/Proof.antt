@@ -1,37 +1,37 @@
 -- `lent::messages_rest` meets its contract. Assumes nothing.
 use Rattle.lent.proofs.Parts.{part-fails, part-holds, last-part}
-use Rattle.store.specs.Columns.{restTest}
-use Rattle.store.specs.Store.{timeParts, routeParts}
+use Rattle.store.specs.Columns.{rest_test}
+use Rattle.store.specs.Store.{time_parts, route_parts}
 use borrow.Author.Rules.{rules}
 use Rattle.lent.proofs.messages_rest.Statement.{statement}
 use Rattle.lent.proofs.messages_rest.Tie as tie
 
 returns : tie.Need-returns
-unfolding restTest timeParts routeParts
+unfolding rest_test time_parts route_parts
 returns c = search (part-fails, rules)
 
 returns-2 : tie.Need-returns-2
-unfolding restTest timeParts routeParts
+unfolding rest_test time_parts route_parts
 returns-2 c = search (part-fails, part-holds, rules)
 
 returns-3 : tie.Need-returns-3
-unfolding restTest timeParts routeParts
+unfolding rest_test time_parts route_parts
 returns-3 c = search (part-fails, part-holds, rules)
 
 returns-4 : tie.Need-returns-4
-unfolding restTest timeParts routeParts
+unfolding rest_test time_parts route_parts
 returns-4 c = search (part-fails, part-holds, rules)
 
 returns-5 : tie.Need-returns-5
-unfolding restTest timeParts routeParts
+unfolding rest_test time_parts route_parts
 returns-5 c = search (part-fails, part-holds, rules)
 
 returns-6 : tie.Need-returns-6
-unfolding restTest timeParts routeParts
+unfolding rest_test time_parts route_parts
 returns-6 c = search (part-fails, part-holds, rules) depth 8
 
 returns-7 : tie.Need-returns-7
-unfolding restTest timeParts routeParts
+unfolding rest_test time_parts route_parts
 returns-7 c = search (part-holds, last-part, rules) depth 8
 
 pub messages-rest-spec : {M : Type 1} → statement M

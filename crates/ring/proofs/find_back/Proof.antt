@@ -4,7 +4,7 @@ use Prim.Native.Nat.{◌+◌}
 use native.Mathlib.Omega.{arith}
 use borrow.Author.Rules.{rules}
 use lib.ListN.{length, take}
-use Rattle.ring.specs.Ring.{round, firstUnlisted, back}
+use Rattle.ring.specs.Ring.{round, first_unlisted, back}
 use Rattle.ring.proofs.Searches.{after, turn-back-start, turn-back-hit, turn-back-skip, turn-back-done}
 use mathlib.Core.List.{reverse}
 use Rattle.ring.proofs.find_back.Statement.{statement}
@@ -13,7 +13,7 @@ use Rattle.ring.proofs.find_back.Tie as tie
 -- so many were passed, and s places are left
 abbrev invariant-loop : tie.invariant-loop
 invariant-loop order d p passed₀ s₀ passed s =
-    (passed + s ≡ length order) × (back order d p ≡ after passed (firstUnlisted d (reverse (take s (round order p)))))
+    (passed + s ≡ length order) × (back order d p ≡ after passed (first_unlisted d (reverse (take s (round order p)))))
 
 abbrev decreases-loop : tie.decreases-loop
 decreases-loop order d p passed₀ s₀ passed s = s

@@ -1,24 +1,24 @@
 -- `runfile::crash_line` meets its contract: two fields and the line's end, then the C line's step. Assumes nothing.
 use borrow.Author.Rules.{rules}
-use Rattle.runfile.specs.File.{crashOf, laterLine}
+use Rattle.runfile.specs.File.{crash_of, later_line}
 use Rattle.runfile.proofs.Forms.{pair-none-1, pair-none-2, pair-none, pair-taken}
 use Rattle.runfile.proofs.crash_line.Statement.{statement}
 use Rattle.runfile.proofs.crash_line.Tie as tie
 
 returns : tie.Need-returns
-unfolding crashOf
+unfolding crash_of
 returns c p kept = search (pair-none-1, rules)
 
 returns-2 : tie.Need-returns-2
-unfolding crashOf
+unfolding crash_of
 returns-2 c p kept = search (pair-none-2, rules)
 
 returns-3 : tie.Need-returns-3
-unfolding crashOf
+unfolding crash_of
 returns-3 c p kept = search (pair-none, rules)
 
 returns-4 : tie.Need-returns-4
-unfolding crashOf laterLine
+unfolding crash_of later_line
 returns-4 c p kept = search (pair-taken, c.take-crash.ensures p kept, rules)
 
 pub crash-line-spec : {M : Type 1} → statement M

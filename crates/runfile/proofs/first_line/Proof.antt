@@ -2,7 +2,7 @@
 use borrow.Author.Rules.{rules}
 use mathlib.Core.Path.{sym, ◌∙◌}
 use borrow.Author.Tests.{not-true, not-false}
-use Rattle.runfile.specs.File.{firstLine}
+use Rattle.runfile.specs.File.{first_line}
 use Rattle.runfile.proofs.Forms.{row-empty, row-start, start-none-1, start-none-2, start-none-3, start-none-4, start-none-5, start_none, start-some}
 use Rattle.runfile.proofs.Forms.{first-none, first-other}
 use Rattle.runfile.proofs.first_line.Statement.{statement}
@@ -74,7 +74,7 @@ returns-8 c =
     (sym end.before.before.read-field5.ensures ∙ end.end.given.1) (sym c.before.ends.ensures ∙ not-true _ c.if3.true))
 
 returns-9 : tie.Need-returns-9
-unfolding firstLine
+unfolding first_line
 returns-9 c =
     let end = c.before.before.before.before in
     let d = end.before.before.before.before in

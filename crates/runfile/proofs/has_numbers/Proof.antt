@@ -1,13 +1,13 @@
 -- `runfile::has_numbers` meets its contract. The invariant: the numbers are there where those that are left are. Assumes nothing.
 use borrow.Author.Rules.{rules}
 use mathlib.Core.Path.{◌≡◌, sym, ◌∙◌}
-use Rattle.runfile.specs.Reader.{numbersThere}
+use Rattle.runfile.specs.Reader.{numbers_there}
 use Rattle.runfile.proofs.Rings.{there-none, there-next, there-end}
 use Rattle.runfile.proofs.has_numbers.Statement.{statement}
 use Rattle.runfile.proofs.has_numbers.Tie as tie
 
 abbrev invariant-loop : tie.invariant-loop
-invariant-loop l n left₀ i₀ left i = numbersThere n l 1 ≡ numbersThere left l i
+invariant-loop l n left₀ i₀ left i = numbers_there n l 1 ≡ numbers_there left l i
 
 abbrev decreases-loop : tie.decreases-loop
 decreases-loop l n left₀ i₀ left i = left

@@ -4,13 +4,13 @@ use native.Mathlib.Omega.{arith}
 use lib.ListN.{length, drop}
 use Prim.Native.Nat.{ℕ, ◌+◌, ◌-◌, ◌≤◌}
 use mathlib.Core.Path.{◌≡◌, sym, ap, ◌∙◌}
-use Rattle.runfile.specs.Reader.{lineLength}
+use Rattle.runfile.specs.Reader.{line_length}
 use Rattle.runfile.proofs.Lines.{line-here, line-more, line-none}
 use Rattle.runfile.proofs.line_end.Statement.{statement}
 use Rattle.runfile.proofs.line_end.Tie as tie
 
 abbrev invariant-loop : tie.invariant-loop
-invariant-loop s at i₀ i = (at ≤ i) × (i ≤ length s) × (at + lineLength (drop at s) ≡ i + lineLength (drop i s))
+invariant-loop s at i₀ i = (at ≤ i) × (i ≤ length s) × (at + line_length (drop at s) ≡ i + line_length (drop i s))
 
 abbrev decreases-loop : tie.decreases-loop
 decreases-loop s at i₀ i = length s - i

@@ -2,7 +2,7 @@
 use Prim.Native.Nat.{◌-◌, ◌≤◌}
 use mathlib.Core.Path.{◌≡◌, sym, ◌∙◌}
 use lib.ListN.{length, take}
-use Rattle.store.specs.Store.{stateIn}
+use Rattle.store.specs.Store.{state_in}
 use Rattle.event.proofs.Readiness.{held-sized}
 use Rattle.course.specs.Carry.{Listed}
 use Rattle.course.proofs.Carrying.{listed-none, listed_more, listed-all}
@@ -12,7 +12,7 @@ use Rattle.course.proofs.carry.list.Statement.{statement}
 use Rattle.course.proofs.carry.list.Tie as tie
 
 abbrev invariant-loop : tie.invariant-loop
-invariant-loop b q₀ n i₀ q i = (i ≤ n) × (n ≡ length (stateIn b).flight) × Listed q i (take i (stateIn b).flight)
+invariant-loop b q₀ n i₀ q i = (i ≤ n) × (n ≡ length (state_in b).flight) × Listed q i (take i (state_in b).flight)
 
 abbrev decreases-loop : tie.decreases-loop
 decreases-loop b q₀ n i₀ q i = n - i

@@ -1,7 +1,7 @@
 -- `course::look::least_timer` meets its contract. Assumes nothing.
 use Prim.Native.Nat.{◌-◌, ◌≤◌}
 use mathlib.Core.Path.{◌≡◌}
-use Rattle.store.specs.Store.{planIn, stateIn}
+use Rattle.store.specs.Store.{plan_in, state_in}
 use Rattle.event.proofs.Readiness.{acting-plain}
 use Rattle.course.specs.Look.{Under}
 use Rattle.course.proofs.Looking.{under-starts, under-turn, under_all}
@@ -11,7 +11,7 @@ use Rattle.course.proofs.look.least_timer.Statement.{statement}
 use Rattle.course.proofs.look.least_timer.Tie as tie
 
 abbrev invariant-loop : tie.invariant-loop
-invariant-loop b dead t n least₀ i₀ least i = (i ≤ n) × (n ≡ (planIn b).n) × Under (planIn b) (stateIn b) i t least
+invariant-loop b dead t n least₀ i₀ least i = (i ≤ n) × (n ≡ (plan_in b).n) × Under (plan_in b) (state_in b) i t least
 
 abbrev decreases-loop : tie.decreases-loop
 decreases-loop b dead t n least₀ i₀ least i = n - i

@@ -1,7 +1,7 @@
 -- `course::look::timer_node` meets its contract. Assumes nothing.
 use Prim.Native.Nat.{◌-◌}
 use mathlib.Core.Path.{◌≡◌, subst}
-use Rattle.store.specs.Store.{planIn, stateIn}
+use Rattle.store.specs.Store.{plan_in, state_in}
 use Rattle.course.specs.Look.{Timers, DueNow}
 use Rattle.course.proofs.Looking.{passed-more, timer-here, timer-nowhere}
 use borrow.Author.Rules.{rules}
@@ -10,7 +10,7 @@ use Rattle.course.proofs.look.timer_node.Statement.{statement}
 use Rattle.course.proofs.look.timer_node.Tie as tie
 
 abbrev invariant-loop : tie.invariant-loop
-invariant-loop b dead t x n i₀ i = (n ≡ (planIn b).n) × Timers (planIn b) (stateIn b) t i
+invariant-loop b dead t x n i₀ i = (n ≡ (plan_in b).n) × Timers (plan_in b) (state_in b) t i
 
 abbrev decreases-loop : tie.decreases-loop
 decreases-loop b dead t x n i₀ i = n - i

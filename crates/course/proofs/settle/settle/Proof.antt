@@ -2,8 +2,8 @@
 use Prim.Native.Nat.{◌+◌, ◌≤◌}
 use mathlib.Core.Path.{refl}
 use lib.ListN.{length}
-use Rattle.limits.specs.Limits.{mostInFlight}
-use Rattle.store.specs.Store.{stateIn}
+use Rattle.limits.specs.Limits.{most_in_flight}
+use Rattle.store.specs.Store.{state_in}
 use Rattle.course.specs.Progress.{SettledAs}
 use Rattle.course.proofs.Progressing.{later-apart, apart-count}
 use borrow.Author.Rules.{rules}
@@ -45,7 +45,7 @@ returns-2 c =
     let at-take-turn = c.before.before.before.before.before in
     let at-if1 = at-take-turn.before.before.before in
     let start = at-if1.before.before.before.before in
-    let room : length (stateIn whole).flight + start.args.u.count ≤ mostInFlight =
+    let room : length (state_in whole).flight + start.args.u.count ≤ most_in_flight =
     omega (arith, at-if1.if1.false, apart-count _ _ _ _ whole a) in
     let t = at-take-turn.take-turn.ensures whole a (h room) in
     record { deed = refl; room = room; later = c.later.ensures; apart = later-apart _ _ start.args.c _ _ _ _ c.later.ensures t }

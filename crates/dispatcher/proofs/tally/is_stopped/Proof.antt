@@ -6,18 +6,18 @@ use Prim.Native.Nat.{ℕ}
 use types.Run.{miss}
 use Rattle.platform.specs.declared.Ran.{Ran}
 use Rattle.platform.specs.declared.Ran.TheVariants.{Done, Spent, Refused}
-use Rattle.dispatcher.specs.Tally.{isStopped}
+use Rattle.dispatcher.specs.Tally.{is_stopped}
 use borrow.Author.Rules.{rules}
 use Rattle.dispatcher.proofs.tally.is_stopped.Statement.{statement}
 use Rattle.dispatcher.proofs.tally.is_stopped.Tie as tie
 
 returns : tie.Need-returns
-unfolding isStopped
+unfolding is_stopped
 returns c = search rules
 
 -- an answer that is no refusal
-no-refusal : (a : Ran) → ((number n : ℕ) → a ≡ Refused number n → ⊥) → false ≡ isStopped a
-unfolding isStopped
+no-refusal : (a : Ran) → ((number n : ℕ) → a ≡ Refused number n → ⊥) → false ≡ is_stopped a
+unfolding is_stopped
 no-refusal (Spent n) h = refl
 no-refusal (Done n) h = refl
 no-refusal (Refused number n) h = absurd (h number n refl)

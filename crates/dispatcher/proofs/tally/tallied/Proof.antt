@@ -6,7 +6,7 @@ use Rattle.dispatcher.proofs.tally.tallied.Tie as tie
 
 returns : tie.Need-returns
 unfolding tallied
-returns c = rw (c.before.before.goes_on.ensures, c.before.is-stopped.ensures, c.events-done.ensures)
+returns c = rw (c.before.before.goes-on.ensures, c.before.is-stopped.ensures, c.events-done.ensures)
 
 pub tallied-spec : {M : Type 1} → statement M
 tallied-spec =

@@ -3,7 +3,7 @@ use mathlib.Core.Path.{sym, ap, subst, ◌∙◌}
 use Prim.Native.Nat.{◌-◌}
 use native.Mathlib.Omega.{arith}
 use Rattle.event.specs.Ready.{Ready}
-use Rattle.dispatcher.specs.Dispatch.{eventLeft}
+use Rattle.dispatcher.specs.Dispatch.{event_left}
 use Rattle.dispatcher.proofs.Parts.{lent-piece, start_fits, end_fits, Marking, marks-first, piece-ready, marks-next, marks-all}
 use borrow.Author.Rules.{rules}
 use Rattle.dispatcher.proofs.turns.able_at_first.Statement.{statement}
@@ -47,7 +47,7 @@ loop-again c =
     let turn = test.before in
     let start = turn.before.before in
     marks-next _ _ _ _ turn.loop.invariant test.loop-test.true
-    (c.event-left.ensures ∙ ap eventLeft (lent-piece start.args.part.now turn.loop.i))
+    (c.event-left.ensures ∙ ap event_left (lent-piece start.args.part.now turn.loop.i))
 
 returns : tie.Need-returns invariant-loop decreases-loop
 returns c = marks-all _ _ _ _ c.before.loop.invariant c.loop-test.false

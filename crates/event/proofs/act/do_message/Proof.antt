@@ -1,8 +1,8 @@
 -- `event::act::do_message` meets its contract. Assumes nothing.
 use Prim.Native.Nat.{◌+◌, ◌-◌, ◌≤◌}
 use lib.ListN.{length}
-use Rattle.limits.specs.Limits.{mostInFlight}
-use Rattle.store.specs.Store.{stateIn}
+use Rattle.limits.specs.Limits.{most_in_flight}
+use Rattle.store.specs.Store.{state_in}
 use mathlib.Core.Path.{◌∙◌}
 use Rattle.event.proofs.Readiness.{held-sized, ready-crashes, ready-acting}
 use Rattle.event.proofs.Doing.{event-tick, message-here, message-place, message-sender, message-subject, message-count, message-turns, message-refused}
@@ -108,7 +108,7 @@ returns-2 c =
     let u = at-message-turn.message-turn in
     let m = at-message-at.message-at in
     let is = u.ensures ∙ turn-of _ start.requires.0 _ _ start.requires.1 _ m.ensures in
-    let room : length (stateIn start.args.s.now).flight - 1 + u.result.count ≤ mostInFlight =
+    let room : length (state_in start.args.s.now).flight - 1 + u.result.count ≤ most_in_flight =
     omega (arith, at-if1.if1.false, at-message-count.message-count.ensures) in
     let k = rest-room _ start.requires.0 _ _ start.requires.1 _ m.ensures _ is room _ at-take-message.take-message.ensures in
     let listed = at-is-listed.is-listed.ensures in

@@ -1,7 +1,7 @@
 -- `event::search::earliest_crash` meets its contract. Assumes nothing.
 use mathlib.Core.Path.{sym}
 use native.Mathlib.Numerals.{add-one}
-use Rattle.store.specs.Store.{planIn, stateIn}
+use Rattle.store.specs.Store.{plan_in, state_in}
 use Rattle.event.proofs.Readiness.{acting-plain, held-sized}
 use Rattle.event.proofs.Searching.{crashes-over, crash-first}
 use native.Mathlib.Omega.{arith}
@@ -26,7 +26,7 @@ returns c =
     let at-crash-count = at-if1.before in
     let at-crashes-done = at-crash-count.before in
     let start = at-crashes-done.before.before in
-    rw (c.end-tick.ensures, add-one) (sym (crashes-over (planIn start.args.s.now) (stateIn start.args.s.now)
+    rw (c.end-tick.ensures, add-one) (sym (crashes-over (plan_in start.args.s.now) (state_in start.args.s.now)
     (omega (arith, at-if1.if1.true, at-crash-count.crash-count.ensures, at-crashes-done.crashes-done.ensures))))
 
 crash-at-requires : tie.Need-crash-at-requires
@@ -42,7 +42,7 @@ returns-2 c =
     let at-crashes-done = at-crash-count.before in
     let start = at-crashes-done.before.before in
     let e = at-crashes-done.crashes-done.ensures in
-    rw (c.crash-at.ensures, e) (sym (crash-first (planIn start.args.s.now) (acting-plain _ start.requires) (stateIn start.args.s.now)
+    rw (c.crash-at.ensures, e) (sym (crash-first (plan_in start.args.s.now) (acting-plain _ start.requires) (state_in start.args.s.now)
     (omega (arith, at-if1.if1.false, at-crash-count.crash-count.ensures, e))))
 
 pub earliest-crash-spec : {M : Type 1} → statement M

@@ -4,9 +4,9 @@ use Prim.Native.Nat.{◌-◌, ◌≤◌, ◌<◌}
 use mathlib.Core.Path.{◌≡◌, refl, sym, ◌∙◌}
 use mathlib.Core.Logic.{⊎_elim}
 use lib.ListN.{length, drop}
-use Rattle.model.specs.Platform.{messageEntries}
-use Rattle.store.specs.Store.{stateIn}
-use Rattle.event.specs.Search.{leastTick}
+use Rattle.model.specs.Platform.{message_entries}
+use Rattle.store.specs.Store.{state_in}
+use Rattle.event.specs.Search.{least_tick}
 use Rattle.event.proofs.Searching.{message-sooner, message-later, messages-over}
 use borrow.Author.Rules.{rules}
 use native.Mathlib.Omega.{arith}
@@ -15,8 +15,8 @@ use Rattle.event.proofs.search.earliest_message.Tie as tie
 
 abbrev invariant-loop : tie.invariant-loop
 invariant-loop s t n least₀ i₀ least i =
-    (n ≡ length (stateIn s).flight) × (i ≤ n) × (leastTick t (messageEntries 0 (stateIn s).flight) ≡ leastTick least
-    (messageEntries i (drop i (stateIn s).flight)))
+    (n ≡ length (state_in s).flight) × (i ≤ n) × (least_tick t (message_entries 0 (state_in s).flight) ≡ least_tick least
+    (message_entries i (drop i (state_in s).flight)))
 
 abbrev decreases-loop : tie.decreases-loop
 decreases-loop s t n least₀ i₀ least i = n - i
@@ -39,7 +39,7 @@ loop-again c =
     let test = at-due-at.before in
     let turn = test.before in
     let start = turn.before.before.before in
-    let f = (stateIn start.args.s.now).flight in
+    let f = (state_in start.args.s.now).flight in
     let l = turn.loop in
     let h : l.i < length f = omega (arith, test.loop-test.true, l.invariant.0) in (
       l.invariant.0,
@@ -52,7 +52,7 @@ returns : tie.Need-returns invariant-loop decreases-loop
 returns c =
     let turn = c.before in
     let start = turn.before.before.before in
-    sym (turn.loop.invariant.2 ∙ messages-over (stateIn start.args.s.now).flight turn.loop.i turn.loop.least
+    sym (turn.loop.invariant.2 ∙ messages-over (state_in start.args.s.now).flight turn.loop.i turn.loop.least
     (omega (arith, c.loop-test.false, turn.loop.invariant.0)))
 
 pub earliest-message-spec : {M : Type 1} → statement M

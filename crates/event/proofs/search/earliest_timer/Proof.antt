@@ -3,9 +3,9 @@ use Prim.Native.Nat.{◌-◌, ◌≤◌, ◌<◌}
 use mathlib.Core.Path.{◌≡◌, refl, sym, ◌∙◌}
 use mathlib.Core.Logic.{⊎_elim}
 use lib.ListN.{length, drop}
-use Rattle.model.specs.Platform.{timerEntries}
-use Rattle.store.specs.Store.{planIn, stateIn}
-use Rattle.event.specs.Search.{leastTick}
+use Rattle.model.specs.Platform.{timer_entries}
+use Rattle.store.specs.Store.{plan_in, state_in}
+use Rattle.event.specs.Search.{least_tick}
 use Rattle.event.proofs.Readiness.{held-sized, ready-plain}
 use Rattle.event.proofs.Searching.{live-next, dead-next, nodes-over, test_live, test-dead}
 use borrow.Author.Rules.{rules}
@@ -15,8 +15,8 @@ use Rattle.event.proofs.search.earliest_timer.Tie as tie
 
 abbrev invariant-loop : tie.invariant-loop
 invariant-loop s dead t n least₀ x₀ least x =
-    (n ≡ (planIn s).n) × (x ≤ n) × (leastTick t (timerEntries (planIn s) (stateIn s).done 0 (stateIn s).nodes) ≡ leastTick least
-    (timerEntries (planIn s) (stateIn s).done x (drop x (stateIn s).nodes)))
+    (n ≡ (plan_in s).n) × (x ≤ n) × (least_tick t (timer_entries (plan_in s) (state_in s).done 0 (state_in s).nodes) ≡ least_tick least
+    (timer_entries (plan_in s) (state_in s).done x (drop x (state_in s).nodes)))
 
 abbrev decreases-loop : tie.decreases-loop
 decreases-loop s dead t n least₀ x₀ least x = n - x
@@ -46,8 +46,8 @@ loop-again c =
     let test = at-is-listed.before in
     let turn = test.before in
     let start = turn.before.before.before in
-    let p = planIn start.args.s.now in
-    let z = stateIn start.args.s.now in
+    let p = plan_in start.args.s.now in
+    let z = state_in start.args.s.now in
     let l = turn.loop in
     let h : l.x < length z.nodes = rw start.requires.0.held.fits.nodes (omega (arith, test.loop-test.true, l.invariant.0)) in (
       l.invariant.0,
@@ -62,8 +62,8 @@ returns : tie.Need-returns invariant-loop decreases-loop
 returns c =
     let turn = c.before in
     let start = turn.before.before.before in
-    sym (turn.loop.invariant.2 ∙ nodes-over (planIn start.args.s.now) (ready-plain _ start.requires.0) (stateIn start.args.s.now).done
-    (stateIn start.args.s.now).nodes turn.loop.x turn.loop.least
+    sym (turn.loop.invariant.2 ∙ nodes-over (plan_in start.args.s.now) (ready-plain _ start.requires.0) (state_in start.args.s.now).done
+    (state_in start.args.s.now).nodes turn.loop.x turn.loop.least
     (rw start.requires.0.held.fits.nodes (omega (arith, c.loop-test.false, turn.loop.invariant.0))))
 
 pub earliest-timer-spec : {M : Type 1} → statement M

@@ -5,8 +5,8 @@ use Prim.Native.Nat.{◌-◌, ◌<◌}
 use mathlib.Core.Path.{◌≡◌, refl, sym, ap, ◌∙◌}
 use mathlib.Core.List.{◌++◌}
 use lib.ListN.{length, drop}
-use Rattle.model.specs.Platform.{crashEntries, messageEntries, timerEntries, pending}
-use Rattle.store.specs.Store.{planIn, stateIn}
+use Rattle.model.specs.Platform.{crash_entries, message_entries, timer_entries, pending}
+use Rattle.store.specs.Store.{plan_in, state_in}
 use Rattle.event.specs.Event.{next_of, next_at}
 use Rattle.event.specs.Search.{first_at}
 use Rattle.event.proofs.Readiness.{held-sized, ready-plain}
@@ -19,23 +19,23 @@ use Rattle.event.proofs.search.first_at.Tie as tie
 
 abbrev invariant-loop : tie.invariant-loop
 invariant-loop s dead t rows flying n c₀ c =
-    (rows ≡ length (planIn s).crashes) × (first_at t (pending (planIn s) (stateIn s)) ≡ first_at t
-    (crashEntries (drop c (planIn s).crashes) ++ (messageEntries 0 (stateIn s).flight ++ timerEntries (planIn s) (stateIn s).done 0 (stateIn s).nodes)))
+    (rows ≡ length (plan_in s).crashes) × (first_at t (pending (plan_in s) (state_in s)) ≡ first_at t
+    (crash_entries (drop c (plan_in s).crashes) ++ (message_entries 0 (state_in s).flight ++ timer_entries (plan_in s) (state_in s).done 0 (state_in s).nodes)))
 
 abbrev decreases-loop : tie.decreases-loop
 decreases-loop s dead t rows flying n c₀ c = rows - c
 
 abbrev invariant-loop2 : tie.invariant-loop2
 invariant-loop2 s dead t rows flying n c i₀ i =
-    (flying ≡ length (stateIn s).flight) × (first_at t (pending (planIn s) (stateIn s)) ≡ first_at t
-    (messageEntries i (drop i (stateIn s).flight) ++ timerEntries (planIn s) (stateIn s).done 0 (stateIn s).nodes))
+    (flying ≡ length (state_in s).flight) × (first_at t (pending (plan_in s) (state_in s)) ≡ first_at t
+    (message_entries i (drop i (state_in s).flight) ++ timer_entries (plan_in s) (state_in s).done 0 (state_in s).nodes))
 
 abbrev decreases-loop2 : tie.decreases-loop2
 decreases-loop2 s dead t rows flying n c i₀ i = flying - i
 
 abbrev invariant-loop3 : tie.invariant-loop3
 invariant-loop3 s dead t rows flying n c i x₀ x =
-    (n ≡ (planIn s).n) × (first_at t (pending (planIn s) (stateIn s)) ≡ first_at t (timerEntries (planIn s) (stateIn s).done x (drop x (stateIn s).nodes)))
+    (n ≡ (plan_in s).n) × (first_at t (pending (plan_in s) (state_in s)) ≡ first_at t (timer_entries (plan_in s) (state_in s).done x (drop x (state_in s).nodes)))
 
 abbrev decreases-loop3 : tie.decreases-loop3
 decreases-loop3 s dead t rows flying n c i x₀ x = n - x
@@ -129,8 +129,8 @@ loop-again c =
     let test = at-crash-at.before in
     let turn = test.before in
     let start = turn.before.before.before.before.before.before.before in
-    let p = planIn start.args.s.now in
-    let z = stateIn start.args.s.now in
+    let p = plan_in start.args.s.now in
+    let z = state_in start.args.s.now in
     let l = turn.loop in (
       l.invariant.0,
       l.invariant.1 ∙ crash-skip start.args.t _ p.crashes l.c (omega (arith, test.loop-test.true, l.invariant.0))
@@ -143,8 +143,8 @@ loop2-holds c =
     let turn = c.before in
     let at-message-count = turn.before.before.before.before in
     let start = at-message-count.before.before.before in
-    let p = planIn start.args.s.now in
-    let z = stateIn start.args.s.now in
+    let p = plan_in start.args.s.now in
+    let z = state_in start.args.s.now in
     let l = turn.loop in
     (at-message-count.message-count.ensures, l.invariant.1 ∙ crash-end start.args.t _ p.crashes l.c (omega (arith, c.loop-test.false, l.invariant.0)))
 
@@ -166,8 +166,8 @@ loop2-again c =
     let test = at-due-at.before in
     let at-loop2 = test.before in
     let start = at-loop2.before.before.before.before.before.before.before.before.before in
-    let p = planIn start.args.s.now in
-    let z = stateIn start.args.s.now in
+    let p = plan_in start.args.s.now in
+    let z = state_in start.args.s.now in
     let l = at-loop2.loop2 in (
       l.invariant.0,
       l.invariant.1 ∙ message-skip start.args.t _ z.flight l.i (omega (arith, test.loop2-test.true, l.invariant.0))
@@ -180,8 +180,8 @@ loop3-holds c =
     let at-loop2 = c.before in
     let at-node-count = at-loop2.before.before.before.before.before in
     let start = at-node-count.before.before.before.before in
-    let p = planIn start.args.s.now in
-    let z = stateIn start.args.s.now in
+    let p = plan_in start.args.s.now in
+    let z = state_in start.args.s.now in
     let l = at-loop2.loop2 in
     (at-node-count.node-count.ensures, l.invariant.1 ∙ message-end start.args.t _ z.flight l.i (omega (arith, c.loop2-test.false, l.invariant.0)))
 
@@ -235,8 +235,8 @@ loop3-again c =
     let test = at-is-listed.before in
     let at-loop3 = test.before in
     let start = at-loop3.before.before.before.before.before.before.before.before.before.before.before in
-    let p = planIn start.args.s.now in
-    let z = stateIn start.args.s.now in
+    let p = plan_in start.args.s.now in
+    let z = state_in start.args.s.now in
     let l = at-loop3.loop3 in
     let h : at-loop3.loop3.x < length z.nodes =
     rw start.requires.0.held.fits.nodes (omega (arith, test.loop3-test.true, at-loop3.loop3.invariant.0)) in (
@@ -254,8 +254,8 @@ returns c =
     let test = at-crash-at.before in
     let turn = test.before in
     let start = turn.before.before.before.before.before.before.before in
-    let p = planIn start.args.s.now in
-    let z = stateIn start.args.s.now in
+    let p = plan_in start.args.s.now in
+    let z = state_in start.args.s.now in
     let l = turn.loop in
     let e = at-crash-at.crash-at.ensures in
     rw e (sym (ap next_of (l.invariant.1 ∙ crash-hit start.args.t _ p.crashes l.c (omega (arith, test.loop-test.true, l.invariant.0))
@@ -269,8 +269,8 @@ returns-2 c =
     let test = at-due-at.before in
     let at-loop2 = test.before in
     let start = at-loop2.before.before.before.before.before.before.before.before.before in
-    let p = planIn start.args.s.now in
-    let z = stateIn start.args.s.now in
+    let p = plan_in start.args.s.now in
+    let z = state_in start.args.s.now in
     let l = at-loop2.loop2 in
     sym (ap next_of (l.invariant.1 ∙ message-hit start.args.t _ z.flight l.i (omega (arith, test.loop2-test.true, l.invariant.0))
     (sym at-due-at.due-at.ensures ∙ c.if2.true)))
@@ -285,8 +285,8 @@ returns-3 c =
     let test = at-is-listed.before in
     let at-loop3 = test.before in
     let start = at-loop3.before.before.before.before.before.before.before.before.before.before.before in
-    let p = planIn start.args.s.now in
-    let z = stateIn start.args.s.now in
+    let p = plan_in start.args.s.now in
+    let z = state_in start.args.s.now in
     let l = at-loop3.loop3 in
     let h : at-loop3.loop3.x < length z.nodes = rw start.requires.0.held.fits.nodes (omega (arith, test.loop3-test.true, at-loop3.loop3.invariant.0)) in
     sym (ap next_of (l.invariant.1 ∙ watch-hit p (ready-plain _ start.requires.0) z.done z.nodes start.args.t l.x _ h at-node-at.node_at.ensures
@@ -303,8 +303,8 @@ returns-4 c =
     let test = at-is-listed.before in
     let at-loop3 = test.before in
     let start = at-loop3.before.before.before.before.before.before.before.before.before.before.before in
-    let p = planIn start.args.s.now in
-    let z = stateIn start.args.s.now in
+    let p = plan_in start.args.s.now in
+    let z = state_in start.args.s.now in
     let l = at-loop3.loop3 in
     let h : at-loop3.loop3.x < length z.nodes = rw start.requires.0.held.fits.nodes (omega (arith, test.loop3-test.true, at-loop3.loop3.invariant.0)) in
     sym (ap next_of (l.invariant.1 ∙ beat-hit p (ready-plain _ start.requires.0) z.done z.nodes start.args.t l.x _ h at-node-at.node_at.ensures
@@ -317,8 +317,8 @@ unfolding next_of next_at
 returns-5 c =
     let at-loop3 = c.before in
     let start = at-loop3.before.before.before.before.before.before.before.before.before.before.before in
-    let p = planIn start.args.s.now in
-    let z = stateIn start.args.s.now in
+    let p = plan_in start.args.s.now in
+    let z = state_in start.args.s.now in
     let l = at-loop3.loop3 in
     sym (ap next_of (l.invariant.1 ∙ nodes-end p (ready-plain _ start.requires.0) z.done z.nodes start.args.t l.x
     (rw start.requires.0.held.fits.nodes (omega (arith, c.loop3-test.false, l.invariant.0)))))

@@ -1,6 +1,6 @@
 -- `event::search::next_event` meets its contract. Assumes nothing.
 use mathlib.Core.Path.{sym, ◌∙◌}
-use Rattle.store.specs.Store.{planIn, stateIn}
+use Rattle.store.specs.Store.{plan_in, state_in}
 use Rattle.event.proofs.Readiness.{ready-acting, ready-crashes}
 use Rattle.event.proofs.Searching.{search-none, search-found}
 use native.Mathlib.Omega.{arith}
@@ -32,7 +32,7 @@ returns c =
     let at-earliest-message = at-earliest-timer.before in
     let at-earliest-crash = at-earliest-message.before in
     let start = at-earliest-crash.before.before.before in
-    sym (search-none (planIn start.args.s.now) (stateIn start.args.s.now) _ _ _ at-earliest-crash.earliest-crash.ensures
+    sym (search-none (plan_in start.args.s.now) (state_in start.args.s.now) _ _ _ at-earliest-crash.earliest-crash.ensures
     at-earliest-message.earliest-message.ensures at-earliest-timer.earliest-timer.ensures
     (omega (arith, c.if1.true, at-end-tick.end-tick.ensures)))
 
@@ -51,7 +51,7 @@ returns-2 c =
     let at-earliest-message = at-earliest-timer.before in
     let at-earliest-crash = at-earliest-message.before in
     let start = at-earliest-crash.before.before.before in
-    c.first-at.ensures ∙ sym (search-found (planIn start.args.s.now) (stateIn start.args.s.now) _ _ _ at-earliest-crash.earliest-crash.ensures
+    c.first-at.ensures ∙ sym (search-found (plan_in start.args.s.now) (state_in start.args.s.now) _ _ _ at-earliest-crash.earliest-crash.ensures
     at-earliest-message.earliest-message.ensures at-earliest-timer.earliest-timer.ensures
     (omega (arith, at-if1.if1.false, at-end-tick.end-tick.ensures)))
 

@@ -2,15 +2,15 @@
 use Prim.Native.Nat.{◌-◌}
 use mathlib.Core.Path.{◌≡◌, refl}
 use lib.ListN.{drop}
-use Rattle.plans.specs.Plan.{crashRange, every}
-use Rattle.store.specs.Store.{planIn}
+use Rattle.plans.specs.Plan.{crash_range, every}
+use Rattle.store.specs.Store.{plan_in}
 use Rattle.lent.proofs.RowTests.{every-turn, every-stop, every-end}
 use borrow.Author.Rules.{rules}
 use Rattle.lent.proofs.rows.crashes_in_range.Statement.{statement}
 use Rattle.lent.proofs.rows.crashes_in_range.Tie as tie
 
 abbrev invariant-loop : tie.invariant-loop
-invariant-loop s count i₀ i = every (crashRange (planIn s)) (planIn s).crashes ≡ every (crashRange (planIn s)) (drop i (planIn s).crashes)
+invariant-loop s count i₀ i = every (crash_range (plan_in s)) (plan_in s).crashes ≡ every (crash_range (plan_in s)) (drop i (plan_in s).crashes)
 
 abbrev decreases-loop : tie.decreases-loop
 decreases-loop s count i₀ i = count - i

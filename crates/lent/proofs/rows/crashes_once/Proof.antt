@@ -2,8 +2,8 @@
 use Prim.Native.Nat.{◌-◌}
 use mathlib.Core.Path.{◌≡◌, refl, sym}
 use lib.ListN.{drop}
-use Rattle.plans.specs.Plan.{noneTwice}
-use Rattle.store.specs.Store.{planIn}
+use Rattle.plans.specs.Plan.{none_twice}
+use Rattle.store.specs.Store.{plan_in}
 use Rattle.lent.proofs.RowTests.{once-turn, once-stop, once-end}
 use borrow.Author.Rules.{rules}
 use native.Mathlib.Omega.{arith}
@@ -11,7 +11,7 @@ use Rattle.lent.proofs.rows.crashes_once.Statement.{statement}
 use Rattle.lent.proofs.rows.crashes_once.Tie as tie
 
 abbrev invariant-loop : tie.invariant-loop
-invariant-loop s count i₀ i = noneTwice (planIn s).crashes ≡ noneTwice (drop i (planIn s).crashes)
+invariant-loop s count i₀ i = none_twice (plan_in s).crashes ≡ none_twice (drop i (plan_in s).crashes)
 
 abbrev decreases-loop : tie.decreases-loop
 decreases-loop s count i₀ i = count - i
@@ -24,7 +24,7 @@ returns c =
     let after-crashes-from = c.before in
     let after-crash-at = after-crashes-from.before in
     let turn = after-crash-at.before.before in
-    let p = planIn turn.before.before.before.args.s.now in
+    let p = plan_in turn.before.before.before.args.s.now in
     sym
     (once-stop p.crashes turn.loop.i turn.loop.invariant after-crash-at.crash-at.ensures after-crashes-from.crashes-from.ensures (omega arith)
     c.if1.true)
@@ -34,14 +34,14 @@ loop-again c =
     let after-crashes-from = c.before in
     let after-crash-at = after-crashes-from.before in
     let turn = after-crash-at.before.before in
-    let p = planIn turn.before.before.before.args.s.now in
+    let p = plan_in turn.before.before.before.args.s.now in
     once-turn p.crashes turn.loop.i turn.loop.invariant after-crash-at.crash-at.ensures after-crashes-from.crashes-from.ensures (omega arith)
     c.if1.false
 
 returns-2 : tie.Need-returns-2 invariant-loop decreases-loop
 returns-2 c =
     let turn = c.before in
-    let p = planIn turn.before.before.before.args.s.now in
+    let p = plan_in turn.before.before.before.args.s.now in
     sym (once-end p.crashes turn.loop.i turn.loop.invariant (omega arith))
 
 pub crashes-once-spec : {M : Type 1} → statement M

@@ -1,6 +1,6 @@
 -- `lent::rows::delay_rows_in_range` meets its contract. Assumes nothing.
 use mathlib.Core.Path.{sym, ◌∙◌}
-use Rattle.plans.specs.Plan.{delayTest}
+use Rattle.plans.specs.Plan.{delay_test}
 use Rattle.fields.proofs.Answers.{fails, holds}
 use Rattle.lent.proofs.RowTests.{delays-by-order}
 use borrow.Author.Rules.{rules}
@@ -8,7 +8,7 @@ use Rattle.lent.proofs.rows.delay_rows_in_range.Statement.{statement}
 use Rattle.lent.proofs.rows.delay_rows_in_range.Tie as tie
 
 returns : tie.Need-returns
-unfolding delayTest
+unfolding delay_test
 returns c = rw (fails c.before.delays-in-range.ensures c.if1.true)
 
 returns-2 : tie.Need-returns-2

@@ -1,22 +1,22 @@
 -- `lent::rows::plan_in_range` meets its contract. Assumes nothing.
-use Rattle.plans.specs.Plan.{planTest}
+use Rattle.plans.specs.Plan.{plan_test}
 use borrow.Author.Rules.{rules}
 use Rattle.lent.proofs.rows.plan_in_range.Statement.{statement}
 use Rattle.lent.proofs.rows.plan_in_range.Tie as tie
 use Rattle.lent.proofs.Parts.{part-fails, part-holds}
 
 returns : tie.Need-returns
-unfolding planTest
+unfolding plan_test
 returns c = part-fails c.before.values-in-range.ensures c.if1.true _
 
 returns-2 : tie.Need-returns-2
-unfolding planTest
+unfolding plan_test
 returns-2 c =
     let start = c.before.before in
     part-holds start.before.values-in-range.ensures start.if1.false (part-fails c.before.ring-in-range.ensures c.if2.true _)
 
 returns-3 : tie.Need-returns-3
-unfolding planTest
+unfolding plan_test
 returns-3 c =
     let ring = c.before.before in
     let start = ring.before.before in
@@ -25,7 +25,7 @@ returns-3 c =
     (part-fails c.before.crash-rows-in-range.ensures c.if3.true _))
 
 returns-4 : tie.Need-returns-4
-unfolding planTest
+unfolding plan_test
 returns-4 c =
     let crashes = c.before in
     let ring = crashes.before.before in

@@ -3,8 +3,8 @@ use mathlib.Core.Path.{◌≡◌}
 use Prim.Native.Nat.{◌-◌, ◌≤◌}
 use lib.ListN.{length}
 use native.Mathlib.Omega.{arith}
-use Rattle.limits.specs.Limits.{mostNodes}
-use Rattle.store.specs.Store.{planIn}
+use Rattle.limits.specs.Limits.{most_nodes}
+use Rattle.store.specs.Store.{plan_in}
 use Rattle.lent.proofs.RowTests.{Seen, none_seen, ring-above, ring-twice, ring-turn, ring-end}
 use borrow.Author.Rules.{rules}
 use Rattle.lent.proofs.rows.ring_nodes_once.Statement.{statement}
@@ -12,7 +12,7 @@ use Rattle.lent.proofs.rows.ring_nodes_once.Tie as tie
 
 abbrev invariant-loop : tie.invariant-loop
 invariant-loop s n size seen₀ i₀ seen i =
-    (n ≡ (planIn s).n) × (n ≤ mostNodes) × (size ≡ length (planIn s).ring) × (i ≤ size) × Seen (planIn s) (planIn s).ring i seen
+    (n ≡ (plan_in s).n) × (n ≤ most_nodes) × (size ≡ length (plan_in s).ring) × (i ≤ size) × Seen (plan_in s) (plan_in s).ring i seen
 
 abbrev decreases-loop : tie.decreases-loop
 decreases-loop s n size seen₀ i₀ seen i = size - i

@@ -1,7 +1,7 @@
 -- `lent::state::node_in_range` meets its contract. Assumes nothing.
 use Rattle.plans.proofs.Facts.{plan-plain}
 use mathlib.Core.Path.{◌∙◌}
-use Rattle.store.specs.Store.{planIn, stateIn}
+use Rattle.store.specs.Store.{plan_in, state_in}
 use Rattle.fields.proofs.Answers.{fails, holds}
 use Rattle.lent.proofs.StateTests.{node-out, node-crashed, node-live}
 use borrow.Author.Rules.{rules}
@@ -14,7 +14,7 @@ returns c =
     let after-node-at = after-node-fits.before in
     let start = after-node-at.before.before in
     rw (← after-node-at.node_at.ensures)
-    (node-out (planIn start.args.s.now) (plan-plain _ start.requires.0.plan) (stateIn start.args.s.now).done start.args.t start.args.x _
+    (node-out (plan_in start.args.s.now) (plan-plain _ start.requires.0.plan) (state_in start.args.s.now).done start.args.t start.args.x _
     (fails after-node-fits.node-fits.ensures c.if1.true))
 
 returns-2 : tie.Need-returns-2
@@ -25,7 +25,7 @@ returns-2 c =
     let after-node-at = after-node-fits.before in
     let start = after-node-at.before.before in
     rw (← after-node-at.node_at.ensures)
-    (node-crashed (planIn start.args.s.now) (plan-plain _ start.requires.0.plan) (stateIn start.args.s.now).done
+    (node-crashed (plan_in start.args.s.now) (plan-plain _ start.requires.0.plan) (state_in start.args.s.now).done
     start.args.t start.args.x _
     (holds after-node-fits.node-fits.ensures at-if1.if1.false) _ start.requires.1.0 _ after-is-listed.is-listed.ensures c.if2.true)
 
@@ -39,7 +39,7 @@ returns-3 c =
     let start = after-node-at.before.before in
     rw (← after-node-at.node_at.ensures)
     (c.live-fits.ensures
-    ∙ node-live (planIn start.args.s.now) (plan-plain _ start.requires.0.plan) (stateIn start.args.s.now).done start.args.t
+    ∙ node-live (plan_in start.args.s.now) (plan-plain _ start.requires.0.plan) (state_in start.args.s.now).done start.args.t
     start.args.x _ (holds after-node-fits.node-fits.ensures at-if1.if1.false) _ start.requires.1.0 _ after-is-listed.is-listed.ensures
     at-if2.if2.false)
 

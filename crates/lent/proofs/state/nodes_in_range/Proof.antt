@@ -2,8 +2,8 @@
 use Prim.Native.Nat.{◌-◌, ◌≤◌}
 use mathlib.Core.Path.{◌≡◌, refl, sym, ◌∙◌}
 use lib.ListN.{drop}
-use Rattle.model.specs.Range.{nodesTest}
-use Rattle.store.specs.Store.{planIn, stateIn}
+use Rattle.model.specs.Range.{nodes_test}
+use Rattle.store.specs.Store.{plan_in, state_in}
 use Rattle.store.proofs.Store.{length-nodes}
 use Rattle.fields.proofs.Answers.{fails, holds}
 use Rattle.lent.proofs.StateTests.{nodes-stop, nodes-turn, nodes-end}
@@ -14,8 +14,8 @@ use Rattle.lent.proofs.state.nodes_in_range.Tie as tie
 
 abbrev invariant-loop : tie.invariant-loop
 invariant-loop s t dead n x₀ x =
-    (n ≡ (planIn s).n) × (x ≤ n)
-    × (nodesTest (planIn s) (stateIn s).done t 0 (stateIn s).nodes ≡ nodesTest (planIn s) (stateIn s).done t x (drop x (stateIn s).nodes))
+    (n ≡ (plan_in s).n) × (x ≤ n)
+    × (nodes_test (plan_in s) (state_in s).done t 0 (state_in s).nodes ≡ nodes_test (plan_in s) (state_in s).done t x (drop x (state_in s).nodes))
 
 abbrev decreases-loop : tie.decreases-loop
 decreases-loop s t dead n x₀ x = n - x
@@ -50,7 +50,7 @@ returns-2 c =
     let turn = c.before in
     let start = turn.before.before.before in
     let b = start.args.s.now in
-    sym (turn.loop.invariant.2 ∙ nodes-end _ _ _ (stateIn b).nodes _ (omega (arith, length-nodes b)))
+    sym (turn.loop.invariant.2 ∙ nodes-end _ _ _ (state_in b).nodes _ (omega (arith, length-nodes b)))
 
 pub nodes-in-range-spec : {M : Type 1} → statement M
 nodes-in-range-spec =

@@ -1,6 +1,6 @@
 -- `lent::state::state_in_range` meets its contract. Assumes nothing.
 use mathlib.Core.Path.{◌∙◌}
-use Rattle.store.specs.Store.{planIn, stateIn}
+use Rattle.store.specs.Store.{plan_in, state_in}
 use Rattle.store.proofs.Store.{length-nodes}
 use Rattle.fields.proofs.Answers.{fails, holds}
 use Rattle.lent.proofs.StateTests.{done-out, last_out, next-out, nodes-out, messages-out, undone-last}
@@ -13,19 +13,19 @@ returns : tie.Need-returns
 returns c =
     let start = c.before.before.before.before.before.before in
     let b = start.args.s.now in
-    done-out (planIn b) (stateIn b) (length-nodes b) start.requires.0.counts.messages (omega arith)
+    done-out (plan_in b) (state_in b) (length-nodes b) start.requires.0.counts.messages (omega arith)
 
 returns-2 : tie.Need-returns-2
 returns-2 c =
     let start = c.before.before.before.before.before.before.before.before in
     let b = start.args.s.now in
-    last_out (planIn b) (stateIn b) (length-nodes b) start.requires.0.counts.messages (omega arith) (omega arith)
+    last_out (plan_in b) (state_in b) (length-nodes b) start.requires.0.counts.messages (omega arith) (omega arith)
 
 returns-3 : tie.Need-returns-3
 returns-3 c =
     let start = c.before.before.before.before.before.before.before.before.before in
     let b = start.args.s.now in
-    next-out (planIn b) (stateIn b) (length-nodes b) start.requires.0.counts.messages (omega arith) (omega arith) (omega arith)
+    next-out (plan_in b) (state_in b) (length-nodes b) start.requires.0.counts.messages (omega arith) (omega arith) (omega arith)
 
 returns-4 : tie.Need-returns-4
 returns-4 c =
@@ -34,7 +34,7 @@ returns-4 c =
     let after_last = after_next.before in
     let start = after_last.before.before in
     let b = start.args.s.now in
-    nodes-out (planIn b) (stateIn b) (length-nodes b) start.requires.0.counts.messages (omega arith) (omega arith) (omega arith) _ _
+    nodes-out (plan_in b) (state_in b) (length-nodes b) start.requires.0.counts.messages (omega arith) (omega arith) (omega arith) _ _
     after_last.last-tick.ensures after_next.next-number.ensures (fails after-nodes-in-range.nodes-in-range.ensures c.if4.true)
 
 returns-5 : tie.Need-returns-5
@@ -43,7 +43,7 @@ returns-5 c =
     let after_last = after_next.before in
     let start = after_last.before.before in
     let b = start.args.s.now in
-    messages-out (planIn b) (stateIn b) (length-nodes b) start.requires.0.counts.messages (omega arith) (omega arith) (omega arith) _ _
+    messages-out (plan_in b) (state_in b) (length-nodes b) start.requires.0.counts.messages (omega arith) (omega arith) (omega arith) _ _
     after_last.last-tick.ensures after_next.next-number.ensures
     (holds c.before.before.before.nodes-in-range.ensures c.before.before.if4.false) (fails c.before.messages-in-range.ensures c.if5.true)
 
@@ -54,7 +54,7 @@ returns-6 c =
     let start = after_last.before.before in
     let b = start.args.s.now in
     c.undone-in-range.ensures
-    ∙ undone-last (planIn b) (stateIn b) (length-nodes b) start.requires.0.counts.messages (omega arith) (omega arith) (omega arith) _ _
+    ∙ undone-last (plan_in b) (state_in b) (length-nodes b) start.requires.0.counts.messages (omega arith) (omega arith) (omega arith) _ _
     after_last.last-tick.ensures after_next.next-number.ensures
     (holds c.before.before.before.before.nodes-in-range.ensures c.before.before.before.if4.false)
     (holds c.before.before.messages-in-range.ensures c.before.if5.false)

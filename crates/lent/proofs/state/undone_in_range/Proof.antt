@@ -1,5 +1,5 @@
 -- `lent::state::undone_in_range` meets its contract. Assumes nothing.
-use Rattle.store.specs.Store.{planIn}
+use Rattle.store.specs.Store.{plan_in}
 use Rattle.lent.proofs.StateTests.{undone-none, undone-first}
 use native.Mathlib.Omega.{arith}
 use borrow.Author.Rules.{rules}
@@ -12,7 +12,7 @@ returns c =
     let after-crashes-done = after-crash-count.before in
     let start = after-crashes-done.before.before in
     rw (← after-crashes-done.crashes-done.ensures)
-    (undone-none (planIn start.args.s.now).crashes after-crashes-done.crashes-done.result _
+    (undone-none (plan_in start.args.s.now).crashes after-crashes-done.crashes-done.result _
     (omega (arith, c.if1.true, after-crash-count.crash-count.ensures)))
 
 returns-2 : tie.Need-returns-2
@@ -23,7 +23,7 @@ returns-2 c =
     let after-crashes-done = after-crash-count.before in
     let start = after-crashes-done.before.before in
     rw (← after-crashes-done.crashes-done.ensures)
-    (undone-first (planIn start.args.s.now).crashes _ _ (omega (arith, at-if1.if1.false, after-crash-count.crash-count.ensures)) _
+    (undone-first (plan_in start.args.s.now).crashes _ _ (omega (arith, at-if1.if1.false, after-crash-count.crash-count.ensures)) _
     after-crash-at.crash-at.ensures)
 
 pub undone-in-range-spec : {M : Type 1} → statement M

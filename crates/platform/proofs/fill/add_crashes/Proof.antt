@@ -3,8 +3,8 @@ use mathlib.Core.Path.{◌≡◌, ◌∙◌}
 use Prim.Native.Nat.{◌-◌, ◌≤◌}
 use lib.ListN.{length}
 use Rattle.plans.specs.Plan.{Plan}
-use Rattle.runfile.specs.Reader.{crashPlace}
-use Rattle.limits.specs.Limits.{storeSize}
+use Rattle.runfile.specs.Reader.{crash_place}
+use Rattle.limits.specs.Limits.{store_size}
 use Rattle.platform.specs.Accepts.{plan_of}
 use Rattle.store.specs.Filling.{filled}
 use Rattle.platform.proofs.Opening.{crash-fits, crash-next, crash-put, at-end}
@@ -14,7 +14,7 @@ use Rattle.platform.proofs.fill.add_crashes.Tie as tie
 
 abbrev invariant-loop : tie.invariant-loop
 invariant-loop s₀ file first count at₀ i₀ s at i =
-    (at ≡ crashPlace (plan_of file) i) × (i ≤ count) × (s ≡ filled (plan_of file) i 0) × (length s ≡ storeSize)
+    (at ≡ crash_place (plan_of file) i) × (i ≤ count) × (s ≡ filled (plan_of file) i 0) × (length s ≡ store_size)
 
 abbrev decreases-loop : tie.decreases-loop
 decreases-loop s₀ file first count at₀ i₀ s at i = count - i
@@ -29,7 +29,7 @@ returns : tie.Need-returns invariant-loop decreases-loop
 returns c =
     let v = c.before.loop.invariant in
     let p : Plan = plan_of c.before.before.before.before.args.file.now in
-    (at-end (crashPlace p) v.1 c.loop-test.false v.0, at-end (λ k. filled p k 0) v.1 c.loop-test.false v.2)
+    (at-end (crash_place p) v.1 c.loop-test.false v.0, at-end (λ k. filled p k 0) v.1 c.loop-test.false v.2)
 
 pub add-crashes-spec : {M : Type 1} → statement M
 add-crashes-spec =

@@ -2,8 +2,8 @@
 use mathlib.Core.Path.{◌≡◌, ◌∙◌}
 use Prim.Native.Nat.{◌-◌, ◌≤◌}
 use lib.ListN.{length}
-use Rattle.runfile.specs.Reader.{delayPlace}
-use Rattle.limits.specs.Limits.{storeSize}
+use Rattle.runfile.specs.Reader.{delay_place}
+use Rattle.limits.specs.Limits.{store_size}
 use Rattle.platform.specs.Accepts.{plan_of}
 use Rattle.store.specs.Filling.{filled}
 use Rattle.platform.proofs.Opening.{delay-fits, delay-next, delay-put, at-end}
@@ -13,7 +13,7 @@ use Rattle.platform.proofs.fill.add_delays.Tie as tie
 
 abbrev invariant-loop : tie.invariant-loop
 invariant-loop s₀ file first count at₀ i₀ s at i =
-    (at ≡ delayPlace (plan_of file) i) × (i ≤ count) × (s ≡ filled (plan_of file) (length (plan_of file).crashes) i) × (length s ≡ storeSize)
+    (at ≡ delay_place (plan_of file) i) × (i ≤ count) × (s ≡ filled (plan_of file) (length (plan_of file).crashes) i) × (length s ≡ store_size)
 
 abbrev decreases-loop : tie.decreases-loop
 decreases-loop s₀ file first count at₀ i₀ s at i = count - i

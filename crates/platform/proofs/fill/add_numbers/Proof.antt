@@ -3,8 +3,8 @@ use mathlib.Core.Path.{◌≡◌, ◌∙◌}
 use Prim.Native.Nat.{◌-◌, ◌≤◌}
 use lib.ListN.{length}
 use Rattle.plans.specs.Plan.{Plan}
-use Rattle.runfile.specs.Reader.{ringPlace}
-use Rattle.limits.specs.Limits.{storeSize}
+use Rattle.runfile.specs.Reader.{ring_place}
+use Rattle.limits.specs.Limits.{store_size}
 use Rattle.platform.specs.Accepts.{plan_of}
 use Rattle.store.specs.Filling.{begun}
 use Rattle.platform.proofs.Opening.{number_fits, number-next, number_put, at-end}
@@ -14,7 +14,7 @@ use Rattle.platform.proofs.fill.add_numbers.Tie as tie
 
 abbrev invariant-loop : tie.invariant-loop
 invariant-loop s₀ file first count at₀ i₀ s at i =
-    (at ≡ ringPlace (plan_of file) i) × (i ≤ count) × (s ≡ begun (plan_of file) i) × (length s ≡ storeSize)
+    (at ≡ ring_place (plan_of file) i) × (i ≤ count) × (s ≡ begun (plan_of file) i) × (length s ≡ store_size)
 
 abbrev decreases-loop : tie.decreases-loop
 decreases-loop s₀ file first count at₀ i₀ s at i = count - i
@@ -29,7 +29,7 @@ returns : tie.Need-returns invariant-loop decreases-loop
 returns c =
     let v = c.before.loop.invariant in
     let p : Plan = plan_of c.before.before.before.before.args.file.now in
-    (at-end (ringPlace p) v.1 c.loop-test.false v.0, at-end (begun p) v.1 c.loop-test.false v.2)
+    (at-end (ring_place p) v.1 c.loop-test.false v.0, at-end (begun p) v.1 c.loop-test.false v.2)
 
 pub add-numbers-spec : {M : Type 1} → statement M
 add-numbers-spec =

@@ -3,8 +3,8 @@ use mathlib.Core.Path.{◌≡◌, ◌∙◌}
 use Prim.Native.Nat.{◌-◌, ◌≤◌}
 use lib.ListN.{length, take}
 use Rattle.text.specs.Put.{Put}
-use Rattle.runfile.specs.Text.{crashText, rowsText}
-use Rattle.store.specs.Store.{planIn}
+use Rattle.runfile.specs.Text.{crash_text, rows_text}
+use Rattle.store.specs.Store.{plan_in}
 use Rattle.event.proofs.Readiness.{held-sized}
 use Rattle.platform.proofs.Writing.{rows_none, crash-room, crash-written, rows_end}
 use borrow.Author.Rules.{rules}
@@ -13,7 +13,7 @@ use Rattle.platform.proofs.write.put_crashes.Tie as tie
 
 abbrev invariant-loop : tie.invariant-loop
 invariant-loop store out₀ first count at₀ i₀ out at i =
-    (i ≤ count) × Put out₀ first (rowsText crashText (take i (planIn store).crashes)) at out × (length out ≡ length out₀)
+    (i ≤ count) × Put out₀ first (rows_text crash_text (take i (plan_in store).crashes)) at out × (length out ≡ length out₀)
 
 abbrev decreases-loop : tie.decreases-loop
 decreases-loop store out₀ first count at₀ i₀ out at i = count - i

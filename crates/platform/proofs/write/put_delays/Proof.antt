@@ -3,8 +3,8 @@ use mathlib.Core.Path.{◌≡◌, ◌∙◌}
 use Prim.Native.Nat.{◌-◌, ◌≤◌}
 use lib.ListN.{length, take}
 use Rattle.text.specs.Put.{Put}
-use Rattle.runfile.specs.Text.{delayText, rowsText}
-use Rattle.store.specs.Store.{planIn}
+use Rattle.runfile.specs.Text.{delay_text, rows_text}
+use Rattle.store.specs.Store.{plan_in}
 use Rattle.event.proofs.Readiness.{held-sized}
 use Rattle.platform.proofs.Writing.{rows_none, delay-room, delay-written, rows_end}
 use borrow.Author.Rules.{rules}
@@ -13,7 +13,7 @@ use Rattle.platform.proofs.write.put_delays.Tie as tie
 
 abbrev invariant-loop : tie.invariant-loop
 invariant-loop store out₀ first count at₀ i₀ out at i =
-    (i ≤ count) × Put out₀ first (rowsText delayText (take i (planIn store).delays)) at out × (length out ≡ length out₀)
+    (i ≤ count) × Put out₀ first (rows_text delay_text (take i (plan_in store).delays)) at out × (length out ≡ length out₀)
 
 abbrev decreases-loop : tie.decreases-loop
 decreases-loop store out₀ first count at₀ i₀ out at i = count - i

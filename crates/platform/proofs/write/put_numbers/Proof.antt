@@ -4,8 +4,8 @@ use Prim.Native.Nat.{◌-◌, ◌≤◌}
 use lib.ListN.{length, take}
 use Rattle.text.specs.Put.{Put}
 use Rattle.text.specs.Field.{field}
-use Rattle.runfile.specs.Text.{rowsText}
-use Rattle.store.specs.Store.{planIn}
+use Rattle.runfile.specs.Text.{rows_text}
+use Rattle.store.specs.Store.{plan_in}
 use Rattle.event.proofs.Readiness.{held-sized}
 use Rattle.platform.proofs.Writing.{rows_none, number-room, number-written, rows_end}
 use borrow.Author.Rules.{rules}
@@ -14,7 +14,7 @@ use Rattle.platform.proofs.write.put_numbers.Tie as tie
 
 abbrev invariant-loop : tie.invariant-loop
 invariant-loop store out₀ first count at₀ i₀ out at i =
-    (i ≤ count) × Put out₀ first (rowsText field (take i (planIn store).ring)) at out × (length out ≡ length out₀)
+    (i ≤ count) × Put out₀ first (rows_text field (take i (plan_in store).ring)) at out × (length out ≡ length out₀)
 
 abbrev decreases-loop : tie.decreases-loop
 decreases-loop store out₀ first count at₀ i₀ out at i = count - i

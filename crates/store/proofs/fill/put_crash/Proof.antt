@@ -1,13 +1,13 @@
 -- `store::fill::put_crash` meets its contract. Assumes nothing.
-use Rattle.store.specs.Columns.{eachPart}
-use Rattle.store.specs.Store.{crashParts}
-use Rattle.store.specs.Filling.{putCrash}
+use Rattle.store.specs.Columns.{each_part}
+use Rattle.store.specs.Store.{crash_parts}
+use Rattle.store.specs.Filling.{put_crash}
 use borrow.Author.Rules.{rules}
 use Rattle.store.proofs.fill.put_crash.Statement.{statement}
 use Rattle.store.proofs.fill.put_crash.Tie as tie
 
 returns : tie.Need-returns
-unfolding putCrash eachPart crashParts
+unfolding put_crash each_part crash_parts
 returns c = cc
 
 pub put-crash-spec : {M : Type 1} → statement M

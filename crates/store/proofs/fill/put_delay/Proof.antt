@@ -1,13 +1,13 @@
 -- `store::fill::put_delay` meets its contract. Assumes nothing.
-use Rattle.store.specs.Columns.{eachPart}
-use Rattle.store.specs.Store.{delayParts}
-use Rattle.store.specs.Filling.{putDelay}
+use Rattle.store.specs.Columns.{each_part}
+use Rattle.store.specs.Store.{delay_parts}
+use Rattle.store.specs.Filling.{put_delay}
 use borrow.Author.Rules.{rules}
 use Rattle.store.proofs.fill.put_delay.Statement.{statement}
 use Rattle.store.proofs.fill.put_delay.Tie as tie
 
 returns : tie.Need-returns
-unfolding putDelay eachPart delayParts
+unfolding put_delay each_part delay_parts
 returns c = cc
 
 pub put-delay-spec : {M : Type 1} → statement M

@@ -1,13 +1,13 @@
 -- `store::fill::put_node` meets its contract. Assumes nothing.
-use Rattle.store.specs.Columns.{eachPart}
-use Rattle.store.specs.Store.{nodeParts}
-use Rattle.store.specs.Filling.{putNode}
+use Rattle.store.specs.Columns.{each_part}
+use Rattle.store.specs.Store.{node_parts}
+use Rattle.store.specs.Filling.{put_node}
 use borrow.Author.Rules.{rules}
 use Rattle.store.proofs.fill.put_node.Statement.{statement}
 use Rattle.store.proofs.fill.put_node.Tie as tie
 
 returns : tie.Need-returns
-unfolding putNode eachPart nodeParts
+unfolding put_node each_part node_parts
 returns c =
     let lists = c.before.before in
     let heartbeat = lists.before.before.before.before in

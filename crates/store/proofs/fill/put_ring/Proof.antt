@@ -1,13 +1,13 @@
 -- `store::fill::put_ring` meets its contract. Assumes nothing.
-use Rattle.store.specs.Columns.{eachPart}
-use Rattle.store.specs.Store.{ringParts}
-use Rattle.store.specs.Filling.{putRing}
+use Rattle.store.specs.Columns.{each_part}
+use Rattle.store.specs.Store.{ring_parts}
+use Rattle.store.specs.Filling.{put_ring}
 use borrow.Author.Rules.{rules}
 use Rattle.store.proofs.fill.put_ring.Statement.{statement}
 use Rattle.store.proofs.fill.put_ring.Tie as tie
 
 returns : tie.Need-returns
-unfolding putRing eachPart ringParts
+unfolding put_ring each_part ring_parts
 returns c = cc
 
 pub put-ring-spec : {M : Type 1} → statement M

@@ -1,12 +1,12 @@
 -- `store::messages::close_routes` meets its contract. Assumes nothing.
-use Rattle.store.specs.Columns.{eachPart}
-use Rattle.store.specs.Store.{routeParts}
+use Rattle.store.specs.Columns.{each_part}
+use Rattle.store.specs.Store.{route_parts}
 use borrow.Author.Rules.{rules}
 use Rattle.store.proofs.messages.close_routes.Statement.{statement}
 use Rattle.store.proofs.messages.close_routes.Tie as tie
 
 returns : tie.Need-returns
-unfolding eachPart routeParts
+unfolding each_part route_parts
 returns c = cc
 
 pub close-routes-spec : {M : Type 1} → statement M

@@ -1,12 +1,12 @@
 -- `store::messages::close_times` meets its contract. Assumes nothing.
-use Rattle.store.specs.Columns.{eachPart}
-use Rattle.store.specs.Store.{timeParts}
+use Rattle.store.specs.Columns.{each_part}
+use Rattle.store.specs.Store.{time_parts}
 use borrow.Author.Rules.{rules}
 use Rattle.store.proofs.messages.close_times.Statement.{statement}
 use Rattle.store.proofs.messages.close_times.Tie as tie
 
 returns : tie.Need-returns
-unfolding eachPart timeParts
+unfolding each_part time_parts
 returns c = cc
 
 pub close-times-spec : {M : Type 1} → statement M

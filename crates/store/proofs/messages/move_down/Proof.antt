@@ -2,7 +2,7 @@
 use Prim.Native.Nat.{◌+◌, ◌-◌, ◌≤◌}
 use mathlib.Core.Path.{◌≡◌, refl, sym, ◌∙◌}
 use lib.ListN.{length}
-use Rattle.store.specs.Gap.{movedDown}
+use Rattle.store.specs.Gap.{moved_down}
 use Rattle.store.proofs.Gap.{move-turn, move-end}
 use native.Mathlib.Omega.{arith}
 use borrow.Author.Rules.{rules}
@@ -10,7 +10,7 @@ use Rattle.store.proofs.messages.move_down.Statement.{statement}
 use Rattle.store.proofs.messages.move_down.Tie as tie
 
 abbrev invariant-loop : tie.invariant-loop
-invariant-loop s₀ a by e i₀ j₀ s i j = (j ≡ i + by) × (j ≤ e) × (length s ≡ length s₀) × (movedDown s₀ a by e ≡ movedDown s i by e)
+invariant-loop s₀ a by e i₀ j₀ s i j = (j ≡ i + by) × (j ≤ e) × (length s ≡ length s₀) × (moved_down s₀ a by e ≡ moved_down s i by e)
 
 abbrev decreases-loop : tie.decreases-loop
 decreases-loop s₀ a by e i₀ j₀ s i j = e - j

@@ -1,6 +1,6 @@
 -- `store::messages::put_message` meets its contract. Assumes nothing.
 use Rattle.store.proofs.States.{put-message}
-use Rattle.store.specs.Inside.{messageOf}
+use Rattle.store.specs.Inside.{message_of}
 use borrow.Author.Rules.{rules}
 use Rattle.store.proofs.messages.put_message.Statement.{statement}
 use Rattle.store.proofs.messages.put_message.Tie as tie
@@ -12,7 +12,7 @@ returns c =
     let times = c.before.before.before.before.before.before.before.before.before.before.put-times in
     let route = c.before.before.before.before.before.before.put-route in
     rw (c.before.before.put.ensures, route.ensures, times.ensures)
-    (put-message z.args.s.now z.requires.0 (messageOf z.args.m) n.result n.ensures (rw n.ensures z.requires.1))
+    (put-message z.args.s.now z.requires.0 (message_of z.args.m) n.result n.ensures (rw n.ensures z.requires.1))
 
 pub put-message-spec : {M : Type 1} → statement M
 put-message-spec =

@@ -1,6 +1,6 @@
 -- `store::messages::put_route` meets its contract. Assumes nothing.
-use Rattle.store.specs.Columns.{eachPart}
-use Rattle.store.specs.Store.{routeParts}
+use Rattle.store.specs.Columns.{each_part}
+use Rattle.store.specs.Store.{route_parts}
 use borrow.Author.Rules.{rules}
 use Rattle.store.proofs.messages.put_route.Statement.{statement}
 use Rattle.store.proofs.messages.put_route.Tie as tie
@@ -13,7 +13,7 @@ put-requires-5 c κs =
     search rules
 
 returns : tie.Need-returns
-unfolding eachPart routeParts
+unfolding each_part route_parts
 returns c =
     let list = c.before.before in
     let subject = list.before.before.before.before in

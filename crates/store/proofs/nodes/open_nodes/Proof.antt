@@ -4,10 +4,10 @@ use mathlib.Core.List.{List}
 use Prim.Native.Nat.{ℕ, ◌-◌, ◌≤◌}
 use lib.ListN.{length}
 use native.Mathlib.Omega.{arith}
-use Rattle.limits.specs.Limits.{mostNodes}
+use Rattle.limits.specs.Limits.{most_nodes}
 use Rattle.ring.specs.Ring.{numbers}
 use Rattle.plans.proofs.Tests.{ranges}
-use Rattle.store.specs.Store.{encode, planIn}
+use Rattle.store.specs.Store.{encode, plan_in}
 use Rattle.store.specs.Filling.{Unopened}
 use Rattle.store.proofs.Opening.{up_to, unopened-is, unopened-held, turn-held, turn-sized, turn-plan, order-size, upto_turn, all-nodes}
 use borrow.Author.Rules.{rules}
@@ -17,13 +17,13 @@ use Rattle.store.proofs.nodes.open_nodes.Tie as tie
 -- the first i nodes are opened
 record Inv (s₀ all : List ℕ) (n h w : ℕ) (s : List ℕ) (i : ℕ) : Type 0 where
   plan : Unopened s₀
-  every : all ≡ numbers 0 mostNodes
-  nodes : n ≡ (planIn s₀).n
-  period : h ≡ (planIn s₀).h
-  time : w ≡ (planIn s₀).w
-  most : n ≤ mostNodes
+  every : all ≡ numbers 0 most_nodes
+  nodes : n ≡ (plan_in s₀).n
+  period : h ≡ (plan_in s₀).h
+  time : w ≡ (plan_in s₀).w
+  most : n ≤ most_nodes
   few : i ≤ n
-  is : s ≡ encode (planIn s₀) (up_to (planIn s₀) i)
+  is : s ≡ encode (plan_in s₀) (up_to (plan_in s₀) i)
   size : length s ≡ length s₀
 
 abbrev invariant-loop : tie.invariant-loop

@@ -1,13 +1,13 @@
 -- `store::plan::delay_at` meets its contract. Assumes nothing.
 use mathlib.Core.Path.{ap}
-use Rattle.store.specs.Inside.{delayRow}
+use Rattle.store.specs.Inside.{delay_row}
 use Rattle.store.proofs.Store.{delay-read}
 use borrow.Author.Rules.{rules}
 use Rattle.store.proofs.plan.delay_at.Statement.{statement}
 use Rattle.store.proofs.plan.delay_at.Tie as tie
 
 returns : tie.Need-returns
-returns c = let b = c.before.before.before in cc (ap delayRow (delay-read b.args.s.now b.args.i b.requires.1))
+returns c = let b = c.before.before.before in cc (ap delay_row (delay-read b.args.s.now b.args.i b.requires.1))
 
 pub delay-at-spec : {M : Type 1} → statement M
 delay-at-spec =

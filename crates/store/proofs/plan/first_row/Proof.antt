@@ -2,7 +2,7 @@
 use Prim.Native.Nat.{◌+◌, ◌-◌, ◌/◌}
 use mathlib.Core.Path.{sym, ap, ◌∙◌}
 use Rattle.plans.specs.Plan.{Delay}
-use Rattle.store.specs.Store.{planIn}
+use Rattle.store.specs.Store.{plan_in}
 use Rattle.store.proofs.Store.{delay-read}
 use Rattle.store.proofs.Delays.{Between, rows-rise, search-start, search-up, search-down, search-end}
 use borrow.Author.Rules.{rules}
@@ -11,7 +11,7 @@ use Rattle.store.proofs.plan.first_row.Statement.{statement}
 use Rattle.store.proofs.plan.first_row.Tie as tie
 
 abbrev invariant-loop : tie.invariant-loop
-invariant-loop s number low₀ high₀ low high = Between (planIn s).delays number low high
+invariant-loop s number low₀ high₀ low high = Between (plan_in s).delays number low high
 
 abbrev decreases-loop : tie.decreases-loop
 decreases-loop s number low₀ high₀ low high = high - low
@@ -24,7 +24,7 @@ loop-again c =
     let after-get = c.before in
     let turn = after-get.before.before in
     let start = after-get.before.before.before.before.before in
-    let p = planIn start.args.s.now in
+    let p = plan_in start.args.s.now in
     search-up p.delays start.args.number (rows-rise p.delays start.requires.1) turn.loop.low turn.loop.high
     (turn.loop.low + (turn.loop.high - turn.loop.low) / 2) after-get.get.result turn.loop.invariant (omega arith) (omega arith)
     (after-get.get.ensures.0 ∙ sym (ap (λ (r : Delay). r.number)
@@ -36,7 +36,7 @@ loop-again-2 c =
     let after-get = c.before in
     let turn = after-get.before.before in
     let start = after-get.before.before.before.before.before in
-    let p = planIn start.args.s.now in
+    let p = plan_in start.args.s.now in
     search-down p.delays start.args.number (rows-rise p.delays start.requires.1) turn.loop.low turn.loop.high
     (turn.loop.low + (turn.loop.high - turn.loop.low) / 2) after-get.get.result turn.loop.invariant (omega arith) (omega arith)
     (after-get.get.ensures.0 ∙ sym (ap (λ (r : Delay). r.number)

@@ -1,11 +1,11 @@
 -- `store::plan::node_count` meets its contract. Assumes nothing.
-use Rattle.store.specs.Store.{planIn}
+use Rattle.store.specs.Store.{plan_in}
 use borrow.Author.Rules.{rules}
 use Rattle.store.proofs.plan.node_count.Statement.{statement}
 use Rattle.store.proofs.plan.node_count.Tie as tie
 
 returns : tie.Need-returns
-unfolding planIn
+unfolding plan_in
 returns c = search rules
 
 pub node-count-spec : {M : Type 1} → statement M
