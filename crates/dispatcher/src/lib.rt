@@ -10,7 +10,7 @@ use limits::{BAD_PART, BAD_STORE, BAD_TURN, MOST_STORES, MOST_TURN, STORE_SIZE};
 
 // A call's answer: the number of the refusal, 0 where there is none; how many turns it gave, how many events these did on each store, and
 // which stores are stopped, bit i for store i.
-#[derive(Drop)]
+#[derive(Clone, Copy)]
 pub struct Dispatched {
     pub number: u64,
     pub turns: u64,

@@ -10,7 +10,7 @@ use limits::{ACCEPTED, MOST_STORES};
 use platform::Ran;
 
 // Of each of eight stores: whether it can go on, whether it is stopped, and the events that its turns did.
-#[derive(Drop)]
+#[derive(Clone, Copy)]
 pub struct Tally {
     pub able: [bool; 8],
     pub stopped: [bool; 8],
@@ -18,7 +18,7 @@ pub struct Tally {
 }
 
 // An index, or that there is none.
-#[derive(Drop)]
+#[derive(Clone, Copy)]
 pub enum Index {
     At(usize),
     Nowhere,

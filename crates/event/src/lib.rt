@@ -12,7 +12,7 @@ ghost use Rattle.event.specs.Ready.{Ready};
 use model::Deed;
 
 // The next event: its tick, and the node that crashes, the place of the message, or the node whose timer it is.
-#[derive(Drop)]
+#[derive(Clone, Copy)]
 pub enum Next {
     Crash(u32, u8),
     Message(u32, usize),
@@ -22,7 +22,7 @@ pub enum Next {
 }
 
 // What became of a try: an event did this; none is left up to the end tick; or more than 2,048 messages would be in flight.
-#[derive(Drop)]
+#[derive(Clone, Copy)]
 pub enum Happened {
     Did(Deed),
     Ended,

@@ -15,7 +15,7 @@ use limits::{
 use node::{Message, Node, Turned};
 
 // A record: its node's number, N, H, W, the last tick and the node.
-#[derive(Drop)]
+#[derive(Clone, Copy)]
 pub struct Record {
     pub number: u8,
     pub nodes: u8,

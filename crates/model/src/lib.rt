@@ -2,7 +2,7 @@
 
 // What an event did: its letter, its tick, its node, the other node, the node's list after it; and whether it moved the node's emitter, and how many
 // listed nodes the search for the new one passed.
-#[derive(Drop)]
+#[derive(Clone, Copy)]
 pub struct Deed {
     pub letter: u8,
     pub tick: u32,

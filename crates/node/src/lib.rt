@@ -9,7 +9,7 @@ ghost use Rattle.node.specs.Range.{node_test, apart, live_test};
 
 // A node's fields. The mark has those of its listed nodes of which it took a report, or which it left as its emitter: a further report of them does
 // nothing. A timer is 0 where it is off, else one more than the tick at which it is due.
-#[derive(Drop)]
+#[derive(Clone, Copy)]
 pub struct Node {
     pub emitter: u8,
     pub observer: u8,
@@ -20,7 +20,7 @@ pub struct Node {
 }
 
 // A message as its sender gives it away: its letter (b'H', b'O' or b'R'), its receiver, on R its subject and on H its sender's list.
-#[derive(Drop)]
+#[derive(Clone, Copy)]
 pub struct Message {
     pub kind: u8,
     pub to: u8,
@@ -30,7 +30,7 @@ pub struct Message {
 
 // A node after a rule, with what it sends: the first `count` of seven messages. The others are zero. And how many listed nodes its search for a
 // new emitter passed, 0 where there was none.
-#[derive(Drop)]
+#[derive(Clone, Copy)]
 pub struct Turned {
     pub node: Node,
     pub sent: [Message; 7],

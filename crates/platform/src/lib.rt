@@ -13,7 +13,7 @@ use runfile::Read;
 use store::layout;
 
 // Opening's answer: the store is ready, or the number of the refusal and its line.
-#[derive(Drop)]
+#[derive(Clone, Copy)]
 pub enum Opened {
     Ready,
     Refused(u64, u64),
@@ -21,7 +21,7 @@ pub enum Opened {
 
 // A step's answer: the event done, as its own line tells it, or that none is left, with the last line; each with the length of the text
 // that was written; or the number of the refusal.
-#[derive(Drop)]
+#[derive(Clone, Copy)]
 pub enum Stepped {
     Did(Line, usize),
     Done(Line, usize),
@@ -29,7 +29,7 @@ pub enum Stepped {
 }
 
 // A run's answer, with the events that it did: none is left, or the budget is spent, or the number of the refusal.
-#[derive(Drop)]
+#[derive(Clone, Copy)]
 pub enum Ran {
     Done(u64),
     Spent(u64),
@@ -37,7 +37,7 @@ pub enum Ran {
 }
 
 // The run-file writer's answer: how many bytes the file has, or the number of the refusal.
-#[derive(Drop)]
+#[derive(Clone, Copy)]
 pub enum Wrote {
     Bytes(usize),
     Refused(u64),

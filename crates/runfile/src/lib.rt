@@ -17,7 +17,7 @@ use text::{Number, Ranged};
 
 // What an accepted file plans: the values of its P line, how many numbers its Q line has, 0 without one, how many C and L lines it has,
 // and the place after the P line, where the Q line or else the first row stands.
-#[derive(Drop)]
+#[derive(Clone, Copy)]
 pub struct Outline {
     pub n: u64,
     pub h: u64,
@@ -31,7 +31,7 @@ pub struct Outline {
 }
 
 // What a file comes to: what it plans, or the refusal's number and its line.
-#[derive(Drop)]
+#[derive(Clone, Copy)]
 pub enum Read {
     Accepted(Outline),
     Refused(u64, u64),
@@ -40,7 +40,7 @@ pub enum Read {
 // What is kept of the lines so far: the values of the P line, how many numbers the Q line had, 0 without one, how many C and L lines
 // came, the tick and node that the next C line may not be below, the nodes that the C lines named, and the number that the next L line
 // may not be below.
-#[derive(Drop)]
+#[derive(Clone, Copy)]
 struct Sofar {
     n: u64,
     h: u64,
@@ -57,7 +57,7 @@ struct Sofar {
 }
 
 // What a line comes to: what is kept from there on, or the number that refuses it.
-#[derive(Drop)]
+#[derive(Clone, Copy)]
 enum Line {
     Next(Sofar),
     Stop(u64),
@@ -429,7 +429,7 @@ pub fn read_file(s: &[u8]) -> Read
 }
 
 // A number of the Q line, and the place after it.
-#[derive(Drop)]
+#[derive(Clone, Copy)]
 pub struct Entry {
     pub value: u64,
     pub next: usize,
@@ -446,7 +446,7 @@ pub fn number_at(s: &[u8], at: usize) -> Entry
 }
 
 // The two numbers of a C or L line, and the place after the line.
-#[derive(Drop)]
+#[derive(Clone, Copy)]
 pub struct Fields {
     pub first: u64,
     pub second: u64,

@@ -7,21 +7,21 @@ pub mod messages; // messages.rt: the messages in flight
 pub mod fill; // fill.rt: how a store is begun, and the parts that it is filled with
 
 // A row of a C line.
-#[derive(Drop)]
+#[derive(Clone, Copy)]
 pub struct CrashRow {
     pub tick: u32,
     pub node: u8,
 }
 
 // A row of an L line.
-#[derive(Drop)]
+#[derive(Clone, Copy)]
 pub struct DelayRow {
     pub number: u32,
     pub delay: u8,
 }
 
 // A message in flight. Its kind is its letter: b'H', b'O' or b'R'. Its list is its sender's on H, else empty.
-#[derive(Drop)]
+#[derive(Clone, Copy)]
 pub struct Flight {
     pub number: u64,
     pub due: u32,
