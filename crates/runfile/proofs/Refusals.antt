@@ -140,6 +140,7 @@ module _ (s : List ℕ) (number line : ℕ) (e : file_of s ≡ turned_down numbe
       of-line n (there (there (here q))) = (omega arith, omega arith, λ k. omega arith)
       of-line n (there (there (there (here q)))) = (omega arith, omega arith, λ k. omega arith)
       of-line n (there (there (there (there (here q))))) = (omega arith, omega arith, λ k. omega arith)
+      of-line n (there (there (there (there (there q))))) = elim q [ ]
 
       by : (t : Bool) → (leb 1 (length s) && leb (length s) 65536) ≡ t
           → (1 ≤ number) × (number ≤ 13) × (line ≤ 65536) × (number ≢ short_time_out)
