@@ -1,0 +1,12 @@
+-- `lent::rows::is_within` meets its contract. Assumes nothing.
+use borrow.Author.Tests.{le-leb, lt-leb}
+use Rattle.plans.specs.Plan.{within}
+use Rattle.lent.proofs.rows.is_within.Goals as goal
+
+pub returns-then-x-low : goal.returns-then-x-low
+unfolding within
+returns-then-x-low c = rw (lt-leb _ _ c.if-x-low.true)
+
+pub returns : goal.returns
+unfolding within
+returns c = rw (le-leb _ _ c.if-x-low.false)
