@@ -1,0 +1,17 @@
+-- `platform::run` meets its contract. Assumes nothing.
+use Rattle.event.proofs.Readiness.{tested-ready}
+use Rattle.fields.proofs.Answers.{fails, holds}
+use Rattle.platform.proofs.Answers.{run-bad, run-next}
+use Rattle.platform.proofs.run.Goals as goal
+
+pub returns-then-not-in_range : goal.returns-then-not-in_range
+returns-then-not-in_range c = let r = run-bad _ _ (fails c.in_range.ensures c.if-not-in_range.true-raw) in record { value = r.0; store_after = r.1 }
+
+pub run_ready-requires : goal.run_ready-requires
+run_ready-requires c =
+    let a = c.args in
+    tested-ready a.store.now (λ i. (c.slice_known-1.given i).fits) (holds c.in_range.ensures c.if-not-in_range.false-raw)
+
+pub returns : goal.returns
+returns c =
+    let r = run-next _ _ (holds c.in_range.ensures c.if-not-in_range.false-raw) (c.run_ready.ensures.value, c.run_ready.ensures.store_after) in record { value = r.0; store_after = r.1 }
