@@ -4,16 +4,12 @@ use mathlib.Core.Bool.{false}
 use mathlib.Core.List.{[], ◌∷◌}
 use Prim.Native.Nat.{ℕ}
 use types.Run.{miss}
+use borrow.Enum.Refused.{opened}
 use Rattle.platform.specs.declared.Ran.{Ran}
 use Rattle.platform.specs.declared.Ran.TheVariants.{Done, Spent, Refused}
 use Rattle.dispatcher.specs.Tally.{is_stopped}
 use borrow.Author.Rules.{rules}
-use Rattle.dispatcher.proofs.tally.is_stopped.Statement.{statement}
-use Rattle.dispatcher.proofs.tally.is_stopped.Tie as tie
-
-returns : tie.Need-returns
-unfolding is_stopped
-returns c = search rules
+use Rattle.dispatcher.proofs.tally.is_stopped.Goals as goal
 
 -- an answer that is no refusal
 no-refusal : (a : Ran) → ((number n : ℕ) → a ≡ Refused number n → ⊥) → false ≡ is_stopped a
@@ -22,9 +18,9 @@ no-refusal (Spent n) h = refl
 no-refusal (Done n) h = refl
 no-refusal (Refused number n) h = absurd (h number n refl)
 
-returns-2 : tie.Need-returns-2
-returns-2 c = no-refusal _ (λ number n e. miss (0 ∷ 1 ∷ []) 2 tt (rw e at c.match.keys2))
+pub returns-in-Refused : goal.returns-in-Refused
+unfolding is_stopped
+returns-in-Refused c = search rules
 
-pub is-stopped-spec : {M : Type 1} → statement M
-is-stopped-spec =
-    tie.close (tie.spec (λ c. search rules) returns returns-2)
+pub returns-in_default : goal.returns-in_default
+returns-in_default c = no-refusal _ (λ number n e. miss (0 ∷ 1 ∷ []) 2 tt (opened (rw e at c.in_default.in_default-own.keys2)))
