@@ -208,6 +208,7 @@ fn learnt_from(me: u8, from: u8, list: u64) -> u64
 }
 
 // Message H: from the emitter it renews the watch, and the nodes of the list that it carries are listed.
+#[tactic(auto, unfolding(crate::specs::Node::on_heartbeat))]
 pub fn on_heartbeat(w: u32, tick: u32, me: u8, from: u8, list: u64, n: Node) -> Turned
     requires { (w ≤ most_w) × (tick ≤ most_tick) × (me < most_nodes) × (from < most_nodes) }
     ensures { result ≡ turned (on_heartbeat w tick me from list n) }

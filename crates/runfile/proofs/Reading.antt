@@ -12,7 +12,6 @@ use Rattle.runfile.specs.Reader.{outline_of, read_of, sofar_of, Kept, line_answe
 use Rattle.runfile.specs.declared.Read.TheVariants.{Accepted, Refused}
 use Rattle.runfile.specs.declared.Sofar.{Sofar}
 use Rattle.runfile.specs.declared.Line.TheVariants.{Next, Stop}
-use mathlib.Mathlib.Data.Bool.Basic.{and_elim_left}
 use Rattle.runfile.proofs.Lines.{file-first, file-later, file-end, line-grows}
 use Rattle.runfile.proofs.Trip.{start-rows}
 use Rattle.runfile.proofs.Grown.{first-inv, opened-text, opened-good, later-inv, grown-good, grown-start, grown-crashes}
@@ -126,3 +125,6 @@ module _ (s : List ℕ) where
   pub file-lines : (length s ≡ 0 → ⊥) → length s ≤ 65536 → file_of s ≡ all_lines (lines s)
   unfolding file_of within
   file-lines h k = let some : 1 ≤ length s = omega arith in rw (le-leb 1 (length s) some, le-leb (length s) 65536 k)
+
+-- for the file that is too long
+pub ruleset long_file = (file-long)

@@ -411,6 +411,7 @@ fn later_lines(s: &[u8], first: Sofar, rows: usize) -> Read
 }
 
 // What a file comes to: its length, then its lines one after another, the first bad line deciding.
+#[tactic(auto, using(crate::proofs::Reading::long_file))]
 pub fn read_file(s: &[u8]) -> Read
     ensures { result ≡ read_of (file_of s.now) }
 {

