@@ -1,64 +1,60 @@
 // Standard input and output. A call that a signal interrupts, or that finds nothing to move yet, is tried again.
-ghost use Rattle.std.specs.Prelude.{length};
-ghost use Rattle.libc.specs.Io.{Moved};
+ghost use Rattle.std.specs.Prelude.{◌≡◌, ◌≢◌, ◌≤◌, ◌⊎◌, ◌↔◌, length, IfOk, IfErr, IsTrue};
+ghost use Rattle.std.specs.IoError.{error_kind};
 
-use libc::types::timespec;
+use std::io::{ErrorKind, Read};
+use std::time::{Clock, Duration};
+use std::{io, thread};
 
 // Waits a millisecond, so that a stream that is slow does not keep a processor busy.
-fn pause() {
-    let asked = timespec {
-        tv_sec: 0,
-        tv_nsec: 1000000,
-    };
-    let mut left = timespec {
-        tv_sec: 0,
-        tv_nsec: 0,
-    };
-    libc::nanosleep(&asked, &mut left);
+fn pause(rt: &impl Clock) {
+    thread::sleep(rt, Duration::from_millis(1));
 }
 
 // Whether the call that just failed is to be tried again, after a pause where nothing can be moved yet.
-fn try_again() -> bool {
-    let error = os::errno();
-    if error == libc::EAGAIN {
-        pause();
+fn try_again(rt: &impl Clock, error: &io::Error) -> bool
+    ensures { IsTrue result ↔ ((error_kind error.now ≡ ErrorKind.WouldBlock) ⊎ (error_kind error.now ≡ ErrorKind.Interrupted)) }
+{
+    let kind = error.kind();
+    if kind == ErrorKind::WouldBlock {
+        pause(rt);
         return true;
     }
-    error == libc::EINTR
+    kind == ErrorKind::Interrupted
 }
 
-// Reads some bytes of the input. Answers how many, 0 at its end, or -1 where it cannot be read.
-pub fn read_some(buf: &mut [u8]) -> isize
-    ensures { Moved (length buf.old) result }
+// Reads some bytes of the input. Answers how many, 0 at its end, or why it cannot be read.
+pub fn read_some(rt: &impl Clock, input: &mut impl Read, buf: &mut [u8]) -> io::Result<usize>
+    ensures moved { IfOk result (λ got. got ≤ length buf.old) }
+    ensures retried { IfErr result (λ error. (error_kind error ≢ ErrorKind.WouldBlock) × (error_kind error ≢ ErrorKind.Interrupted)) }
 {
-    let mut turns: u64 = crate::TURNS;
-    while 0 < turns {
-        let got = libc::read(libc::STDIN_FILENO, buf);
-        if got >= 0 {
-            return got;
+    for _ in 0..crate::TURNS {
+        match input.read(buf) {
+            Ok(got) => return Ok(got),
+            Err(error) => {
+                if !try_again(rt, &error) {
+                    return Err(error);
+                }
+            }
         }
-        if !try_again() {
-            return -1;
-        }
-        turns -= 1;
     }
-    -1
+    Err(io::Error::from(ErrorKind::TimedOut))
 }
 
-// Writes some of these bytes. Answers how many, or -1 where they cannot be written.
-pub fn write_some(buf: &[u8]) -> isize
-    ensures { Moved (length buf.now) result }
+// Writes some of these bytes. Answers how many, or why they cannot be written.
+pub fn write_some(rt: &(impl Print + Clock), buf: &[u8]) -> io::Result<usize>
+    ensures moved { IfOk result (λ put. put ≤ length buf.now) }
+    ensures retried { IfErr result (λ error. (error_kind error ≢ ErrorKind.WouldBlock) × (error_kind error ≢ ErrorKind.Interrupted)) }
 {
-    let mut turns: u64 = crate::TURNS;
-    while 0 < turns {
-        let put = libc::write(libc::STDOUT_FILENO, buf);
-        if put >= 0 {
-            return put;
+    for _ in 0..crate::TURNS {
+        match rt.write_some(buf) {
+            Ok(put) => return Ok(put),
+            Err(error) => {
+                if !try_again(rt, &error) {
+                    return Err(error);
+                }
+            }
         }
-        if !try_again() {
-            return -1;
-        }
-        turns -= 1;
     }
-    -1
+    Err(io::Error::from(ErrorKind::TimedOut))
 }

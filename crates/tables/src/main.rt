@@ -1,7 +1,12 @@
 // Writes forwarding tables, for a test that compares them with the simulator's. Each line of standard input is `N,LIST`, N of
 // at most three digits and LIST of 16 lower-case hexadecimal digits. It gives one line: the answer's number and the 384 targets,
 // row after row, parted by commas. The input may have any length, as a line may go on in the next buffer.
+#![tactic(auto)]
+
 ghost use Rattle.std.specs.Prelude.{◌+◌, ◌<◌, ◌≤◌};
+
+use std::io;
+use std::io::{ErrorKind, Read};
 
 // A line of the output: 385 numbers of at most three digits, each with the byte after it.
 const LINE_SIZE: usize = 1540;
@@ -105,50 +110,50 @@ fn put_rows(out: &mut [u8; LINE_SIZE], at: usize, rows: [[u8; 6]; 64]) -> usize
     end
 }
 
-fn write_line(out: &[u8; LINE_SIZE], end: usize)
+fn write_line(rt: &impl Print, out: &[u8; LINE_SIZE], end: usize) -> io::Result<()>
     requires { end ≤ 1540 }
 {
-    let all = &out[..];
-    io::write_all(1, &all[..end]);
+    rt.write_all(&out[..end])
 }
 
-fn write_table(n: u64, list: u64) {
+fn write_table(rt: &impl Print, n: u64, list: u64) -> io::Result<()> {
     let t = ring::forwarding_table(n, list);
     let mut out = [0u8; LINE_SIZE];
     let at = put_number(&mut out, 0, t.answer);
     let end = put_rows(&mut out, at, ring::rows_of(t));
     out[end - 1] = b'\n';
-    write_line(&out, end);
+    write_line(rt, &out, end)
 }
 
 // Writes the table of each line that ends in the part, and answers what is read of the last one.
-fn read_part(part: &[u8], begun: Line) -> Line {
+fn read_part(rt: &impl Print, part: &[u8], begun: Line) -> io::Result<Line> {
     let mut line = begun;
-    let mut i: usize = 0;
-    while i < part.len() {
-        let b = part[i];
-        if b == b'\n' {
-            write_table(line.n, line.list);
+    for b in part {
+        if *b == b'\n' {
+            write_table(rt, line.n, line.list)?;
             line = empty();
         } else {
-            line = longer(line, b);
+            line = longer(line, *b);
         }
-        i += 1;
     }
-    line
+    Ok(line)
 }
 
-// Nothing says that the input ends, so the turns are counted down.
-fn main() {
+// Nothing says that the input ends, so the turns are counted. A read that a signal interrupts is tried again.
+fn main(rt: HostRuntime) -> io::Result<()> {
+    let mut input = rt.stdin();
+    let mut buffer = [0u8; 65536];
     let mut line = empty();
-    let mut turns: u64 = 0xffff_ffff_ffff_ffff;
-    while 0 < turns {
-        let mut buffer = io::large_buffer();
-        let n = io::read_full(0, &mut buffer);
-        if n == 0 {
-            return;
+    for _ in 0..u64::MAX {
+        match input.read(&mut buffer) {
+            Ok(0) => return Ok(()),
+            Ok(n) => line = read_part(&rt, &buffer[..n], line)?,
+            Err(error) => {
+                if error.kind() != ErrorKind::Interrupted {
+                    return Err(error);
+                }
+            }
         }
-        line = read_part(&buffer[..n], line);
-        turns -= 1;
     }
+    Ok(())
 }
