@@ -20,6 +20,11 @@ def read(path):
         return f.read()
 
 
+def crates():
+    """The names in crates.txt."""
+    return re.findall(r"^(\w+)(?: staticlib)?:", read("crates.txt"), re.M)
+
+
 def counted():
     done = subprocess.run(["sh", "tools/sizes.sh"], capture_output=True, text=True, check=True)
     return done.stdout.rstrip("\n").split("\n")
