@@ -9,7 +9,7 @@ Looked at are words in backquotes, links, blocks of commands, and paths in plain
   paragraph; where no path stands before it, anywhere. NAME, LABEL and FUNCTION in a path stand for any name.
 - `rt ci NAME` and its like name a command of the kit and a crate; a path below target/, and a word after tools/build.sh, name the crate
   that is built.
-- A name is defined in crates/ or include/kelbraut.h: a definition, law, record, field, constructor, function, type, constant, crate,
+- A name is defined in crates/, include/kelbraut.h or tests/common.sh: a definition, law, record, field, constructor, function, type, constant, crate,
   module or must-fail edit. Of an expression that goes for what is applied; arguments are free. `a::b` is b in crate or module a.
 - A name beside a file, as in "`law` in `FILE`", "`FILE`: `law`" or "`law` (`FILE`)", is defined in that file.
 - The public calls, which are those exported for C and those in the table of docs/THEOREMS.md, have no `requires`, and the table has each
@@ -91,6 +91,8 @@ class Repository:
                 self.defined[f] = antt_names(read(f))
             elif re.match(r"crates/.*\.rt$|docs/src/.*\.rs$|include/.*\.h$", f):
                 self.defined[f] = code_names(read(f))
+            elif f == "tests/common.sh":
+                self.defined[f] = set(re.findall(r"^(\w+)\(\)", read(f), re.M))
         self.names, self.simulator = set(self.crates) | {e.split("/")[1] for e in self.edits}, set()
         self.names.update(os.path.basename(f) for f in self.files)
         for f, names in self.defined.items():
