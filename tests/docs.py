@@ -18,7 +18,8 @@ Looked at are words in backquotes, links, blocks of commands, and paths in plain
   every test, and docs/THEOREMS.md every must-fail edit.
 
 Passed over by form: lines of run files and logs (a comma and no space), numbers, single letters, commands, C types (`.._t`),
-modules (`Rattle.NAME..`). At each run the check first tries itself on wrong words, all of which it has to see, and on right ones."""
+modules (`Rattle.NAME..`), the library's functions (`std::..`). At each run the check first tries itself on wrong words, all of which it has
+to see, and on right ones."""
 import glob
 import os
 import re
@@ -222,7 +223,7 @@ class Document:
 
     def named(self, line, word):
         """Checks a name or an expression."""
-        if "," in word and " " not in word or word.startswith("Rattle.") or re.match(r"\w+_t$", word):
+        if "," in word and " " not in word or word.startswith(("Rattle.", "std::")) or re.match(r"\w+_t$", word):
             return
         if re.match(r"\w+(::\w+)+$", word):
             home, *inner, last = word.split("::")
