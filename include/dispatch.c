@@ -9,7 +9,7 @@
  * file:events. Below it stand the files that are done by then, and those of which an event was refused, with all events that
  * they did. Exit status: 0 where every file is done, else 1.
  *
- * Build: rt staticlib planner
+ * Build: sh tools/build.sh planner
  *        gcc -std=c11 -O2 -Iinclude include/dispatch.c target/staticlib/libplanner.a -o target/dispatch
  */
 #include <inttypes.h>

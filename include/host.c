@@ -2,7 +2,7 @@
  * Five nodes in one process. A message travels for 1 to 3 ticks, as the 16 bytes that a call wrote. Bytes that no node sent
  * are dropped. Node 2 stops at tick 100. The program goes from one tick at which there is something to do to the next,
  * where a host with a clock would sleep. At the end each live node is printed.
- * Build: rt staticlib host && gcc -Iinclude include/host.c target/staticlib/libhost.a -o target/host
+ * Build: sh tools/build.sh host && gcc -Iinclude include/host.c target/staticlib/libhost.a -o target/host
  */
 #include <inttypes.h>
 #include <stdio.h>

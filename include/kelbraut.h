@@ -100,7 +100,7 @@ extern "C" {
  * Wire: the 16 bytes of a message can be sent as they are. The list, in the last eight, has its lowest byte first, whatever
  * the machine's own byte order; kelbraut_list reads it so. Each other field is one byte, and the bytes between are zero.
  *
- * Library: `rt staticlib host` proves it and builds target/staticlib/libhost.a, for x86-64 Linux, in about a minute.
+ * Library: `sh tools/build.sh host` proves it and builds target/staticlib/libhost.a, for x86-64 Linux, in some minutes.
  */
 
 /* Sizes in bytes: a record, a message, and the message part of a call, which has places for seven messages. */
@@ -295,8 +295,8 @@ static inline uint64_t kelbraut_list(const uint8_t message[KELBRAUT_MESSAGE]) {
  * Threads: calls on different stores may run at the same time, each with parts of its own. Those on one store come one
  * after another; a dispatcher's call is one on each store of its part.
  *
- * Library: `rt staticlib planner` proves it and builds target/staticlib/libplanner.a, for x86-64 Linux, in about four
- * minutes, in a third of one where what is below it is proved already.
+ * Library: `sh tools/build.sh planner` proves it and builds target/staticlib/libplanner.a, for x86-64 Linux, in some
+ * minutes, in less than one where what is below it is proved already.
  *
  * Run file: lines of fields parted by commas, each line ended by one line feed (hexadecimal 0A); first the P line, then a Q
  * line or none, then C lines, then L lines. Numbers are decimal, with no sign, space or leading zero.

@@ -30,7 +30,7 @@
  *
  * Where no node crashes there is something to tell of a short W alone: a row is then one rehearsal, and has the three.
  *
- * Build: rt staticlib planner
+ * Build: sh tools/build.sh planner
  *        gcc -std=c11 -O2 -Iinclude include/planner.c target/staticlib/libplanner.a -o target/planner
  */
 #include <inttypes.h>

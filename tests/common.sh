@@ -26,9 +26,9 @@ quietly() {
 
 # ---- building, once for all scripts
 
-# sum PATH..: of the names and the bytes of all files there.
+# sum PATH..: of the names and the bytes of all files there, without what the kit makes in the crates' out/.
 sum() {
-    find "$@" -type f -exec sha256sum {} + | sort | sha256sum
+    find "$@" -path 'crates/*/out' -prune -o -type f -exec sha256sum {} + | sort | sha256sum
 }
 
 # made SOURCES FILE.. -- COMMAND..: runs a command that makes files, unless they and their sources are, byte for byte, as they were after
@@ -60,14 +60,27 @@ proved() {
     made "$sources" "$proved_file" -- quietly "$@"
 }
 
-# library NAME: target/staticlib/libNAME.a.
-library() {
-    proved "target/staticlib/lib$1.a" rt staticlib "$1"
+# archive NAME CRATE: proves and builds this static library, which is then target/staticlib/libNAME.a.
+archive() {
+    (cd "crates/$2" && rt lib) && mkdir -p target/staticlib && cp "crates/$2/out/lib$2.a" "target/staticlib/lib$1.a"
 }
 
-# program NAME: target/bin/NAME.
+# library NAME: target/staticlib/libNAME.a. It is the crate NAME_c where NAME is a library for other crates, too.
+library() {
+    library_crate=$1
+    [ ! -d "crates/${1}_c" ] || library_crate=${1}_c
+    proved "target/staticlib/lib$1.a" archive "$1" "$library_crate"
+}
+
+# executable NAME: proves and builds this program, holds it to its files `stdin` and `stdout`, and puts it into target/bin/.
+executable() {
+    (cd "crates/$1" && rt run < stdin) > "$out/$1.stdout" && cmp "crates/$1/stdout" "$out/$1.stdout" && mkdir -p target/bin &&
+        cp "crates/$1/out/$1" "target/bin/$1"
+}
+
+# program NAME: target/bin/NAME, as LLVM builds it.
 program() {
-    proved "target/bin/$1" rt check "$1"
+    proved "target/bin/$1" executable "$1"
 }
 
 # rehearsal_program: $rehearse is the proved rehearsal program, or the one that REHEARSE names.

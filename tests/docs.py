@@ -7,17 +7,19 @@ Looked at are words in backquotes, links, blocks of commands, and paths in plain
 
 - A file or folder is there: from the root, from the document's folder, or beside or in the crate of the path before it in the
   paragraph; where no path stands before it, anywhere. NAME, LABEL and FUNCTION in a path stand for any name.
-- `rt dev NAME` and its like name a command of the kit and a crate; a path below target/ names the crate and edit that it is made of.
-- A name is defined in crates/ or include/kelbraut.h: a definition, law, record, field, constructor, function, type, constant, crate,
+- `rt ci NAME` and its like name a command of the kit and a crate; a path below target/, and a word after tools/build.sh, name the crate
+  that is built.
+- A name is defined in crates/, include/kelbraut.h or tests/common.sh: a definition, law, record, field, constructor, function, type, constant, crate,
   module or must-fail edit. Of an expression that goes for what is applied; arguments are free. `a::b` is b in crate or module a.
 - A name beside a file, as in "`law` in `FILE`", "`FILE`: `law`" or "`law` (`FILE`)", is defined in that file.
 - The public calls, which are those exported for C and those in the table of docs/THEOREMS.md, have no `requires`, and the table has each
-  of the former.
+  of the former. A static library NAME_c exports what the library NAME has for C, each with the same parameters and contract, word for word.
 - A table whose first column is headed 'Crate' has a row for each crate. docs/README.md names every document, test and tool, tests/run
   every test, and docs/THEOREMS.md every must-fail edit.
 
 Passed over by form: lines of run files and logs (a comma and no space), numbers, single letters, commands, C types (`.._t`),
-modules of the kit (`Rattle·..`). At each run the check first tries itself on wrong words, all of which it has to see, and on right ones."""
+modules (`Rattle.NAME..`), the library's functions (`std::..`). At each run the check first tries itself on wrong words, all of which it has
+to see, and on right ones."""
 import glob
 import os
 import re
@@ -26,18 +28,18 @@ import sys
 os.chdir(os.path.dirname(os.path.dirname(os.path.abspath(__file__))))
 sys.dont_write_bytecode = True
 sys.path.insert(0, "tools")
-from figures import FIGURES, TIMES, counted, read, table  # the tables of docs/FIGURES.md
+from figures import FIGURES, TIMES, counted, crates, read, table  # the tables of docs/FIGURES.md
 
 # Designs of later changes name what is not there yet: of these only paths are checked.
 DESIGNS = glob.glob("docs/changes/*.md")
 DOCUMENTS = sorted(["README.md", "CONTRIBUTING.md", "docs/src/README.md", *glob.glob("docs/*.md"), *DESIGNS])
 COMMANDS = set("rt sh gcc rustc python3 git grep".split())
 # Words of the kit's languages that documents use as such.
-LANGUAGE = set("requires ensures pub mod unfoldable search needs omega arith".split())
+LANGUAGE = set("requires ensures pub mod unfoldable search rules omega arith".split())
 PATH = r"(?:crates|docs|tests|tools|include|\.ci|target)/[\w./*-]*"
 ENDING = re.compile(r"\.(antt|rt|rs|c|h|sh|py|md|txt|edit|run|svg)$")
-RT = "check prove dev staticlib try must-fail ci goals mir fmt doc version selftest help".split()
-OF_CRATE = r"rt (?:check|dev|must-fail|staticlib|try|goals|mir) ([a-z]\w*)"
+RT = "all check ci doc expand fmt help lemma lib must-fail new plant run selftest test tidy try verdict version".split()
+OF_CRATE = r"(?:rt (?:must-fail|ci)|sh tools/build\.sh) ([a-z]\w*)"
 NAME = re.compile(r"[^\W\d][\w'₀-₉≥≤-]*$")
 LISTED = r"(?:,|,? and|,? or)\s+$"
 
@@ -77,11 +79,12 @@ class Repository:
     def __init__(self):
         self.files, self.folders = set(), set()
         for at, folders, files in os.walk("."):
-            folders[:] = [f for f in folders if (at, f) != (".", "target") and f != ".git"]
+            made = (at, ".git"), (at, "out" if re.match(r"\./crates/\w+$", at) else ""), (".", "target")
+            folders[:] = [f for f in folders if (at, f) not in made]
             self.folders.update(os.path.normpath(os.path.join(at, f)) for f in folders)
             self.files.update(os.path.normpath(os.path.join(at, f)) for f in files)
         self.all = sorted(self.files | self.folders)
-        self.crates = re.findall(r"^(\w+):", read("crates.txt"), re.M)
+        self.crates = crates()
         self.edits = {re.sub(r"crates/(\w+)/must-fail/(\w+)\.edit", r"\1/\2", f) for f in self.files if f.endswith(".edit")}
         self.defined = {}
         for f in self.files:
@@ -89,6 +92,8 @@ class Repository:
                 self.defined[f] = antt_names(read(f))
             elif re.match(r"crates/.*\.rt$|docs/src/.*\.rs$|include/.*\.h$", f):
                 self.defined[f] = code_names(read(f))
+            elif f == "tests/common.sh":
+                self.defined[f] = set(re.findall(r"^(\w+)\(\)", read(f), re.M))
         self.names, self.simulator = set(self.crates) | {e.split("/")[1] for e in self.edits}, set()
         self.names.update(os.path.basename(f) for f in self.files)
         for f, names in self.defined.items():
@@ -197,12 +202,9 @@ class Document:
             if not found:
                 self.complain(line, word, "no such file")
             return found
-        m = re.match(r"target/(?:bin|goals|must-fail)/(\w+)|target/staticlib/lib(\w+)\.a|" + OF_CRATE, word)
+        m = re.match(r"target/bin/(\w+)|target/staticlib/lib(\w+)\.a|" + OF_CRATE, word)
         if m and m.group(m.lastindex) not in self.repository.crates + ["NAME"]:
             self.complain(line, word, "no such crate")
-        m = re.match(r"target/must-fail/(\w+/\w+)", word)
-        if m and m.group(1) not in self.repository.edits | {"NAME/LABEL"}:
-            self.complain(line, word, "no such edit")
         if word.startswith("target/"):
             return []
         if kind == "quoted" and re.match(r"rt ", word) and word.split()[1] not in RT:
@@ -221,7 +223,7 @@ class Document:
 
     def named(self, line, word):
         """Checks a name or an expression."""
-        if "," in word and " " not in word or "·" in word or re.match(r"\w+_t$", word):
+        if "," in word and " " not in word or word.startswith(("Rattle.", "std::")) or re.match(r"\w+_t$", word):
             return
         if re.match(r"\w+(::\w+)+$", word):
             home, *inner, last = word.split("::")
@@ -320,7 +322,8 @@ def sources():
 
 
 def public_calls(theorems, sources):
-    """Complaints about public calls: one that is exported for C and not in the table of calls, and one that asks its caller for something."""
+    """Complaints about public calls: one that is exported for C and not in the table of calls, one that asks its caller for something, and
+    one that a static library NAME_c has otherwise than the library NAME."""
     complaints, listed, path = [], {}, ""
     lines = theorems.split("\n")
     at = lines.index("| Call | In | Contract by |")
@@ -335,7 +338,13 @@ def public_calls(theorems, sources):
         for head in re.findall(r'^(?:pub )?(?:extern "C" )?fn .*?^\{', text, re.M | re.S):
             heads[source, re.search(r"fn (\w+)", head).group(1)] = head
     exported = {call for call, head in heads.items() if head.startswith('pub extern "C"') and not call[0].startswith("crates/lines/")}
-    complaints += [("docs/THEOREMS.md", at + 1, name, "exported, and not in the table") for source, name in sorted(exported - set(listed))]
+    for source, name in sorted(exported):
+        library = re.match(r"crates/(\w+)/src/lib\.rt", source).group(1)
+        static = f"crates/{library.removesuffix('_c')}_c/src/lib.rt"
+        if source != static and (source, name) not in listed:
+            complaints.append(("docs/THEOREMS.md", at + 1, name, "exported, and not in the table"))
+        if heads.get((static, name)) != heads.get((static.replace("_c/", "/"), name)):
+            complaints.append((source, 1, name, f"not the same in the library and in {static}"))
     for (source, name), number in listed.items():
         head = heads.get((source, name))
         if head is None:
@@ -354,10 +363,11 @@ WRONG = [
     ("README.md", "See [it](docs/NOWHERE.md).", "docs/NOWHERE.md"),
     ("docs/README.md", "See [it](tests/run).", "tests/run"),
     ("README.md", "    sh tests/nothing.sh", "tests/nothing.sh"),
-    ("README.md", "    rt dev nothing", "rt dev nothing"),
+    ("README.md", "    rt must-fail nothing", "rt must-fail nothing"),
+    ("README.md", "    sh tools/build.sh nothing", "sh tools/build.sh nothing"),
     ("README.md", "`rt nothing`", "rt nothing"),
     ("README.md", "`target/bin/nothing`", "target/bin/nothing"),
-    ("README.md", "`target/must-fail/fields/nothing/.log`", "target/must-fail/fields/nothing/.log"),
+    ("README.md", "`target/staticlib/libnothing.a`", "target/staticlib/libnothing.a"),
     ("README.md", "`sh tests/nothing.sh`", "tests/nothing.sh"),
     ("README.md", "`crates/NAME/nothing/`", "crates/NAME/nothing/"),
     ("docs/THEOREMS.md", "`crates/ring/specs/Ring.antt`, `Node.antt`", "Node.antt"),
@@ -374,7 +384,7 @@ WRONG = [
     ("CONTRIBUTING.md", "| Crate | First |\n|---|---|\n| nothing | x |", "nothing"),
     ("CONTRIBUTING.md", "| Crate | First |\n|---|---|\n| ring | x |", "fields"),
 ]
-RIGHT = """`P,2,2,3,1,6`, `8,0`, `W`, `12`, `uint64_t`, `rt dev NAME`, `fields::get`, `fields/another_base`, `r ≡ bytes (value x)`, `KELBRAUT_RECORD`,
+RIGHT = """`P,2,2,3,1,6`, `8,0`, `W`, `12`, `uint64_t`, `rt ci NAME`, `fields::get`, `fields/another_base`, `r ≡ bytes (value x)`, `KELBRAUT_RECORD`,
 `crates/NAME/specs/`, and `value` and `bytes` in `crates/fields/specs/Fields.antt`; `put-turn` in `proofs/Fields.antt`."""
 
 
@@ -402,13 +412,15 @@ def self_test(repository, rows):
     for path, word in ((path, word) for path, words in lacking.items() for word in words):
         if (path, 1, word) not in [complaint[:3] for complaint in unnamed]:
             failures.append(f"tests/docs.py: that {path} does not name {word} is not seen")
-    of_calls, run = read("docs/THEOREMS.md"), "    ensures { λ r. ⌜ r ≡ run (now (store .entry)) budget .answer ⌝ }"
-    platform, wanting = "crates/platform/src/lib.rt", "    requires { ⌜ budget ≡ 1 ⌝ }\n"
+    of_calls, run = read("docs/THEOREMS.md"), "    ensures value { result ≡ (run store.old budget).answer }"
+    platform, wanting = "crates/platform/src/lib.rt", "    requires { budget ≡ 1 }\n"
     asked = {path: text.replace(run, wanting + run) if path == platform else text for path, text in sources().items()}
     unlisted = public_calls(of_calls.replace("`kelbraut_write`, ", ""), sources())
-    for seen, word in ((public_calls(of_calls, asked), "run"), (unlisted, "kelbraut_write")):
+    static, clause = "crates/planner_c/src/lib.rt", "    ensures out_after { out.new ≡ (write_file store.now out.old).out }\n"
+    lacking = {path: text.replace(clause, "") if path == static else text for path, text in sources().items()}
+    for seen, word in ((public_calls(of_calls, asked), "run"), (unlisted, "kelbraut_write"), (public_calls(of_calls, lacking), "kelbraut_write")):
         if word not in [complaint[2] for complaint in seen]:
-            failures.append(f"tests/docs.py: that `{word}` asks for something, or is not in the table of calls, is not seen")
+            failures.append(f"tests/docs.py: that `{word}` asks for something, lacks a clause or is not in the table of calls is not seen")
     return failures
 
 

@@ -1,11 +1,13 @@
 #!/bin/sh
-# The must-fail edits: each says in its first line what it would break, changes code or definitions and no proof, and was refused because
-# a fact fails, not because a proof file no longer fits the code. The gate, or `rt must-fail`, leaves the attempts in target/must-fail.
+# The must-fail edits: each says in its first line what it would break, changes code or definitions and no proof, and is refused because
+# a fact fails, not because a proof file no longer fits the code. `rt must-fail` tries those again of which what they stand on has changed
+# since it, or the gate, tried them last.
 #
 # Usage: tests/edits.sh [CRATE..], all crates where none is named; of a named one each edit's first error is shown.
 
 . "$(dirname "$0")/common.sh"
 
+log=$out/edits.log
 tried=0
 told=0
 
@@ -17,25 +19,27 @@ tell() {
 # edit CRATE LABEL
 edit() {
     file=crates/$1/must-fail/$2.edit
-    log=target/must-fail/$1/$2/.log
     tried=$((tried + 1))
     head -n 1 "$file" | grep -q '^# ' || tell "$1/$2: its first line is no comment"
     ! grep -q '^file: proofs/' "$file" || tell "$1/$2: it changes a proof"
-    if [ ! -f "$log" ]; then
-        tell "$1/$2: not tried, there is no $log"
-        return
-    fi
-    # the first error, with the line in which its words go on
-    first=$(awk '!e && /: error: / { e = $0; next } e { if (sub(/^  +/, " ")) e = e $0; exit } END { print e }' "$log" |
-        sed "s|.*/must-fail/$1/$2/||" | cut -c 1-300)
-    [ -z "$shown" ] || echo "$1/$2: $first"
-    case $first in
-    *'can be named from here'* | *'type to bind, but the signature'* | *'is not in scope'* | *'has no field'* | *'expected type `tie.Need-'* | *'-spec`: '*)
+    said=$(sed -n "s|^rt: must-fail $1/$2\.edit: ||p" "$log")
+    # the first error, as much of it as `rt` shows
+    first=${said#refused, as it must be}
+    [ -z "$shown" ] || echo "$1/$2${first#:}"
+    case $said in
+    '') tell "$1/$2: not tried" ;;
+    'refused, as it must be') tell "$1/$2: refused with no error, only because a proof file lacks the invariant or the measure of a loop" ;;
+    'refused, as it must be (only because'* | *'is not in scope'* | *'has no field'* | *'has no `'* | *'was not admitted'* | *'type to bind, but the signature'*)
         tell "$1/$2: refused only because a proof file no longer fits: $first"
         ;;
+    'refused, as it must be (only by a limit'*) tell "$1/$2: refused only by a limit of the prover: $first" ;;
+    'refused, as it must be: '*) ;;
+    *) tell "$1/$2: $said" ;;
     esac
 }
 
+status=0
+rt must-fail "$@" > "$log" 2>&1 || status=$?
 shown=$*
 [ $# -gt 0 ] || set -- $(ls crates)
 for crate in "$@"; do
@@ -43,5 +47,8 @@ for crate in "$@"; do
         [ ! -f "$path" ] || edit "$crate" "$(basename "$path" .edit)"
     done
 done
-[ "$told" -eq 0 ]
+[ "$told" -eq 0 ] && [ "$status" -eq 0 ] || {
+    grep -v '^rt: must-fail .*: refused, as it must be' "$log" | tail -n 30 >&2
+    fail "status $status of rt must-fail"
+}
 echo "edits: $tried edits, each refused by a fact that fails"

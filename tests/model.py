@@ -57,12 +57,12 @@ def written_of(table):
     """The table's definition of the log that is written of a file, for any number of events instead of fewer than 20."""
     kind = re.search(r"^unfoldable pub written : (.*)$", table, re.M).group(1)
     clauses = re.findall(r"^written (.*)$", table, re.M)
-    return [f"unfoldable writtenOf : ℕ → {kind}", *(f"writtenOf tries {re.sub(r'20', 'tries', clause)}" for clause in clauses)]
+    return [f"unfoldable written_by : ℕ → {kind}", *(f"written_by tries {re.sub(r'20', 'tries', clause)}" for clause in clauses)]
 
 
 table, proof = (read(os.path.join(edges, path)) for path in ("specs/Edges.antt", "proofs/Starred.antt"))
 unfolded = " ".join(" ".join(re.findall(r"^unfolding (.*(?:\n +.*)*)$", proof, re.M)).split())
-own = ["use Rattle·edges·specs.specs.Edges.{" + name + "}" for name in ("bytes", "judged", "logText")]
+own = ["use Rattle.edges.specs.Edges.{" + name + "}" for name in ("bytes", "judged", "log_text")]
 print("\n".join([*imports(table, proof, *own), "", *written_of(table), ""]))
 files = [run_file(case) for case in range(count)] + [read(path) for path in named]
 ends = {"E": 0, "F": 0}
@@ -70,6 +70,6 @@ for case, file in enumerate(files):
     log = subprocess.run([simulate], input=file.encode(), capture_output=True, check=True).stdout.decode()
     ends[log.splitlines()[-1][0]] += 1
     tries = log.count("\n") - log.count("\nK")
-    print(f"case-{case} : writtenOf {tries} (judged {literal(file)}) ≡ bytes {literal(log)}")
-    print(f"unfolding {unfolded} writtenOf\ncase-{case} = refl\n")
+    print(f"case-{case} : written_by {tries} (judged {literal(file)}) ≡ bytes {literal(log)}")
+    print(f"unfolding {unfolded} written_by\ncase-{case} = refl\n")
 print(ends["E"], ends["F"], file=sys.stderr)

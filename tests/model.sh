@@ -25,23 +25,29 @@ below() {
         END { visit(crate) }' crates.txt
 }
 
-# A crate is proved again in the copy where target/ has not proved it as it is.
+# check FOLDER: proves the crate `edges` of a copy of the repository, and before it the crates below that are not built there.
+check() {
+    (cd "$1/crates/edges" && rt check)
+}
+
+# The crates below are built here, and taken over by the copy as they are.
 simulator
+quietly check .
 copy=$(mktemp -d)
 trap 'rm -rf "$copy"' EXIT
-mkdir -p "$copy/crates" "$copy/target/stamp" "$copy/target/rlib"
-cp crates.txt "$copy"
 for crate in $(below edges); do
-    cp -R "crates/$crate" "$copy/crates"
-    [ ! -e "target/stamp/$crate" ] || cp "target/stamp/$crate" "$copy/target/stamp"
-    [ ! -e "target/rlib/$crate.rlib" ] || cp -R "target/rlib/$crate.rlib" "$copy/target/rlib"
+    grep "^$crate:" crates.txt >> "$copy/crates.txt"
+    mkdir -p "$copy/crates/$crate/out"
+    for part in src specs proofs out/rlib; do
+        [ ! -e "crates/$crate/$part" ] || cp -R "crates/$crate/$part" "$copy/crates/$crate/$part"
+    done
 done
 named='tests/reported-ten.run tests/learnt.run tests/short.run'
 python3 tests/model.py "$out/simulate" crates/edges "$seed" "$count" $named > "$copy/crates/edges/proofs/Simulated.antt" 2> "$copy/ends"
 read -r e f < "$copy/ends" || fail 'the logs are not counted'
 [ "$f" -gt $((count / 4)) ] && [ "$e" -gt "$f" ] || fail "$e of the logs end in E, $f in F"
 echo 'pub mod Simulated' >> "$copy/crates/edges/proofs/Lib.antt"
-if ! (cd "$copy" && rt dev edges) > "$copy/model.log" 2>&1 || ! grep -q '^logic=proved' "$copy/model.log"; then
+if ! check "$copy" > "$copy/model.log" 2>&1 || ! grep -q '^logic=proved' "$copy/model.log"; then
     grep -v '^note' "$copy/model.log" | cut -c 1-300 | tail -n 40 >&2
     fail "seed $seed: the definitions and the simulator differ"
 fi

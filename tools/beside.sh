@@ -3,7 +3,8 @@
 # process, call by call, and compares what they answer and leave. Not part of the gate: it says how fast.
 #
 # Usage: tools/beside.sh REVISION [ROUNDS]: each time is the shortest of so many, by default 2,000. The library of the other revision is
-# proved and built in a clone in target/beside/, which takes minutes, unless it stands there as it was made.
+# proved and built in a clone outside this folder, since `rt ci` refuses a second repository within, which takes minutes; it is kept in
+# target/beside/ and built anew only where it is not as it was made. The revision has to be one that today's kit proves.
 
 . "$(dirname "$0")/../tests/common.sh"
 
@@ -11,7 +12,6 @@
 commit=$(git rev-parse --verify --quiet "$1^{commit}") || fail "there is no revision $1"
 shift
 folder=target/beside
-clone=$folder/$commit
 mkdir -p "$folder"
 
 # shared FOLDER FILE: the library in that folder as a shared object, since the symbols of both are the same and could not be linked into
@@ -20,20 +20,13 @@ shared() {
     gcc -shared -o "$2" -Wl,--whole-archive "$1/target/staticlib/libplanner.a" -Wl,--no-whole-archive
 }
 
-# in_clone COMMAND..: git in the clone. It is told where, since from a clone that is not whole it would go up to this repository.
-in_clone() {
-    git --git-dir "$clone/.git" --work-tree "$clone" "$@"
-}
-
-prove_clone() (
-    cd "$clone" && rt staticlib planner
-)
-
 before() {
     echo "$name: building the library of $commit" >&2
-    [ -e "$clone/.git" ] || quietly git clone --quiet --no-checkout . "$clone"
-    quietly in_clone reset --quiet --hard "$commit"
-    quietly prove_clone
+    clone=$(mktemp -d)
+    trap 'rm -rf "$clone"' EXIT
+    quietly git clone --quiet --no-checkout . "$clone"
+    quietly git -C "$clone" checkout --quiet --detach "$commit"
+    quietly sh "$clone/tools/build.sh" planner
     shared "$clone" "$folder/$commit.so"
 }
 

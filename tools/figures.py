@@ -2,7 +2,8 @@
 """The tables of docs/FIGURES.md that are counted or measured.
 
     python3 tools/figures.py --sizes   writes the table of tools/sizes.sh into docs/FIGURES.md
-    python3 tools/figures.py --times   after a whole gate, writes the time of each crate and of its edits there, from target/gate.log
+    python3 tools/figures.py --times   measures the time of each crate and of its edits, each from nothing, and writes them there; it takes
+                                       several times as long as a first gate, with nothing beside
 
 tests/docs.py holds the sizes, and the counts of edits beside the times, against those counted."""
 import glob
@@ -10,6 +11,7 @@ import os
 import re
 import subprocess
 import sys
+import time
 
 FIGURES = "docs/FIGURES.md"
 TIMES = "| Crate | Proved in | Its edits | together in |"
@@ -18,6 +20,11 @@ TIMES = "| Crate | Proved in | Its edits | together in |"
 def read(path):
     with open(path, encoding="utf-8") as f:
         return f.read()
+
+
+def crates():
+    """The names in crates.txt."""
+    return re.findall(r"^(\w+)(?: staticlib)?:", read("crates.txt"), re.M)
 
 
 def counted():
@@ -33,18 +40,34 @@ def table(lines, header):
     return at, end
 
 
+def verdicts(crate):
+    """The seconds in which a crate and those below it are each proved from nothing, by name."""
+    took, name, began = {}, crate, time.monotonic()
+    process = subprocess.Popen(["rt", "verdict"], cwd=f"crates/{crate}", stdout=subprocess.PIPE, stderr=subprocess.STDOUT, text=True)
+    for line in process.stdout:
+        begins = re.match(r"rt: chose --jobs \d+ for (\w+)", line)
+        if begins:
+            name, began = begins.group(1), time.monotonic()
+        elif line.startswith("logic=proved"):
+            took[name] = round(time.monotonic() - began)
+    if process.wait():
+        sys.exit(f"figures: {crate} is not proved: see rt verdict in crates/{crate}")
+    return took
+
+
 def times():
-    """The table of times, from what `rt ci` said in the last gate."""
-    if not os.path.exists("target/gate.log"):
-        sys.exit("figures: there is no target/gate.log: run .ci/run first")
-    said = read("target/gate.log")
+    """The table of times: `rt verdict` in the crates that no other uses, which proves all below them, and `rt must-fail` for each crate."""
+    used = {name for line in read("crates.txt").split("\n") for name in re.sub("#.*", "", line).partition(":")[2].split()}
+    took = {}
+    for crate in crates():
+        if crate not in used:
+            took = {**verdicts(crate), **took}
     rows = [TIMES, "|---|---|---|---|"]
-    for crate in re.findall(r"^(\w+):", read("crates.txt"), re.M):
-        took = re.findall(rf"^rt: {crate} proved \((\d+) s\)", said, re.M)
-        edits = [int(s) for s in re.findall(rf"^rt: must-fail {crate}/.*?(\d+) s\)$", said, re.M)]
-        if not took or len(edits) != len(glob.glob(f"crates/{crate}/must-fail/*.edit")):
-            sys.exit(f"figures: target/gate.log has not the times of {crate}: run .ci/run first")
-        rows.append(f"| {crate} | {took[-1]} s | {len(edits)} | {sum(edits)} s |")
+    for crate in crates():
+        edits, began = len(glob.glob(f"crates/{crate}/must-fail/*.edit")), time.monotonic()
+        if edits and subprocess.run(["rt", "must-fail", "--anew", crate], stdout=subprocess.DEVNULL).returncode:
+            sys.exit(f"figures: the edits of {crate} are not all refused: see rt must-fail {crate}")
+        rows.append(f"| {crate} | {took[crate]} s | {edits} | {round(time.monotonic() - began)} s |")
     return rows
 
 

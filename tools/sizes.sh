@@ -11,6 +11,11 @@ lines() {
     cat /dev/null "$@" | wc -l
 }
 
+# files PATTERN..: the crate's files of that path, without what the kit makes in out/.
+files() {
+    find "$at" -path "$at/out" -prune -o -path "$@" -print
+}
+
 row() {
     printf '| %s | %d | %d | %d | %d | %d |\n' "$@"
 }
@@ -18,13 +23,13 @@ row() {
 echo '| Crate | Code | Definitions | Laws | Functions'"'"' proofs | Edits |'
 echo '|---|---|---|---|---|---|'
 all_code=0 all_specs=0 all_laws=0 all_proofs=0 all_edits=0
-for crate in $(sed -n 's/^\([a-z0-9_]*\):.*/\1/p' crates.txt); do
+for crate in $(sed -n 's/^\([a-z0-9_]*\)\( staticlib\)\{0,1\}:.*/\1/p' crates.txt); do
     at=crates/$crate
-    code=$(lines $(find "$at/src" -name '*.rt'))
-    specs=$(lines $(find "$at" -path '*/specs/*.antt'))
-    laws=$(lines $(find "$at" -path '*/proofs/*.antt' ! -name Proof.antt))
-    proofs=$(lines $(find "$at" -path '*/proofs/*' -name Proof.antt))
-    edits=$(find "$at" -path '*/must-fail/*.edit' | wc -l)
+    code=$(lines $(files '*/src/*.rt'))
+    specs=$(lines $(files '*/specs/*.antt'))
+    laws=$(lines $(files '*/proofs/*.antt' ! -path '*/proofs/*/*'))
+    proofs=$(lines $(files '*/proofs/*/*.antt'))
+    edits=$(files '*/must-fail/*.edit' | wc -l)
     row "$crate" "$code" "$specs" "$laws" "$proofs" "$edits"
     all_code=$((all_code + code)) all_specs=$((all_specs + specs)) all_laws=$((all_laws + laws))
     all_proofs=$((all_proofs + proofs)) all_edits=$((all_edits + edits))

@@ -1,0 +1,90 @@
+// The calls of the crate planner as a static library for C: each has the symbol, the parameters and the contract of the
+// library's function of that name, and calls it. include/kelbraut.h says how to use them.
+#![tactic(auto)]
+
+ghost use Rattle.std.specs.Prelude.{◌≡◌};
+ghost use Rattle.platform.specs.Calls.{open_file, step, run, write_file, step_refusal, run_refusal, write_refusal};
+ghost use Rattle.planner.specs.Answers.{number_and_line, step_letter, step_tick, step_node, step_other, step_size};
+ghost use Rattle.planner.specs.Answers.{run_events, run_spent, write_size};
+ghost use Rattle.planner.specs.Answers.{dispatch_turns, dispatch_events, dispatch_stopped};
+ghost use Rattle.dispatcher.specs.Dispatch.{dispatch};
+
+// Opens a store from a run file. Answers 0, or the number of the refusal and 256 times its line.
+#[unsafe(no_mangle)]
+pub extern "C" fn kelbraut_open(file: &[u8], store: &mut [u8]) -> u64
+    ensures value { result ≡ number_and_line (open_file file.now store.old).answer }
+    ensures store_after { store.new ≡ (open_file file.now store.old).store }
+{
+    planner::kelbraut_open(file, store)
+}
+
+// Does up to so many events. Answers the number of the refusal, 0 where there is none. Puts the events done, also at an event that is refused,
+// and 1 where the budget is spent and another event remains.
+#[unsafe(no_mangle)]
+pub extern "C" fn kelbraut_run(
+    store: &mut [u8],
+    budget: u64,
+    events: &mut u64,
+    spent: &mut u64,
+) -> u64
+    ensures value { result ≡ run_refusal (run store.old budget).answer }
+    ensures events_after { events.new ≡ run_events (run store.old budget).answer events.old }
+    ensures spent_after { spent.new ≡ run_spent (run store.old budget).answer spent.old }
+    ensures store_after { store.new ≡ (run store.old budget).store }
+{
+    planner::kelbraut_run(store, budget, events, spent)
+}
+
+// Puts the store's run file into a lent part. Answers the number of the refusal, 0 where there is none. Puts the file's length.
+#[unsafe(no_mangle)]
+pub extern "C" fn kelbraut_write(store: &[u8], out: &mut [u8], size: &mut u64) -> u64
+    ensures value { result ≡ write_refusal (write_file store.now out.old).answer }
+    ensures size_after { size.new ≡ write_size (write_file store.now out.old).answer size.old }
+    ensures out_after { out.new ≡ (write_file store.now out.old).out }
+{
+    planner::kelbraut_write(store, out, size)
+}
+
+// Does one event and writes its line. Answers the number of the refusal, 0 where there is none. Puts the letter of the event's line, E or F
+// where none is left, its tick, node and other, and the length of the line.
+#[unsafe(no_mangle)]
+pub extern "C" fn kelbraut_step(
+    store: &mut [u8],
+    log: &mut [u8],
+    letter: &mut u64,
+    tick: &mut u64,
+    node: &mut u64,
+    other: &mut u64,
+    size: &mut u64,
+) -> u64
+    ensures value { result ≡ step_refusal (step store.old log.old).answer }
+    ensures letter_after { letter.new ≡ step_letter (step store.old log.old).answer letter.old }
+    ensures tick_after { tick.new ≡ step_tick (step store.old log.old).answer tick.old }
+    ensures node_after { node.new ≡ step_node (step store.old log.old).answer node.old }
+    ensures other_after { other.new ≡ step_other (step store.old log.old).answer other.old }
+    ensures size_after { size.new ≡ step_size (step store.old log.old).answer size.old }
+    ensures store_after { store.new ≡ (step store.old log.old).store }
+    ensures log_after { log.new ≡ (step store.old log.old).log }
+{
+    planner::kelbraut_step(store, log, letter, tick, node, other, size)
+}
+
+// Gives `turns` turns of `each` events to the stores of a part. Answers the number of the refusal, 0 where there is none. Puts the turns given,
+// the events of each of eight stores, and which stores are stopped, bit i for store i.
+#[unsafe(no_mangle)]
+pub extern "C" fn kelbraut_dispatch(
+    stores: &mut [u8],
+    each: u64,
+    turns: u64,
+    given: &mut u64,
+    events: &mut [u64; 8],
+    stopped: &mut u64,
+) -> u64
+    ensures value { result ≡ (dispatch stores.old each turns).answer.number }
+    ensures given_after { given.new ≡ dispatch_turns (dispatch stores.old each turns).answer given.old }
+    ensures events_after { events.new ≡ dispatch_events (dispatch stores.old each turns).answer events.old }
+    ensures stopped_after { stopped.new ≡ dispatch_stopped (dispatch stores.old each turns).answer stopped.old }
+    ensures stores_after { stores.new ≡ (dispatch stores.old each turns).part }
+{
+    planner::kelbraut_dispatch(stores, each, turns, given, events, stopped)
+}
