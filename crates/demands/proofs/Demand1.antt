@@ -27,7 +27,6 @@ use Rattle.logline.proofs.LineTrip.{read-trip, text-accepted, refused-number}
 use Rattle.model.specs.Platform.{State, start, Entry, Outcome, did, ended, refused, Ending, spent, finished, overfull as overfull_run}
 use Rattle.model.specs.Platform.{next_event, apply, fits, tried, try, left, steps, event_count, run_answer}
 use Rattle.model.proofs.Calls.{stuck, counted}
-use Rattle.limits.specs.Refusals.{accepted}
 use Rattle.host.specs.Call.{answer, record_after, part_after, open_answer, open_leaves}
 use Rattle.host.specs.Call.{deliver_answer, deliver_leaves, deliver_sends, timers_answer, timers_leaves, timers_sends}
 use Rattle.host.specs.Record.{openable, sound}

@@ -2,15 +2,15 @@
 -- statement is `SameAsNodes` in specs/Nodes.antt.
 -- Assumes nothing.
 use mathlib.Core.Path.{◌≡◌, refl, sym, ap, ◌∙◌, subst}
-use mathlib.Core.Bool.{true, false}
-use mathlib.Core.List.{List, Memᴰ}
+use mathlib.Core.Bool.{true}
+use mathlib.Core.List.{List}
 use mathlib.Core.Option.{Option, none, some}
 use Prim.Native.Nat.{ℕ, zero, suc, ◌≤◌, ◌<◌}
 use native.Mathlib.Omega.{arith}
 use lib.ListN.{length}
 use Rattle.limits.specs.Limits.{most_tick, record_size, part_size}
 use Rattle.node.specs.declared.Node.{Node}
-use Rattle.node.specs.Node.{R, opening}
+use Rattle.node.specs.Node.{opening}
 use Rattle.host.specs.Record.{encode, decode, sound}
 use Rattle.limits.specs.Refusals.{accepted as taken}
 use Rattle.host.specs.Call.{open_answer, opened_record, open_leaves}
@@ -23,7 +23,7 @@ use Rattle.ring.specs.Ring.{numbers}
 use Rattle.plans.specs.Plan.{Plan, order_of, plan_test}
 use Rattle.runfile.specs.File.{accepted, file_of}
 use Rattle.runfile.proofs.RoundTrip.{accepted-plan}
-use Rattle.model.specs.Platform.{InFlight, State, Entry, Outcome, did, ended, refused, alive, start, node_of, try, left, steps, after}
+use Rattle.model.specs.Platform.{State, Entry, Outcome, did, ended, refused, alive, start, node_of, try, left, steps, after}
 use Rattle.plans.specs.Plain.{Plain}
 use Rattle.model.specs.Range.{Sound}
 use Rattle.model.proofs.RangesKept.{start-node, after-range}

@@ -1,4 +1,6 @@
 // The dispatcher: turns for up to eight stores that are lent one after another in one part.
+#![tactic(auto)]
+
 mod tally; // tally.rt: whose turn it is, and what the turns of a call came to
 mod turns; // turns.rt: the turns of a call, on stores that are ready for them
 

@@ -1,5 +1,7 @@
 // One event of the platform, done in place on the bytes of a store. It asks for a store that opening, steps and runs lead to, and makes
 // no test of the whole store.
+#![tactic(auto)]
+
 pub mod search; // search.rt: the next event
 pub mod turn; // turn.rt: what an event does to its node, what it sends and what is told of it
 pub mod lines; // lines.rt: the lines of an event, and the last line

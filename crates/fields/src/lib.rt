@@ -1,4 +1,6 @@
 // Numbers of one to eight bytes in lent bytes, the lowest byte first, and parts that are zero.
+#![tactic(auto)]
+
 ghost use Rattle.std.specs.Prelude.{◌≡◌, ◌+◌, ◌^◌, ◌≤◌, ◌<◌, length};
 ghost use Rattle.std.proofs.Math.Seq.{slice};
 ghost use Rattle.fields.specs.Fields.{field_at, put_at, cleared, zeros};

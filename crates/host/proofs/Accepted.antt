@@ -8,7 +8,7 @@ use native.Mathlib.Omega.{arith}
 use native.Mathlib.Decide.{ℕ_discrete}
 use borrow.Author.Tests.{eq-eqb, lt-ltb, le-leb, lt-leb}
 use lib.ListN.{length}
-use Rattle.limits.specs.Limits.{most_nodes, most_h, most_w, most_tick, most_sent, record_size, part_size}
+use Rattle.limits.specs.Limits.{most_tick, most_sent, record_size, part_size}
 use Rattle.ring.specs.Ring.{numbers}
 use Rattle.node.specs.Node.{Turn, R, due, on_watch_due, on_heartbeat_due}
 use Rattle.node.specs.Range.{Known}

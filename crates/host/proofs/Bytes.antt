@@ -1,7 +1,7 @@
 -- A record's bytes: what writing puts there is what the definition says, and what is read is what was written. Assumes nothing.
 use mathlib.Core.Path.{◌≡◌, refl, sym, ◌∙◌}
 use mathlib.Core.List.{List, [], ◌++◌, append_assoc, append-nil}
-use Prim.Native.Nat.{ℕ, ◌+◌, ◌-◌}
+use Prim.Native.Nat.{ℕ}
 use native.Mathlib.Omega.{arith}
 use lib.ListN.{length, drop, length-append, length-replicate, drop_of_length-le}
 use lib.Seq.{sets, sets-eq, length-sets, take_at}

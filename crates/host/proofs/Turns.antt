@@ -9,7 +9,6 @@ use borrow.Author.Tests.{ltb-true}
 use lib.Dec.{ltb}
 use Rattle.ring.specs.Ring.{numbers, InOrder}
 use Rattle.ring.proofs.Orders.{numbers-in}
-use Rattle.ring.proofs.Neighbours.{ahead-below, ahead-differ}
 use Rattle.limits.specs.Limits.{most_tick}
 use Rattle.node.specs.Node.{silent, on_heartbeat_due, on_watch_due, Turn}
 use Rattle.node.proofs.Ranges.{Took, opening-range, silent-took, message-took, beat-took, watch-took}

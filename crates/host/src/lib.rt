@@ -1,5 +1,7 @@
 // The node's rules for a host in C: three calls on a record of 64 lent bytes. include/kelbraut.h says how to use them, and
 // docs/LAYOUTS.md has the bytes.
+#![tactic(auto)]
+
 ghost use Rattle.std.specs.Prelude.{◌≡◌, cond, ◌+◌, ◌≤◌, ◌<◌, eqb, length, take};
 ghost use Rattle.std.proofs.lemmas.List.Edits.{sets};
 ghost use Rattle.limits.specs.Limits.{most_nodes, most_h, most_w, most_tick, most_sent, record_size, message_size, part_size};

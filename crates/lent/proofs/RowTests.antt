@@ -1,17 +1,17 @@
 -- A plan's tests, row by row: as long as the rows before place i pass, the test of all rows is that of the rows from i on. Assumes nothing.
 use Prim.Native.Nat.{ℕ, zero, suc, ◌+◌, ◌≤◌, ◌<◌}
 use mathlib.Core.Path.{◌≡◌, refl, sym, ap, ◌∙◌}
-use mathlib.Core.Bool.{Bool, true, false, not, ◌&&◌, and-eq-true_iff, and-true, and-false, true≢false}
+use mathlib.Core.Bool.{Bool, true, false, not, ◌&&◌, and-true, and-false, true≢false}
 use mathlib.Core.List.{List, [], ◌∷◌, ◌++◌}
 use native.Mathlib.Numerals.{add-one}
 use native.Mathlib.Omega.{arith}
-use borrow.Author.Tests.{eq-eqb, ne_eqb, leb-true, le-leb, lt-leb, le-ltb, lt-ltb}
-use lib.Dec.{leb, ltb}
+use borrow.Author.Tests.{eq-eqb, ne_eqb, le-leb, lt-leb, le-ltb, lt-ltb}
+use lib.Dec.{ltb}
 use lib.ListN.{length, get_or, take, drop, drop_of_length-le, take-append-drop}
 use lib.Seq.{drop-cons, take-suc, take_all}
 use Rattle.fields.proofs.Answers.{fails, holds}
-use Rattle.limits.specs.Limits.{most_nodes, most_h, most_w, most_d, most_tick, most_number, most_delays}
-use Rattle.plans.specs.Plan.{Plan, Crash, Delay, within, start_ranges, crash_range, delay_range, rising_from, rising, later, hits, none_twice, above, delay_order}
+use Rattle.limits.specs.Limits.{most_number, most_delays}
+use Rattle.plans.specs.Plan.{Plan, Crash, Delay, within, crash_range, delay_range, rising_from, rising, later, hits, none_twice, above, delay_order}
 use Rattle.plans.specs.Plan.{few_delays, every, ring_count, ring_range, ring_test, delay_test}
 use Rattle.ring.specs.Ring.{among, each_once, listed, listing, listing_all}
 use Rattle.ring.proofs.Once.{listed-all, all_snoc, once-snoc, once-start}

@@ -14,12 +14,11 @@ use lib.Seq.{drop-cons}
 use Rattle.ring.specs.Ring.{listed}
 use Rattle.node.specs.declared.Node.{Node}
 use Rattle.node.specs.Node.{H, O, R, alone}
-use Rattle.plans.specs.Plan.{Plan, Crash, plan_test}
+use Rattle.plans.specs.Plan.{Plan, Crash}
 use Rattle.plans.proofs.Bools.{and_left, and_right}
-use Rattle.plans.proofs.Tests.{Ranges, ranges-of, ranges-good}
 use Rattle.limits.specs.Limits.{most_in_flight, most_next}
 use Rattle.model.specs.Platform.{State, InFlight, alive, crashed_list, no_message}
-use Rattle.plans.specs.Plain.{no_crash, row_at, Plain}
+use Rattle.plans.specs.Plain.{no_crash, Plain}
 use Rattle.model.specs.Range.{nodes_test, message_test, flight_test, undone_test, sound_test, node_here}
 use Rattle.node.specs.Range.{node_test, live_test, not_overdue, timers_test, kind_test, carried_test}
 use Rattle.model.proofs.SettledNode.{crashed-listed}

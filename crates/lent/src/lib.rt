@@ -1,4 +1,6 @@
 // Number 7's test of a lent store: its length, its counts, what it holds, and that its unused bytes are zero.
+#![tactic(auto)]
+
 pub mod rows; // rows.rt: whether the P line, the Q line and the rows of C and L lines are those of a run file
 pub mod state; // state.rt: whether the state is in range
 

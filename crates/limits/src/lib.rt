@@ -1,5 +1,6 @@
 // The figures of documents 01 and 02 and the numbers of their refusals, as the code of all crates has them. The definitions are
 // specs/Limits.antt and specs/Refusals.antt; a function that uses one of these is proved to meet a contract by the definition.
+#![tactic(auto)]
 
 // The ring and the ranges of a run file.
 pub const MOST_NODES: usize = 64;

@@ -7,7 +7,7 @@ use native.Mathlib.Omega.{arith}
 use native.Mathlib.Decide.{ℕ_discrete}
 use Rattle.node.specs.Node.{O, R}
 use Rattle.model.specs.Platform.{InFlight}
-use Rattle.model.proofs.Events.{Seen, View, Live, Dead, ◌∈◌, Params, Crash, crashed}
+use Rattle.model.proofs.Events.{View, Live, Dead, ◌∈◌, Params, Crash, crashed}
 use Rattle.model.proofs.Invariant.{Inv, Gone}
 use Rattle.model.proofs.EveryEvent.{live-not-dead}
 use Rattle.model.proofs.OneState.{not-alone, one-watcher, live-unlisted}

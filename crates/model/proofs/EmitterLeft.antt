@@ -10,7 +10,7 @@ use native.Mathlib.Omega.{arith}
 use native.Mathlib.Decide.{ℕ_discrete, dec_lt}
 use Rattle.node.specs.Node.{H, R}
 use Rattle.model.specs.Platform.{InFlight}
-use Rattle.model.proofs.Events.{View, Live, Lists, ◌∈◌, Params, Cause, by_expiry, by_report, Leaves, Moves, Alone, moving, left}
+use Rattle.model.proofs.Events.{View, Live, Lists, ◌∈◌, Params, Cause, by_expiry, by_report, Leaves, Moves, Alone, moving}
 use Rattle.model.proofs.Invariant.{Tied, Inv, Answered, Covered, by_heartbeat, by_timer, by_observer, by_crash}
 use Rattle.model.proofs.EveryEvent.{live-not-dead, NewMessage, GoneBy, Alike, base'}
 use Rattle.model.proofs.OneState.{live-unlisted, emitter-beats}

@@ -7,7 +7,7 @@ use mathlib.Core.List.{List, [], ◌∷◌, Memᴰ}
 use Prim.Native.Nat.{ℕ, zero, suc, ◌+◌, ◌≤◌, ◌<◌}
 use native.Mathlib.Omega.{arith}
 use lib.ListN.{length}
-use Rattle.ring.specs.Ring.{keep, numbers, listed, listing, place, targets, InOrder}
+use Rattle.ring.specs.Ring.{numbers, listed, listing, place, targets, InOrder}
 use Rattle.ring.proofs.Neighbours.{found_back}
 use Rattle.node.specs.declared.Node.{Node}
 use Rattle.node.specs.Node.{H, O, R, Turn, silent, alone, due, reports, on_message, sending, left_list, left_mark, new_emitter, moved, with_observer, with_watch}
@@ -16,7 +16,7 @@ use Rattle.node.specs.declared.Message.{Message}
 use Rattle.node.proofs.Moves.{Heard, renews, unheard, Reported, known, own, leaves, relays, Messaged, beats, observes, tells, messaged, beaten}
 use Rattle.node.proofs.Moves.{other-is-report, heard_list, told_node, told_sends}
 use Rattle.node.proofs.Moves.{moved_sends, Left, stops, moves, left}
-use Rattle.plans.specs.Plan.{Crash, Plan, order_of}
+use Rattle.plans.specs.Plan.{Plan, order_of}
 use Rattle.model.specs.Platform.{InFlight, State, Event, alive, survivors, delay_of, numbered, node_of, taken, message_at, without, received, apply}
 use Rattle.model.specs.Platform.{crash as crash_e, message as message_e, watch as watch_e, heartbeat as beat_e}
 use Rattle.plans.specs.Plain.{no_crash, row_at}

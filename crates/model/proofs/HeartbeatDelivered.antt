@@ -9,7 +9,7 @@ use native.Mathlib.Omega.{arith}
 use native.Mathlib.Decide.{ℕ_discrete}
 use Rattle.node.specs.Node.{H, O}
 use Rattle.model.specs.Platform.{InFlight}
-use Rattle.model.proofs.Events.{Seen, View, Live, Lists, Carries, Params, Beat, beaten}
+use Rattle.model.proofs.Events.{View, Live, Lists, Carries, Params, Beat, beaten}
 use Rattle.model.proofs.Invariant.{Inv, Gone, Covered, by_timer, by_crash}
 use Rattle.model.proofs.EveryEvent.{GoneBy, Alike, base'}
 use Rattle.model.proofs.OneState.{emitter-beats}

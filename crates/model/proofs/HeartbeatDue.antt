@@ -7,7 +7,6 @@ use mathlib.Core.Bool.{true, true≢false}
 use Prim.Native.Nat.{ℕ, ◌≤◌}
 use native.Mathlib.Omega.{arith}
 use native.Mathlib.Decide.{ℕ_discrete}
-use Rattle.node.specs.Node.{H}
 use Rattle.model.specs.Platform.{InFlight}
 use Rattle.model.proofs.Events.{Seen, View, Live, ◌∈◌, Params, Sends, sending}
 use Rattle.model.proofs.Invariant.{Inv, Gone, Answered, Covered, by_heartbeat, by_timer, by_observer, by_crash}

@@ -7,7 +7,6 @@ use mathlib.Core.Bool.{true, false}
 use Prim.Native.Nat.{ℕ, ◌+◌, ◌≤◌, ◌<◌}
 use native.Mathlib.Omega.{arith}
 use native.Mathlib.Decide.{ℕ_discrete}
-use Rattle.node.specs.Node.{H}
 use Rattle.model.specs.Platform.{InFlight}
 use Rattle.model.proofs.Events.{View, Live, ◌∈◌, Params, Step, crash, drop, idle, beat, watched, report, moves, alone, sends}
 use Rattle.model.proofs.Invariant.{Inv, Timers, by_timer}

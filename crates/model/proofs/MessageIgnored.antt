@@ -1,12 +1,12 @@
 -- A message that changes no node keeps the invariant: one dropped, a heartbeat that is not from the emitter, a report that says
 -- nothing new. Assumes nothing.
 use mathlib.Core.Path.{◌≡◌, refl, ap, sym, ◌∙◌}
-use mathlib.Core.Logic.{◌⊎◌, inl, inr, ◌≢◌}
+use mathlib.Core.Logic.{inl, inr, ◌≢◌}
 use mathlib.Core.List.Memᴰ
 use mathlib.Core.List.{[], ◌∷◌}
 use Prim.Native.Nat.{ℕ}
 use native.Mathlib.Omega.{arith}
-use Rattle.node.specs.Node.{H, O, R}
+use Rattle.node.specs.Node.{H, O}
 use Rattle.model.specs.Platform.{InFlight}
 use Rattle.model.proofs.Events.{View, Live, ◌∈◌, Ignored, Params, Frame, AtMessage, Drop, Idle}
 use Rattle.model.proofs.Invariant.{Inv, Covered}

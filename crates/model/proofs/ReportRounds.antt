@@ -16,7 +16,7 @@ use Rattle.model.proofs.Events.{View, Live, Dead, Lists, Marks, ◌∈◌, Param
 use Rattle.model.proofs.Invariant.{Inv}
 use Rattle.model.proofs.EveryEvent.{live-not-dead}
 use Rattle.model.proofs.OneState.{emitter-beats}
-use Rattle.model.proofs.OneNode.{OnEach, each}
+use Rattle.model.proofs.OneNode.{OnEach}
 use Rattle.model.proofs.WatchKept.{came0, stays, other-kind}
 use Rattle.model.proofs.ObserverDelivered.{observer-all}
 use Rattle.model.proofs.ReportDelivered.{report-all, report-alike}

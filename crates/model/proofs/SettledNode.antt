@@ -1,7 +1,6 @@
 -- A joined node in the words of Claims: its neighbours are the nearest survivors; and a settled one, whose list is also the number of the
 -- crashed nodes. Assumes nothing.
 use mathlib.Core.Path.{◌≡◌, refl, sym, ap, ◌∙◌}
-use mathlib.Core.Logic.{◌≢◌}
 use mathlib.Core.Bool.{Bool, true, false, not, true≢false, not-not}
 use mathlib.Core.List.{List, reverse}
 use Prim.Native.Nat.{ℕ, suc, ◌^◌, ◌<◌}

@@ -26,7 +26,7 @@ use Rattle.ring.proofs.Unlisted.{count_by, ahead_by}
 use Rattle.ring.proofs.GoingBack.{hops, ahead-iter}
 use Rattle.ring.proofs.Lists.{listing-keeps, listing-lists, listing-only, merging-keeps, merging-takes, merging-only}
 use Rattle.ring.proofs.Gaps.{gap, gap≥1, gap≤n, gap-inj, gap-cyc, gap-add}
-use Rattle.model.proofs.Events.{View, Carries, Params, Frame, Least, Sent, Reports, Adds, Learns, crash, sends, Seen}
+use Rattle.model.proofs.Events.{View, Carries, Params, Frame, Least, Sent, Reports, Adds, Learns, Seen}
 use Rattle.model.proofs.NextEvent.{undone}
 use Rattle.plans.proofs.Rows.{hit-where}
 use Rattle.model.proofs.RangesKept.{delay-ok, Given, numbered-in, numbered-has, here, other}

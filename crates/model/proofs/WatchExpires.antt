@@ -14,7 +14,6 @@ use Rattle.model.proofs.Events.{View, Live, Dead, Lists, Marks, ◌∈◌, Param
 use Rattle.model.proofs.Invariant.{Base, Inv}
 use Rattle.model.proofs.EveryEvent.{live-not-dead, not-true, Alike, GoneBy}
 use Rattle.model.proofs.OneState.{live-unlisted}
-use Rattle.model.proofs.OneNode.{each}
 use Rattle.model.proofs.WatchKept.{came0}
 use Rattle.model.proofs.EmitterLeft.{leaves-late, leaves-list', leaves-dead, leaves-between, moves-alike, moves-sames, alone-alike, alone-N}
 use Rattle.model.proofs.Phases.{crashed_in, Up, Coming, Calm, Unnoticed, Spreading, by_observer}

@@ -1,4 +1,5 @@
 // The platform as definitions, and demand 3 proved of them. Of code there is only what an event did, as a struct.
+#![tactic(auto)]
 
 // What an event did: its letter, its tick, its node, the other node, the node's list after it; and whether it moved the node's emitter, and how many
 // listed nodes the search for the new one passed.

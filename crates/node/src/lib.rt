@@ -1,5 +1,7 @@
 // The rules of one node. A node goes in by value and comes back with the messages that it sends.
 // Nodes in the field and the rehearsal both run these functions.
+#![tactic(auto)]
+
 ghost use Rattle.std.specs.Prelude.{◌≡◌, [], ◌∷◌, ◌+◌, ◌<◌, ◌≤◌, length, take};
 ghost use Rattle.std.proofs.lemmas.List.Edits.{sets};
 ghost use Rattle.limits.specs.Limits.{most_nodes, most_h, most_w, most_tick};

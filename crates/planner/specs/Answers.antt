@@ -3,7 +3,6 @@
 -- leaves what was there, as 01 says: 'Nothing lent changes, but for a run's earlier events'. A call answers the number of its refusal, 0 where
 -- there is none. Assumes nothing.
 use Rattle.std.specs.Prelude.{cond, List, ℕ, ◌+◌, ◌*◌, eqb}
-use Rattle.logline.specs.declared.Line.{Line}
 use Rattle.platform.specs.declared.Opened.{Opened}
 use Rattle.platform.specs.declared.Opened.TheVariants.{Ready, Refused as Unopened}
 use Rattle.platform.specs.declared.Stepped.{Stepped}

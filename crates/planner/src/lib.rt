@@ -1,5 +1,7 @@
 // The platform for planners' own programs in C or Rust: opening, step, run, the run-file writer and the dispatcher on numbers and byte slices.
 // A refused call leaves the numbers behind its pointers too. include/kelbraut.h says how to use them.
+#![tactic(auto)]
+
 ghost use Rattle.std.specs.Prelude.{◌≡◌};
 ghost use Rattle.platform.specs.Calls.{open_file, step, run, write_file, step_refusal, run_refusal, write_refusal};
 ghost use Rattle.planner.specs.Answers.{number_and_line, step_letter, step_tick, step_node, step_other, step_size};

@@ -1,1 +1,3 @@
+#![tactic(auto)]
+
 // What a run file plans, and the laws of plans: this crate has no code.

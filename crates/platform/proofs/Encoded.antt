@@ -2,7 +2,7 @@
 use mathlib.Core.Path.{◌≡◌}
 use mathlib.Core.Bool.{true, and-true}
 use lib.Dec.{leb}
-use Rattle.limits.specs.Limits.{most_next, store_size}
+use Rattle.limits.specs.Limits.{most_next}
 use Rattle.plans.specs.Plan.{Plan, plan_test}
 use Rattle.model.specs.Platform.{State}
 use Rattle.plans.specs.Plain.{Plain}

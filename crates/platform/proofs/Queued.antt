@@ -1,18 +1,14 @@
 -- A run whose messages stand in a queue, event by event: it answers and leaves what a run by the search does. Assumes nothing.
-use mathlib.Core.Path.{◌≡◌, refl, sym, ap, subst, ◌∙◌}
+use mathlib.Core.Path.{◌≡◌, refl, sym, subst}
 use mathlib.Core.List.{List}
-use Prim.Native.Nat.{ℕ, ◌-◌, ◌≤◌, ◌<◌}
+use Prim.Native.Nat.{ℕ, ◌-◌, ◌<◌}
 use Rattle.model.specs.declared.Deed.{Deed}
-use Rattle.store.specs.Store.{plan_in, state_in}
-use Rattle.event.specs.declared.Happened.{Happened}
-use Rattle.event.specs.declared.Happened.TheVariants.{Did, Ended, Refused}
-use Rattle.event.specs.Event.{next_answer, store_left}
+use Rattle.event.specs.Event.{store_left}
 use Rattle.event.specs.Ready.{Ready}
 use Rattle.course.specs.declared.Progress.{Progress}
 use Rattle.course.specs.declared.Went.{Went}
 use Rattle.course.specs.declared.Went.TheVariants.{Did as WentOn, Ended as WentOut, Refused as WentWrong}
 use Rattle.course.specs.Progress.{Underway, answer_of, progress_of, Agrees}
-use Rattle.platform.specs.declared.Ran.{Ran}
 use Rattle.platform.specs.declared.Ran.TheVariants.{Done, Refused as Unrun}
 use Rattle.limits.specs.Refusals.{too_many}
 use Rattle.platform.specs.Calls.{run_next}

@@ -1,4 +1,6 @@
 // The rehearsal platform: opening, step, run and the run-file writer, on a store of 65,536 lent bytes.
+#![tactic(auto)]
+
 mod fill; // fill.rt: the store that opening makes
 mod write; // write.rt: the run file of a store
 pub mod advance; // advance.rt: events of a store that is ready for them, for a step, for a run and for a turn of the dispatcher

@@ -7,7 +7,7 @@ use native.Mathlib.Omega.{arith}
 use lib.Dec.{leb, ltb}
 use lib.ListN.{length, length-map}
 use Rattle.queue.specs.Order.{insert_before, insert_after, ordered, Climbing}
-use Rattle.queue.specs.Rows.{places, size, row_at, rows, key_of, Open, Placed, Sorted, Moved}
+use Rattle.queue.specs.Rows.{places, row_at, rows, key_of, Open, Placed, Sorted, Moved}
 use Rattle.model.specs.Platform.{InFlight}
 use Rattle.queue.specs.Holds.{packed, due, number, Holds, Earliest, Head}
 use Rattle.queue.proofs.Orders.{ordered-join, rising-ordered, ordered-back, length-ordered}

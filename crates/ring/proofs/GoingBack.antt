@@ -10,7 +10,7 @@ use native.Mathlib.Omega.{arith}
 use native.Mathlib.Decide.{dec_lt}
 use borrow.Author.Tests.{not-false}
 use lib.ListN.{length, get_or, length-reverse}
-use Rattle.ring.specs.Ring.{keep, listed, unlisted, none, place, round, back, InOrder}
+use Rattle.ring.specs.Ring.{keep, none, place, round, InOrder}
 use Rattle.ring.proofs.Laws.{length-round, keep-reverse, keep-round}
 use Rattle.ring.proofs.Orders.{Kept, kept_at, before-first, order-kept}
 use Rattle.ring.proofs.Unlisted.{count_by, ahead_by, back_by, ahead_by-below, ahead_by-unlisted, ahead_by-add, ahead_by-itself, ahead_by-reaches}

@@ -8,7 +8,7 @@ use native.Mathlib.Nat.{add-zero, div-one, div_self, div-eq_of_lt, mul-mod_left,
 use native.Mathlib.Omega.{arith}
 use native.Mathlib.Decide.{dec_lt, ℕ_discrete}
 use borrow.Author.Tests.{eq-eqb, ne_eqb, eqb-true}
-use lib.Bits.{bit_or, bit_and, or_zero_l, or_lt, or_shr, or_mod, or_add_and, and_le_r}
+use lib.Bits.{bit_or, or_zero_l, or_lt, or_shr, or_mod, or_add_and, and_le_r}
 use lib.Dec.{eqb}
 use lib.Pow.{pow-lt, pow_pos, pow-add, shl-shr, shr-shr}
 use Rattle.ring.specs.Ring.{numbers, listed, listing, unlisting, merging, part_of, place}

@@ -1,5 +1,7 @@
 // Dead lists, the ring in any order, forward targets and the forwarding table. The ring is lent as its order, node numbers
 // from the first place to the last; a place is an index of it.
+#![tactic(auto)]
+
 ghost use Rattle.std.specs.Prelude.{◌≡◌, ◌-◌, ◌^◌, ◌<◌, ◌≤◌, length, get_or};
 ghost use Rattle.limits.specs.Limits.{most_nodes};
 ghost use Rattle.ring.specs.Ring.{numbers, listed, listing, unlisting, merging, part_of, unlisted_set, place, round, ahead, back, next, count, jumps};

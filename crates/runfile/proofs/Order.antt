@@ -2,14 +2,11 @@
 use Prim.Native.Nat.{ℕ, zero, suc, ◌+◌, zero-le}
 use native.Mathlib.Omega.{arith}
 use mathlib.Core.Path.{◌≡◌, refl, sym, ap, ◌∙◌}
-use mathlib.Core.Bool.{Bool, true, false, not, ◌&&◌, ◌||◌, and-true, and_assoc, or-false}
+use mathlib.Core.Bool.{Bool, true, not, ◌&&◌, and-true, and_assoc}
 use mathlib.Core.List.{List, [], ◌∷◌, ◌++◌}
-use lib.Dec.{eqb, leb}
+use lib.Dec.{leb}
 use lib.ListN.{length, length-append}
 use borrow.Author.Tests.{le-leb, lt-ltb}
-use Rattle.ring.specs.Ring.{listed, listing}
-use Rattle.ring.proofs.Lists.{listed-listing}
-use Rattle.ring.proofs.Laws.{listed-beyond}
 use Rattle.plans.specs.Plan.{Crash, Delay, rising_from, rising, later, hits, none_twice, crash_order, above, delay_order}
 use mathlib.Mathlib.Data.Bool.Basic.{and_elim_left, and_elim_right}
 use Rattle.plans.proofs.Rows.{twice-snoc}

@@ -16,7 +16,6 @@ use Rattle.runfile.specs.Text.{line_text, start_text, ring_text, crash_text, del
 use Rattle.text.specs.Field.{onto}
 use Rattle.runfile.specs.File.{FileAnswer, accepted, turned_down, Step, next, stop, lines, row_of, or_else, fresh, early, start_line, ring_line, crash_line}
 use Rattle.runfile.specs.File.{delay_line, first_line, later_line, step_then, later_lines, all_lines, file_of}
-use mathlib.Mathlib.Data.Bool.Basic.{and_elim_left, and_elim_right}
 use Rattle.plans.proofs.Rows.{every-there, crash-order-start, delay-order-start, few-start}
 use Rattle.runfile.proofs.Trip.{start-rows, crash-text, delay-text}
 use Rattle.runfile.proofs.Grown.{first-inv, opened-text, opened-good, Grown, by-ring, by-crash, by-delay, no_rows, later-inv, grown-good}

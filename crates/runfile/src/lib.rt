@@ -1,4 +1,6 @@
 // Run files: their reader, the numbers and rows of an accepted file, and their writer.
+#![tactic(auto)]
+
 ghost use Rattle.std.specs.Prelude.{◌≡◌, true, not, ◌&&◌, [], ◌∷◌, ◌++◌, ◌+◌, ◌<◌, ◌≤◌, drop, length};
 ghost use Rattle.ring.specs.Ring.{listed};
 ghost use Rattle.text.specs.Field.{field, line_feed};

@@ -1,18 +1,14 @@
 -- The crashed nodes of a store, row by row. Assumes nothing.
-use Prim.Native.Nat.{ℕ, zero, suc, ◌+◌, ◌<◌}
-use mathlib.Core.Path.{◌≡◌, refl}
-use mathlib.Core.Bool.{true}
-use mathlib.Core.List.{List, [], ◌∷◌}
+use Prim.Native.Nat.{ℕ, ◌+◌, ◌<◌}
+use mathlib.Core.Path.{◌≡◌}
 use native.Mathlib.Numerals.{add-one}
-use native.Mathlib.Omega.{arith}
-use lib.ListN.{length, get_or, take}
+use lib.ListN.{length, take}
 use lib.Seq.{take-suc}
 use Rattle.plans.proofs.Listed.{with-snoc}
 use Rattle.ring.specs.Ring.{listing}
-use Rattle.plans.specs.Plan.{Plan, Crash, plan_test}
+use Rattle.plans.specs.Plan.{Plan}
 use Rattle.model.specs.Platform.{crashed_list}
 use Rattle.plans.specs.Plain.{no_crash, row_at}
-use Rattle.store.specs.Store.{plan_in}
 
 pub crashed-next : (p : Plan) (i : ℕ) → i < length p.crashes → crashed_list p (i + 1) ≡ listing (crashed_list p i) (row_at p i).node
 unfolding crashed_list

@@ -1,4 +1,6 @@
 // The platform's state in a store of 65,536 lent bytes, read and changed in place. The layout stands in specs/Store.antt.
+#![tactic(auto)]
+
 pub mod layout; // layout.rt: where each field starts
 pub mod cells; // cells.rt: numbers of 1, 2 and 4 bytes
 pub mod plan; // plan.rt: the P line, the ring's order, the rows of C and L lines, and what of them is done

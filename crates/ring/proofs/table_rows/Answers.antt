@@ -5,7 +5,7 @@ use Prim.Native.Nat.{ℕ, ◌≤◌}
 use lib.ListN.{length, take}
 use borrow.Author.Rules.{rules}
 use Rattle.limits.specs.Limits.{most_nodes}
-use Rattle.ring.specs.Ring.{numbers, table_answer, table_row}
+use Rattle.ring.specs.Ring.{numbers, table_row}
 use Rattle.ring.proofs.Rows.{length-numbers, take-numbers, filled, filled-turn, full}
 use Rattle.ring.proofs.TableLaws.{refused-rows, accepted-rows, accepted}
 use Rattle.ring.proofs.table_rows.Goals as goal
