@@ -31,8 +31,8 @@ loop-i-preserved c =
       l.invariant.0,
       search rules,
       l.invariant.2 ∙ elim c.if-due-least.branch [
-          then-due-least w ↦ message-sooner f l.i l.least _ h c.due_at-due.ensures w.if-due-least.true ∙ rw w.least-is
-          | else-due-least w ↦ message-later f l.i l.least _ h c.due_at-due.ensures w.if-due-least.false ∙ rw w.least-is
+        | then-due-least w ↦ message-sooner f l.i l.least _ h c.due_at-due.ensures w.if-due-least.true ∙ rw w.least-is
+        | else-due-least w ↦ message-later f l.i l.least _ h c.due_at-due.ensures w.if-due-least.false ∙ rw w.least-is
       ],
     )
 

@@ -36,13 +36,13 @@ loop-x-preserved c =
       l.invariant.0,
       search rules,
       l.invariant.2 ∙ elim c.if-not-is_listed.branch [
-          then-not-is_listed w ↦
-              live-next p (ready-plain _ c.requires.ready) z.done z.nodes l.x l.least _ h w.node_at-a.ensures
-              (test_live p z.done c.args.dead l.x _ c.is_listed.ensures c.requires.dead_value w.if-not-is_listed.true-raw)
-              ∙ rw (w.least-is, w.earlier_timer-least.ensures, w.earlier_timer-watch.ensures)
-          | else-not-is_listed w ↦
-              dead-next p (ready-plain _ c.requires.ready) z.done z.nodes l.x l.least h
-              (test-dead p z.done c.args.dead l.x _ c.is_listed.ensures c.requires.dead_value w.if-not-is_listed.false-raw) ∙ rw w.least-is
+        | then-not-is_listed w ↦
+            live-next p (ready-plain _ c.requires.ready) z.done z.nodes l.x l.least _ h w.node_at-a.ensures
+            (test_live p z.done c.args.dead l.x _ c.is_listed.ensures c.requires.dead_value w.if-not-is_listed.true-raw)
+            ∙ rw (w.least-is, w.earlier_timer-least.ensures, w.earlier_timer-watch.ensures)
+        | else-not-is_listed w ↦
+            dead-next p (ready-plain _ c.requires.ready) z.done z.nodes l.x l.least h
+            (test-dead p z.done c.args.dead l.x _ c.is_listed.ensures c.requires.dead_value w.if-not-is_listed.false-raw) ∙ rw w.least-is
       ],
     )
 

@@ -121,13 +121,13 @@ loop-x-preserved c =
     rw c.requires.ready.held.fits.nodes (omega (arith, c.loop-x-test.true, c.loop-x.invariant.0)) in (
       l.invariant.0,
       l.invariant.1 ∙ elim c.if-not-is_listed.branch [
-          then-not-is_listed+else-a-t+else-a-t-2 w ↦
-              live-skip p (ready-plain _ c.requires.ready) z.done z.nodes c.args.t l.x _ h w.node_at-a.ensures
-              (test_live p z.done c.args.dead l.x _ c.is_listed.ensures c.requires.dead_value w.if-not-is_listed.true-raw)
-              w.if-a-t.false w.if-a-t-2.false
-          | else-not-is_listed w ↦
-              dead-skip p (ready-plain _ c.requires.ready) z.done z.nodes c.args.t l.x h
-              (test-dead p z.done c.args.dead l.x _ c.is_listed.ensures c.requires.dead_value w.if-not-is_listed.false-raw)
+        | then-not-is_listed+else-a-t+else-a-t-2 w ↦
+            live-skip p (ready-plain _ c.requires.ready) z.done z.nodes c.args.t l.x _ h w.node_at-a.ensures
+            (test_live p z.done c.args.dead l.x _ c.is_listed.ensures c.requires.dead_value w.if-not-is_listed.true-raw)
+            w.if-a-t.false w.if-a-t-2.false
+        | else-not-is_listed w ↦
+            dead-skip p (ready-plain _ c.requires.ready) z.done z.nodes c.args.t l.x h
+            (test-dead p z.done c.args.dead l.x _ c.is_listed.ensures c.requires.dead_value w.if-not-is_listed.false-raw)
       ],
     )
 
