@@ -378,6 +378,17 @@ module _ (b : List ℕ) (r : Ready b) (t i : ℕ) (next : NextIs b t (message i)
             q ∙ (ap₂ (λ (p : Plan) (s : State). encode p (taken p s t f.to s.flight (turn_of u))) (rest-plan room c e) (rest-state room c e)
             ∙ ap (λ (k : ℕ). encode (plan_in b) (taken (plan_in b) (state_in b) t k (without i (state_in b).flight) (turn_of u))) same-to)
 
+-- a message that would leave too many in flight: what is answered, and that the store stays
+pub full_answer : (b : List ℕ) (t i : ℕ) (f : Flight) (u : Turned) → Ready b → NextIs b t (message i) → f ≡ flying (message_at (state_in b) i)
+    → u ≡ turned (received (plan_in b) (state_in b) t (message_of f)) → most_in_flight < length (state_in b).flight - 1 + u.count
+    → ◌≡◌ {A = Happened} Refused (next_answer b)
+full_answer b t i f u r next fe ue h = (message-refused b r t i next f fe u (ue ∙ turn-of b r t i next f fe) h).0
+
+pub full_left : (b : List ℕ) (t i : ℕ) (f : Flight) (u : Turned) → Ready b → NextIs b t (message i) → f ≡ flying (message_at (state_in b) i)
+    → u ≡ turned (received (plan_in b) (state_in b) t (message_of f)) → most_in_flight < length (state_in b).flight - 1 + u.count
+    → b ≡ store_left b
+full_left b t i f u r next fe ue h = (message-refused b r t i next f fe u (ue ∙ turn-of b r t i next f fe) h).1
+
 -- ---- what a message did to its receiver, which was n, as the code tells it: it read n as a
 
 module _ (t : ℕ) (m : Flight) (dropped : Bool) (a a' n : Node) (k : ℕ) (same : a ≡ n) (d : Deed) where

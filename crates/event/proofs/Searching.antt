@@ -382,3 +382,6 @@ module _ (p : Plan) (s : State) (c m t : ℕ) (crashes : c ≡ crash_tick p s.do
 
   pub search-found : t ≤ p.end → next_of (next_event p s) ≡ next_of (first_at t (pending p s))
   search-found h = ap next_of (at_least p s t earliest h)
+
+-- for a search that finds no event up to the end tick
+pub ruleset none_found = (search-none)

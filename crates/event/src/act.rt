@@ -42,6 +42,7 @@ pub fn do_crash(s: &mut [u8], t: u32, k: u8) -> Happened
 }
 
 // A message is delivered; to a crashed node it is dropped.
+#[tactic(auto, using(crate::proofs::Doing::full_answer, crate::proofs::Doing::full_left))]
 pub fn do_message(s: &mut [u8], t: u32, i: usize) -> Happened
     requires ready { Ready s.old }
     requires next_is { NextIs s.old t (message i) }

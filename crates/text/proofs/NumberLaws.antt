@@ -63,6 +63,9 @@ module _ (s : List ℕ) (at : ℕ) where
   pub number_digits : at < length s → (get_or s at 0 ≡ 48 → ⊥) → digit (get_or s at 0) ≡ true → number_at s at ≡ digits_from 0 at (drop at s)
   number_digits h n e = rw (drop-next s at h, ne_eqb _ _ n, e)
 
+-- for a number that is a zero
+pub ruleset zero_read = (number-zero)
+
 tenth : (f n : ℕ) → n < 10 ^ suc f → n / 10 < 10 ^ f
 tenth f n h = let p : 0 < 10 = omega arith in (div-lt_iff_lt-mul p).1 (rw (pow-suc 10 f) at h)
 

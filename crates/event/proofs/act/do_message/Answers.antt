@@ -5,7 +5,7 @@ use Rattle.limits.specs.Limits.{most_in_flight}
 use Rattle.store.specs.Store.{state_in}
 use mathlib.Core.Path.{◌∙◌}
 use Rattle.event.proofs.Readiness.{held-sized, ready-crashes, ready-acting}
-use Rattle.event.proofs.Doing.{event-tick, message-here, message-place, message-sender, message-subject, message-count, message-turns, message-refused}
+use Rattle.event.proofs.Doing.{event-tick, message-here, message-place, message-sender, message-subject, message-count, message-turns}
 use Rattle.event.proofs.Doing.{turn-of, rest-room, message-done, taken-left}
 use native.Mathlib.Omega.{arith}
 use Rattle.event.proofs.act.do_message.Goals as goal
@@ -49,13 +49,6 @@ overflow_add-message_count c =
     let k = message-count _ c.requires.ready _ _ c.requires.next_is _ m.ensures _ is in
     omega (arith, c.message_count.ensures, c.requires.ready.held.fits.counts.messages, k)
 
-pub returns-then-message_count-u-gt-MOST_IN_FLIGHT : goal.returns-then-message_count-u-gt-MOST_IN_FLIGHT
-returns-then-message_count-u-gt-MOST_IN_FLIGHT c =
-    let m = c.message_at-m in
-    let u = c.message_turn-u in
-    let is = u.ensures ∙ turn-of _ c.requires.ready _ _ c.requires.next_is _ m.ensures in
-    message-refused _ c.requires.ready _ _ c.requires.next_is _ m.ensures _ is (omega (arith, c.if-message_count-u-gt-MOST_IN_FLIGHT.true, c.message_count.ensures))
-
 pub message_deed-deed-requires : goal.message_deed-deed-requires
 message_deed-deed-requires c =
     (ready-acting _ c.requires.ready, message-place _ c.requires.ready _ _ c.requires.next_is _ c.message_at-m.ensures)
@@ -72,7 +65,7 @@ take_turn-requires c =
     let u = c.message_turn-u in
     let m = c.message_at-m in
     let is = u.ensures ∙ turn-of _ c.requires.ready _ _ c.requires.next_is _ m.ensures in
-    message-turns _ c.requires.ready _ _ c.requires.next_is _ m.ensures _ is (omega (arith, c.if-message_count-u-gt-MOST_IN_FLIGHT.false, c.message_count.ensures))
+    message-turns _ c.requires.ready _ _ c.requires.next_is _ m.ensures _ is (omega (arith, c.message_count.ensures))
     _ c.take_message.ensures
 
 pub returns : goal.returns
@@ -81,7 +74,7 @@ returns c =
     let m = c.message_at-m in
     let is = u.ensures ∙ turn-of _ c.requires.ready _ _ c.requires.next_is _ m.ensures in
     let room : length (state_in c.args.s.now).flight - 1 + u.result.count ≤ most_in_flight =
-    omega (arith, c.if-message_count-u-gt-MOST_IN_FLIGHT.false, c.message_count.ensures) in
+    omega (arith, c.message_count.ensures) in
     let k = rest-room _ c.requires.ready _ _ c.requires.next_is _ m.ensures _ is room _ c.take_message.ensures in
     let listed = c.is_listed.ensures in
     let line = c.message_deed-deed.ensures in

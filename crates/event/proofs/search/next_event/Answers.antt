@@ -2,7 +2,7 @@
 use mathlib.Core.Path.{sym, ◌∙◌}
 use Rattle.store.specs.Store.{plan_in, state_in}
 use Rattle.event.proofs.Readiness.{ready-acting, ready-crashes}
-use Rattle.event.proofs.Searching.{search-none, search-found}
+use Rattle.event.proofs.Searching.{search-found}
 use native.Mathlib.Omega.{arith}
 use Rattle.event.proofs.search.next_event.Goals as goal
 
@@ -25,22 +25,16 @@ earliest_timer-t-requires c =
 pub end_tick-requires : goal.end_tick-requires
 end_tick-requires c = c.requires.held.size
 
-pub returns-then-end_tick-t : goal.returns-then-end_tick-t
-returns-then-end_tick-t c =
-    sym (search-none (plan_in c.args.s.now) (state_in c.args.s.now) _ _ _ c.earliest_crash-crash.ensures
-    c.earliest_message-message.ensures c.earliest_timer-t.ensures
-    (omega (arith, c.if-end_tick-t.true, c.end_tick.ensures)))
-
 pub first_at-requires : goal.first_at-requires
 first_at-requires c =
     record {
       ready = c.requires;
       dead_value = c.crashed_list-dead.ensures;
-      t_bound = omega (arith, c.if-end_tick-t.false, c.end_tick.ensures);
+      t_bound = omega (arith, c.end_tick.ensures);
     }
 
 pub returns : goal.returns
 returns c =
     c.first_at.ensures ∙ sym (search-found (plan_in c.args.s.now) (state_in c.args.s.now) _ _ _ c.earliest_crash-crash.ensures
     c.earliest_message-message.ensures c.earliest_timer-t.ensures
-    (omega (arith, c.if-end_tick-t.false, c.end_tick.ensures)))
+    (omega (arith, c.end_tick.ensures)))
