@@ -197,7 +197,8 @@ module _ (plans : ℕ → Plan) (bs : List (List ℕ)) (all : AllLed plans bs) (
 
   -- what the call comes to for each of all the stores
   some_at : (i : ℕ) → i < length bs
-      → get_or (stores_after (over_some first n turn_length turns) bs) i [] ≡ store_after_all (calls_of i (over_some first n turn_length turns) bs) (get_or bs i [])
+      → get_or (stores_after (over_some first n turn_length turns) bs) i []
+      ≡ store_after_all (calls_of i (over_some first n turn_length turns) bs) (get_or bs i [])
   unfolding stores_after calls_of store_after_all
   some_at i h = go (ℕ_discrete after_call.answer.number accepted) (dec_lt i first) (dec_lt i (first + n))
     where

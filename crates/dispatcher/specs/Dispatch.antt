@@ -1,6 +1,7 @@
 -- The dispatcher, as request 104 of document 02 states it: which turns a call gives, what each store holds after them, and what the call answers.
 -- A call that is refused leaves what it was lent. Assumes nothing.
-use Rattle.std.specs.Prelude.{Bool, true, false, cond, not, ◌&&◌, List, [], ◌∷◌, ◌++◌, map, ℕ, zero, suc, ◌+◌, ◌*◌, ◌-◌, ◌/◌, ◌%◌, eqb, length, get_or, take, drop, set, replicate}
+use Rattle.std.specs.Prelude.{Bool, true, false, cond, not, ◌&&◌, List, [], ◌∷◌, ◌++◌, map, ℕ, zero}
+use Rattle.std.specs.Prelude.{suc, ◌+◌, ◌*◌, ◌-◌, ◌/◌, ◌%◌, eqb, length, get_or, take, drop, set, replicate}
 use Rattle.std.proofs.Math.Option.{Option, none, some}
 use Rattle.limits.specs.Limits.{store_size, most_stores, most_turn}
 use Rattle.limits.specs.Refusals.{accepted, bad_store, too_many, bad_part, bad_turn}

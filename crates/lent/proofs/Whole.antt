@@ -31,10 +31,12 @@ module _ (b : List ℕ) where
   pub range-parts : store_in_range b
       ≡ (eqb (length b) store_size
       && (room_test (columns (plan_in b) (state_in b))
-      && (plan_test (plan_in b) && ((sound_test (plan_in b) (state_in b) && leb (state_in b).next most_next) && unused_test b (columns (plan_in b) (state_in b))))))
+      && (plan_test (plan_in b) && ((sound_test (plan_in b) (state_in b) && leb (state_in b).next most_next)
+      && unused_test b (columns (plan_in b) (state_in b))))))
   unfolding store_in_range store_test
   range-parts = ap (λ (x : Bool). eqb (length b) store_size && (room_test (columns (plan_in b) (state_in b)) && x))
-      (and_assoc (plan_test (plan_in b)) (sound_test (plan_in b) (state_in b) && leb (state_in b).next most_next) (unused_test b (columns (plan_in b) (state_in b))))
+      (and_assoc (plan_test (plan_in b)) (sound_test (plan_in b) (state_in b) && leb (state_in b).next most_next)
+      (unused_test b (columns (plan_in b) (state_in b))))
 
   -- the unused bytes, as the code goes through them
   abbrev rows_rest : Field → Field → ℕ → Bool

@@ -10,7 +10,8 @@ use lib.ListN.{length}
 use Rattle.ring.specs.Ring.{numbers, listed, listing, place, targets, InOrder}
 use Rattle.ring.proofs.Neighbours.{found_back}
 use Rattle.node.specs.declared.Node.{Node}
-use Rattle.node.specs.Node.{H, O, R, Turn, silent, alone, due, reports, on_message, sending, left_list, left_mark, new_emitter, moved, with_observer, with_watch}
+use Rattle.node.specs.Node.{H, O, R, Turn, silent, alone, due, reports}
+use Rattle.node.specs.Node.{on_message, sending, left_list, left_mark, new_emitter, moved, with_observer, with_watch}
 use Rattle.node.specs.Node.{with_heartbeat, with_list, beat as beat_to}
 use Rattle.node.specs.declared.Message.{Message}
 use Rattle.node.proofs.Moves.{Heard, renews, unheard, Reported, known, own, leaves, relays, Messaged, beats, observes, tells, messaged, beaten}

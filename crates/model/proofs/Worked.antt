@@ -17,7 +17,8 @@ use Rattle.model.specs.Platform.{alive, survivors, start, crash_entries, message
 use Rattle.model.specs.Platform.{InFlight, State, message, message_at, next_survivor, survivor_before, crashed_list}
 use Rattle.model.specs.Platform.{next_event, delay_in, delay_of, numbered, node_of, taken, without, received, apply, fits, tried, try, left, steps, after}
 use Rattle.plans.specs.Plan.{Crash, Plan, within, start_ranges, long_enough, crash_range, rising_from, rising, later, hits, none_twice, crash_order}
-use Rattle.plans.specs.Plan.{with_crashed, ring_order, order_of, ring_test, ring_count, ring_range, delay_order, few_delays, every, crash_test, delay_test, plan_test}
+use Rattle.plans.specs.Plan.{with_crashed, ring_order, order_of, ring_test, ring_count, ring_range}
+use Rattle.plans.specs.Plan.{delay_order, few_delays, every, crash_test, delay_test, plan_test}
 use Rattle.plans.specs.Plain.{Plain}
 use Rattle.plans.proofs.Facts.{plan-plain}
 use Rattle.model.specs.Range.{EndsInE, NotBefore}

@@ -1,7 +1,8 @@
 -- The ring of nodes as document 01 fixes it: dead lists, going ahead and back, forward targets, the forwarding table.
 -- A node is a number. The ring is given by its order, a list that has each node below n once, and a place is a position
 -- in that list: 01's ring is number order, `numbers 0 n`, one instance. Assumes nothing.
-use Rattle.std.specs.Prelude.{◌≡◌, Bool, true, false, cond, not, ◌&&◌, ◌||◌, List, [], ◌∷◌, ◌++◌, map, reverse, ℕ, zero, suc, ◌-◌, ◌/◌, ◌%◌, ◌^◌, ◌<◌, eqb, ltb, leb, length, get_or, take, drop, replicate}
+use Rattle.std.specs.Prelude.{◌≡◌, Bool, true, false, cond, not, ◌&&◌, ◌||◌, List, [], ◌∷◌, ◌++◌, map, reverse, ℕ}
+use Rattle.std.specs.Prelude.{zero, suc, ◌-◌, ◌/◌, ◌%◌, ◌^◌, ◌<◌, eqb, ltb, leb, length, get_or, take, drop, replicate}
 use Rattle.std.specs.Int.Bits.{bit_or}
 use Rattle.limits.specs.Limits.{most_nodes}
 use Rattle.limits.specs.Refusals.{accepted, out_of_range}

@@ -13,16 +13,21 @@ returns-then-size c = let r = bad-part _ _ _ (over _ _ _ c.if-size.true) c.refus
 
 pub returns-then-each-lt1 : goal.returns-then-each-lt1
 returns-then-each-lt1 c =
-    let r = bad-turn _ _ _ (inside _ _ _ (omega (arith, c.if-size-lt1.false)) c.if-size.false) (under _ _ _ c.if-each-lt1.true) c.refused-then-each-lt1.ensures in record { value = r.0; part_after = r.1 }
+    let r = bad-turn _ _ _ (inside _ _ _ (omega (arith, c.if-size-lt1.false)) c.if-size.false) (under _ _ _ c.if-each-lt1.true)
+    c.refused-then-each-lt1.ensures in
+    record { value = r.0; part_after = r.1 }
 
 pub returns-then-each-gt-MOST_TURN : goal.returns-then-each-gt-MOST_TURN
 returns-then-each-gt-MOST_TURN c =
-    let r = bad-turn _ _ _ (inside _ _ _ (omega (arith, c.if-size-lt1.false)) c.if-size.false) (over _ _ _ c.if-each-gt-MOST_TURN.true) c.refused-then-each-gt-MOST_TURN.ensures in record { value = r.0; part_after = r.1 }
+    let r = bad-turn _ _ _ (inside _ _ _ (omega (arith, c.if-size-lt1.false)) c.if-size.false) (over _ _ _ c.if-each-gt-MOST_TURN.true)
+    c.refused-then-each-gt-MOST_TURN.ensures in
+    record { value = r.0; part_after = r.1 }
 
 pub returns-then-size-ne0 : goal.returns-then-size-ne0
 returns-then-size-ne0 c =
     let r = not-whole _ _ _ (inside _ _ _ (omega (arith, c.if-size-lt1.false)) c.if-size.false)
-    (inside _ _ _ (omega (arith, c.if-each-lt1.false)) c.if-each-gt-MOST_TURN.false) c.if-size-ne0.true c.refused-then-size-ne0.ensures in record { value = r.0; part_after = r.1 }
+    (inside _ _ _ (omega (arith, c.if-each-lt1.false)) c.if-each-gt-MOST_TURN.false) c.if-size-ne0.true c.refused-then-size-ne0.ensures in
+    record { value = r.0; part_after = r.1 }
 
 pub all_in_range-requires : goal.all_in_range-requires
 all_in_range-requires c =

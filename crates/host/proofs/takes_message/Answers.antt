@@ -1,4 +1,5 @@
 -- `host::takes_message` meets its contract. Assumes nothing.
+use borrow.Author.Rules.{rules}
 use mathlib.Core.Path.{sym, ◌∙◌}
 use Rattle.fields.proofs.Answers.{fails, holds}
 use Rattle.host.proofs.Tests.{message-from, message-beyond, message-heartbeat, message-observer, message-report, message-unknown}
@@ -29,4 +30,4 @@ returns-in-82 c =
     ∙ sym (message-report _ _ _ _ _ from _ c.all_nodes.ensures c.if-all_nodes-list.false c.in-82.is)
 
 pub returns-in_default : goal.returns-in_default
-returns-in_default c = sym (message-unknown _ _ _ _ _ c.in_default.in_default-own.rest.0.0.1 c.in_default.in_default-own.rest.0.1 c.in_default.in_default-own.rest.1)
+returns-in_default c = sym (message-unknown _ _ _ _ _ (search rules) (search rules) (search rules))

@@ -14,4 +14,5 @@ run_ready-requires c =
 
 pub returns : goal.returns
 returns c =
-    let r = run-next _ _ (holds c.in_range.ensures c.if-not-in_range.false-raw) (c.run_ready.ensures.value, c.run_ready.ensures.store_after) in record { value = r.0; store_after = r.1 }
+    let r = run-next _ _ (holds c.in_range.ensures c.if-not-in_range.false-raw) (c.run_ready.ensures.value, c.run_ready.ensures.store_after) in
+    record { value = r.0; store_after = r.1 }

@@ -18,4 +18,5 @@ put_file-requires c =
 
 pub returns : goal.returns
 returns c =
-    let r = write_done _ _ (holds c.in_range.ensures c.if-not-in_range.false-raw) c.if-out-lt-FILE_ROOM.false c.put_file.ensures in record { value = r.0; out_after = r.1 }
+    let r = write_done _ _ (holds c.in_range.ensures c.if-not-in_range.false-raw) c.if-out-lt-FILE_ROOM.false c.put_file.ensures in
+    record { value = r.0; out_after = r.1 }

@@ -22,7 +22,8 @@ loop-s-preserved c =
     let asked = c.is_listed.ensures in (
       search rules,
       elim c.if-not-is_listed.branch [
-        | then-not-is_listed+else-left-eq0 w ↦ rw w.left-is (inv ∙ turn-pass _ _ _ _ _ _ less c.step-x.ensures asked _ w.if-not-is_listed.true-raw w.if-left-eq0.false)
+        | then-not-is_listed+else-left-eq0 w ↦
+            rw w.left-is (inv ∙ turn-pass _ _ _ _ _ _ less c.step-x.ensures asked _ w.if-not-is_listed.true-raw w.if-left-eq0.false)
         | else-not-is_listed w ↦ rw w.left-is (inv ∙ turn-skip _ _ _ _ _ _ less c.step-x.ensures asked _ w.if-not-is_listed.false-raw)
       ],
     )

@@ -19,7 +19,10 @@ returns-then-not-has_numbers c p kept = ring-formless p _ kept _ c.has_numbers.e
 
 pub take_ring-requires : goal.take_ring-requires
 take_ring-requires c =
-    (record { le_n = (c.requires.0, c.requires.1, sym c.has_numbers.ensures ∙ not-false _ c.if-not-has_numbers.false-raw); ring_value = (c.if-st-ne0.false, c.if-st-ne0-2.false, c.if-st-ne0-3.false) })
+    record {
+      le_n = (c.requires.0, c.requires.1, sym c.has_numbers.ensures ∙ not-false _ c.if-not-has_numbers.false-raw);
+      ring_value = (c.if-st-ne0.false, c.if-st-ne0-2.false, c.if-st-ne0-3.false);
+    }
 
 pub returns : goal.returns
 returns c p kept = c.take_ring.ensures p kept

@@ -33,7 +33,8 @@ crash-deed-requires c =
 pub crashed_list-dead-requires : goal.crashed_list-dead-requires
 crashed_list-dead-requires c =
     let p = c.requires in
-    let r = crash-crashes _ p.q c.args.c p.whole p.underway c.args.t p.node p.next _ c.crash-deed.ensures.s_after in record { sized = r.0; s_value = r.1.0; s_in_bounds = r.1.1 }
+    let r = crash-crashes _ p.q c.args.c p.whole p.underway c.args.t p.node p.next _ c.crash-deed.ensures.s_after in
+    record { sized = r.0; s_value = r.1.0; s_in_bounds = r.1.1 }
 
 pub returns : goal.returns
 returns c =

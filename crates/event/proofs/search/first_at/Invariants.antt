@@ -11,7 +11,8 @@ use Rattle.event.proofs.search.first_at.Given as goal
 abbrev pub invariant-loop-c : goal.invariant-loop-c
 invariant-loop-c l =
     (l.rows ≡ length (plan_in l.s).crashes) × (first_at l.t (pending (plan_in l.s) (state_in l.s)) ≡ first_at l.t
-    (crash_entries (drop l.c (plan_in l.s).crashes) ++ (message_entries 0 (state_in l.s).flight ++ timer_entries (plan_in l.s) (state_in l.s).done 0 (state_in l.s).nodes)))
+    (crash_entries (drop l.c (plan_in l.s).crashes) ++ (message_entries 0 (state_in l.s).flight
+    ++ timer_entries (plan_in l.s) (state_in l.s).done 0 (state_in l.s).nodes)))
 
 abbrev pub decreases-loop-c : goal.decreases-loop-c
 decreases-loop-c l = l.rows - l.c
@@ -26,7 +27,8 @@ decreases-loop-i l = l.flying - l.i
 
 abbrev pub invariant-loop-x : goal.invariant-loop-x
 invariant-loop-x l =
-    (l.n ≡ (plan_in l.s).n) × (first_at l.t (pending (plan_in l.s) (state_in l.s)) ≡ first_at l.t (timer_entries (plan_in l.s) (state_in l.s).done l.x (drop l.x (state_in l.s).nodes)))
+    (l.n ≡ (plan_in l.s).n) × (first_at l.t (pending (plan_in l.s) (state_in l.s))
+    ≡ first_at l.t (timer_entries (plan_in l.s) (state_in l.s).done l.x (drop l.x (state_in l.s).nodes)))
 
 abbrev pub decreases-loop-x : goal.decreases-loop-x
 decreases-loop-x l = l.n - l.x

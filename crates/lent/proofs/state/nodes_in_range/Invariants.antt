@@ -9,7 +9,8 @@ use Rattle.lent.proofs.state.nodes_in_range.Given as goal
 abbrev pub invariant-loop-x : goal.invariant-loop-x
 invariant-loop-x l =
     (l.n ≡ (plan_in l.s).n) × (l.x ≤ l.n)
-    × (nodes_test (plan_in l.s) (state_in l.s).done l.t 0 (state_in l.s).nodes ≡ nodes_test (plan_in l.s) (state_in l.s).done l.t l.x (drop l.x (state_in l.s).nodes))
+    × (nodes_test (plan_in l.s) (state_in l.s).done l.t 0 (state_in l.s).nodes
+    ≡ nodes_test (plan_in l.s) (state_in l.s).done l.t l.x (drop l.x (state_in l.s).nodes))
 
 abbrev pub decreases-loop-x : goal.decreases-loop-x
 decreases-loop-x l = l.n - l.x

@@ -27,13 +27,15 @@ pub returns-in-Ended : goal.returns-in-Ended
 returns-in-Ended c =
     let l = c.loop-rest in
     let d = c.do_event.ensures in
-    let r = run-ended _ _ l.rest l.store l.invariant (omega (arith, c.loop-rest-test.true)) (sym c.in-Ended.is ∙ d.0) d.1 in record { value = r.0; store_after = r.1 }
+    let r = run-ended _ _ l.rest l.store l.invariant (omega (arith, c.loop-rest-test.true)) (sym c.in-Ended.is ∙ d.0) d.1 in
+    record { value = r.0; store_after = r.1 }
 
 pub returns-in-Refused : goal.returns-in-Refused
 returns-in-Refused c =
     let l = c.loop-rest in
     let d = c.do_event.ensures in
-    let r = run-refused _ _ l.rest l.store l.invariant (omega (arith, c.loop-rest-test.true)) (sym c.in-Refused.is ∙ d.0) d.1 in record { value = r.0; store_after = r.1 }
+    let r = run-refused _ _ l.rest l.store l.invariant (omega (arith, c.loop-rest-test.true)) (sym c.in-Refused.is ∙ d.0) d.1 in
+    record { value = r.0; store_after = r.1 }
 
 pub next_event-requires : goal.next_event-requires
 next_event-requires c = c.loop-rest.invariant.ready

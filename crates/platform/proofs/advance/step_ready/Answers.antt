@@ -36,4 +36,5 @@ returns-in-Ended c =
 
 pub returns-in-Refused : goal.returns-in-Refused
 returns-in-Refused c =
-    let r = step-refused _ _ c.requires.ready c.do_event.ensures.1 (sym c.in-Refused.is ∙ c.do_event.ensures.0) in record { value = r.0; store_after = r.1.0; log_after = r.1.1 }
+    let r = step-refused _ _ c.requires.ready c.do_event.ensures.1 (sym c.in-Refused.is ∙ c.do_event.ensures.0) in
+    record { value = r.0; store_after = r.1.0; log_after = r.1.1 }

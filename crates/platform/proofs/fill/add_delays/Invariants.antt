@@ -10,7 +10,8 @@ use Rattle.platform.proofs.fill.add_delays.Given as goal
 
 abbrev pub invariant-loop-i : goal.invariant-loop-i
 invariant-loop-i l =
-    (l.at ≡ delay_place (plan_of l.file) l.i) × (l.i ≤ l.count) × (l.s ≡ filled (plan_of l.file) (length (plan_of l.file).crashes) l.i) × (length l.s ≡ store_size)
+    (l.at ≡ delay_place (plan_of l.file) l.i) × (l.i ≤ l.count) × (l.s ≡ filled (plan_of l.file) (length (plan_of l.file).crashes) l.i)
+    × (length l.s ≡ store_size)
 
 abbrev pub decreases-loop-i : goal.decreases-loop-i
 decreases-loop-i l = l.count - l.i

@@ -10,7 +10,8 @@ pub put_ring_letter-numbers-requires : goal.put_ring_letter-numbers-requires
 put_ring_letter-numbers-requires c = search (letter-room, rules)
 
 pub put_numbers-end-requires : goal.put_numbers-end-requires
-put_numbers-end-requires c = let letter = c.put_ring_letter-numbers in record { held = search rules; store_in_bounds = search (numbers-room, letter.auto.out, rules) }
+put_numbers-end-requires c =
+    let letter = c.put_ring_letter-numbers in record { held = search rules; store_in_bounds = search (numbers-room, letter.auto.out, rules) }
 
 pub put_ring_end-requires : goal.put_ring_end-requires
 put_ring_end-requires c = search (end-room, rules)
