@@ -122,6 +122,7 @@ pub extern "C" fn kelbraut_step(
 
 // Gives `turns` turns of `each` events to the stores of a part. Answers the number of the refusal, 0 where there is none. Puts the turns given,
 // the events of each of eight stores, and which stores are stopped, bit i for store i.
+#[tactic(auto, unfolding(crate::specs::Answers::dispatch_turns, crate::specs::Answers::dispatch_events, crate::specs::Answers::dispatch_stopped))]
 #[unsafe(no_mangle)]
 pub extern "C" fn kelbraut_dispatch(
     stores: &mut [u8],

@@ -6,7 +6,7 @@ use native.Mathlib.Numerals.{add-one}
 use native.Mathlib.Omega.{arith}
 use lib.ListN.{length, take, drop, get_or, length-append, take-append-drop}
 use lib.Seq.{take-suc, take_all}
-use Rattle.text.specs.Put.{Put}
+use Rattle.text.specs.Put.{put, Put}
 use Rattle.text.proofs.PutLaws.{put_then, put-text, put-none}
 use Rattle.plans.specs.Plan.{Plan, start_plan}
 use Rattle.text.specs.Field.{field, line_feed}
@@ -169,3 +169,10 @@ module _ (p : Plan) (l : List ℕ) (room : length (plan_text p) ≤ length l) wh
       all-written last =
           let first : 0 + length (head_text p) ≤ length l = omega (arith, head-room) in
           put_then first put (put_then crashes-room then last)
+
+-- without a Q line nothing is put
+pub none_long : (ks : List ℕ) → length ks ≡ 0 → length (ring_text ks) ≡ 0
+none_long ks e = ap length (ring-none ks e)
+
+pub none_put : (ks l : List ℕ) (at : ℕ) → length ks ≡ 0 → put l at (ring_text ks) ≡ l
+none_put ks l at e = rw (ring-none ks e) (sym (put-none l at).bytes)

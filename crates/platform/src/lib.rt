@@ -64,6 +64,7 @@ pub fn open_store(file: &[u8], store: &mut [u8]) -> Opened
 }
 
 // Does the next event of a store and writes its lines at the start of a log part, or the last line where none is left.
+#[tactic(auto, unfolding(crate::specs::Calls::step))]
 pub fn step(store: &mut [u8], log: &mut [u8]) -> Stepped
     ensures value { result ≡ (step store.old log.old).answer }
     ensures store_after { store.new ≡ (step store.old log.old).store }

@@ -26,6 +26,7 @@ fn put_numbers(store: &[u8], out: &mut [u8], first: usize) -> usize
 }
 
 // The Q line, where there is one, from the place first on. Answers the place after it.
+#[tactic(auto, using(crate::proofs::Writing::none_long, crate::proofs::Writing::none_put))]
 fn put_ring(store: &[u8], out: &mut [u8], first: usize) -> usize
     requires held { Held store.now }
     requires store_in_bounds { first + length (ring_text (plan_in store.now).ring) ≤ length out.old }

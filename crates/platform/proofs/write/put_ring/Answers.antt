@@ -1,10 +1,7 @@
 -- `platform::write::put_ring` meets its contract. Assumes nothing.
-use Rattle.platform.proofs.Writing.{line-none, letter-room, numbers-room, end-room, line-written}
+use Rattle.platform.proofs.Writing.{letter-room, numbers-room, end-room, line-written}
 use borrow.Author.Rules.{rules}
 use Rattle.platform.proofs.write.put_ring.Goals as goal
-
-pub returns-then-ring_size-eq0 : goal.returns-then-ring_size-eq0
-returns-then-ring_size-eq0 c = search (line-none, rules)
 
 pub put_ring_letter-numbers-requires : goal.put_ring_letter-numbers-requires
 put_ring_letter-numbers-requires c = search (letter-room, rules)
