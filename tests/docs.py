@@ -30,9 +30,9 @@ sys.dont_write_bytecode = True
 sys.path.insert(0, "tools")
 from figures import FIGURES, TIMES, counted, crates, read, table  # the tables of docs/FIGURES.md
 
-# Designs of later changes name what is not there yet: of these only paths are checked.
-DESIGNS = glob.glob("docs/changes/*.md")
-DOCUMENTS = sorted(["README.md", "CONTRIBUTING.md", "docs/src/README.md", *glob.glob("docs/*.md"), *DESIGNS])
+# Designs of later changes name what is not there yet, and the page on the port what is gone: of these only paths are checked.
+DESIGNS = [*glob.glob("docs/changes/*.md"), "docs/PORT.md"]
+DOCUMENTS = sorted({"README.md", "CONTRIBUTING.md", "docs/src/README.md", *glob.glob("docs/*.md"), *DESIGNS})
 COMMANDS = set("rt sh gcc rustc python3 git grep".split())
 # Words of the kit's languages that documents use as such.
 LANGUAGE = set("requires ensures pub mod unfoldable search rules omega arith".split())
@@ -372,7 +372,7 @@ WRONG = [
     ("README.md", "`crates/NAME/nothing/`", "crates/NAME/nothing/"),
     ("docs/THEOREMS.md", "`crates/ring/specs/Ring.antt`, `Node.antt`", "Node.antt"),
     ("docs/THEOREMS.md", "by `no-such-law`", "no-such-law"),
-    ("docs/THEOREMS.md", "by `noSuch (fieldAt s)`", "noSuch"),
+    ("docs/THEOREMS.md", "by `noSuch (field_at s)`", "noSuch"),
     ("docs/THEOREMS.md", "by `r ≡ bytes (noSuch ..)`", "noSuch"),
     ("docs/THEOREMS.md", "`value` in `crates/ring/specs/Ring.antt`", "value"),
     ("docs/THEOREMS.md", "`crates/ring/specs/Ring.antt`: `value`", "value"),

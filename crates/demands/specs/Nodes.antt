@@ -121,7 +121,7 @@ pub record Follows (p : Plan) (x : ℕ) (bytes : List ℕ) (parts : ℕ → List
 
 -- A record that holds x's fields with an earlier last tick may be out of range, since a watch is due by 2 × W after the last tick: with
 -- `P,2,1,2,1,20`, after eight events, node 0's watch is due at tick 5, and a record of it with last tick 0 gets 10
--- (proofs/Worked.antt). So `event` asks for a record in range, and `inRange` says which last ticks give one; `run` has no such condition.
+-- (proofs/Worked.antt). So `event` asks for a record in range, and `in_range` says which last ticks give one; `run` has no such condition.
 pub record SameAsNodes (p : Plan) : Type 0 where
   -- opening: any 64 lent bytes become the record that holds x's fields at opening
   pub opened : (x : ℕ) → x < p.n → (bytes : List ℕ) → length bytes ≡ record_size
