@@ -104,7 +104,8 @@ module _ (b q : List ℕ) (c : Progress) (whole : List ℕ) (k : Underway b q c 
   unfolding apply
   nodes j = ap (λ (s : State). node_of s j) state
 
-  live : (j : ℕ) → alive (plan_in (store_left whole)) (state_in (store_left whole)).done j ≡ true → alive (plan_in whole) (state_in whole).done j ≡ true
+  live : (j : ℕ) → alive (plan_in (store_left whole)) (state_in (store_left whole)).done j ≡ true
+      → alive (plan_in whole) (state_in whole).done j ≡ true
   live j v =
       still-live (plan_in whole) (ready-plain whole k.ready) (state_in whole).done more j
       (ap₂ (λ (p : Plan) (d : ℕ). alive p d j) (sym held.0) (sym done) ∙ v)

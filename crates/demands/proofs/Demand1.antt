@@ -168,7 +168,8 @@ pub file-length : (file : List ℕ) → (leb 1 (length file) && leb (length file
 unfolding file_of between
 file-length file e = rw e refl
 
-pub open-down : (file store : List ℕ) → TurnsDown (open_refusal (open_file file store).answer) (open_places file store) ((open_file file store).store ≡ store)
+pub open-down : (file store : List ℕ)
+    → TurnsDown (open_refusal (open_file file store).answer) (open_places file store) ((open_file file store).store ≡ store)
 unfolding open_file file_answer open_plan open_places open_refusal file_number first_broken
 open-down file store = go (file_of file) refl
   where
@@ -242,7 +243,8 @@ pub run-bad-store : (store : List ℕ) (budget : ℕ) → store_in_range store �
 unfolding run
 run-bad-store store budget e = rw e
 
-pub write-down : (store out : List ℕ) → TurnsDown (write_refusal (write_file store out).answer) (write_places store out) ((write_file store out).out ≡ out)
+pub write-down : (store out : List ℕ)
+    → TurnsDown (write_refusal (write_file store out).answer) (write_places store out) ((write_file store out).out ≡ out)
 unfolding write_file write_places first_broken write_refusal
 write-down store out = go (store_in_range store) (ltb (length out) 65536)
   where
@@ -278,7 +280,8 @@ dispatch-down part turn_length turns =
 
 -- ---- for files, the line; for C, the numbers behind pointers
 
-pub open-line : (file store : List ℕ) (number line : ℕ) → file_of file ≡ turned_down number line → (open_file file store).answer ≡ Unopened number line
+pub open-line : (file store : List ℕ) (number line : ℕ) → file_of file ≡ turned_down number line
+    → (open_file file store).answer ≡ Unopened number line
 unfolding open_file file_answer
 open-line file store number line e = rw e refl
 

@@ -1,7 +1,8 @@
 -- THE THREE DEMANDS of the customer's terms, and what request 104 of document 02 claims, each as a record of what holds of the calls' definitions,
 -- which the calls' contracts promise for every input; what requests 106, 107 and 109 claim are parts of these. proofs/Theorems.antt proves them.
 -- Assumes nothing.
-use Rattle.std.specs.Prelude.{◌≡◌, ◌≢◌, ◌⊎◌, Bool, true, false, cond, not, ◌&&◌, ℕ, ◌+◌, ◌/◌, ◌%◌, ◌^◌, ◌≤◌, ◌<◌, eqb, leb, ltb, length, get_or, take}
+use Rattle.std.specs.Prelude.{◌≡◌, ◌≢◌, ◌⊎◌, Bool, true, false, cond, not, ◌&&◌, ℕ, ◌+◌}
+use Rattle.std.specs.Prelude.{◌/◌, ◌%◌, ◌^◌, ◌≤◌, ◌<◌, eqb, leb, ltb, length, get_or, take}
 use mathlib.Core.List.{List, [], ◌∷◌, Memᴰ}
 use Rattle.std.proofs.Math.Option.{Option, none, some}
 use Rattle.limits.specs.Limits.{most_nodes, most_in_flight, log_room, record_size, store_size, file_room}
@@ -180,7 +181,8 @@ pub record Demand1 : Type 0 where
       → Memᴰ number (2 ∷ 3 ∷ 5 ∷ 6 ∷ 13 ∷ []) × (1 ≤ line) × (line ≤ 65536)
   pub file_only : (file : List ℕ) (p : Plan) → file_of file ≡ accepted p → (plan_text p ≡ file) × (plan_test p ≡ true)
   -- the platform's calls
-  pub opening : (file store : List ℕ) → TurnsDown (open_refusal (open_file file store).answer) (open_places file store) ((open_file file store).store ≡ store)
+  pub opening : (file store : List ℕ)
+      → TurnsDown (open_refusal (open_file file store).answer) (open_places file store) ((open_file file store).store ≡ store)
   pub stepping : (store log : List ℕ)
       → TurnsDown (step_refusal (step store log).answer) (step_places store log) (((step store log).store ≡ store) × ((step store log).log ≡ log))
   pub running : (store : List ℕ) (budget : ℕ) → TurnsDown (run_refusal (run store budget).answer) (run_places store budget) (KeepsEarlier store budget)

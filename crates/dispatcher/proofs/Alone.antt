@@ -176,7 +176,8 @@ module _ (l : ℕ) (more : 0 < l) (b : List ℕ) (r : Ready b) (i : ℕ) where
   after-turns (j ∷ is) xs k h e = go (ℕ_discrete j i) (λ k. after-turns is (turn_of l j xs) k (rw turn-length h))
     where
       go : Dec (j ≡ i)
-          → ((k : ℕ) → standing_at (turn_of l j xs) i ≡ alone b k → standing_at (after_turns l is (turn_of l j xs)) i ≡ alone b (k + turns_at i is * l))
+          → ((k : ℕ) → standing_at (turn_of l j xs) i ≡ alone b k
+          → standing_at (after_turns l is (turn_of l j xs)) i ≡ alone b (k + turns_at i is * l))
           → standing_at (after_turns l is (turn_of l j xs)) i ≡ alone b (k + (cond (eqb j i) 1 0 + turns_at i is) * l)
       go (yes same) later = rw (eq-eqb j i same) (later (k + l) own ∙ ap (alone b) sum)
         where

@@ -104,7 +104,8 @@ module _ (before b after : List ℕ) (sized : length b ≡ store_size) (whole : 
             ap (λ (k : ℕ). take store_size (drop k after_call.part)) start
             ∙ sym (piece-at store_size (length after_call.part / store_size) at after_call.part left-inside)
 
-        run-there : take store_size (drop (length before) after_call.part) ≡ store_after (a_run (turns_at at (turns_of part turn_length turns) * turn_length)) b
+        run-there : take store_size (drop (length before) after_call.part)
+            ≡ store_after (a_run (turns_at at (turns_of part turn_length turns) * turn_length)) b
         unfolding store_after
         run-there =
             is-there ∙ store-so part turn_length turns all a at (rw count inside)

@@ -91,7 +91,8 @@ module _ (marks : List Bool) (n at : ℕ) (h : at ≤ n) where
   round-first : first_marked marks (round (numbers 0 n) at) ≡ or_else (from marks at n) (from marks 0 at)
   round-first = rw (round-numbers n at h) (first-append marks (numbers at (n - at)) (numbers 0 (at - 0)))
 
-  pub found-later : {r : Index} {i : ℕ} → r ≡ index_of (from marks at n) → r ≡ At i → At i ≡ index_of (first_marked marks (round (numbers 0 n) at))
+  pub found-later : {r : Index} {i : ℕ} → r ≡ index_of (from marks at n) → r ≡ At i
+      → At i ≡ index_of (first_marked marks (round (numbers 0 n) at))
   unfolding index_of
   found-later e f =
       let here = index-some (from marks at n) (sym f ∙ e) in

@@ -116,7 +116,8 @@ piece_bytes part i byte j = go (dec_lt j store_size)
     go (no k) = rw (get_or-eq_default (piece part i) 0 {n = j} (rw length-take (omega arith))) (omega arith)
 
 -- where each is of bytes, or known to be ready
-pub all-ready : (n : ℕ) (part : List ℕ) → Whole n part → ((i : ℕ) → Ready (piece part i) ⊎ OfBytes part i) → all_in_range (stores_in part) ≡ true
+pub all-ready : (n : ℕ) (part : List ℕ) → Whole n part → ((i : ℕ) → Ready (piece part i) ⊎ OfBytes part i)
+    → all_in_range (stores_in part) ≡ true
     → AllReady (stores_in part)
 all-ready n part w each e i h =
     let inside : i < n = rw (stores-count n part w) at h in

@@ -1,5 +1,6 @@
 -- What request 104 claims of every accepted call of the dispatcher. proofs/Theorems.antt proves it. Assumes nothing.
-use Rattle.std.specs.Prelude.{◌≡◌, true, false, cond, List, [], ◌∷◌, ◌++◌, ◌⊎◌, ℕ, suc, ◌+◌, ◌*◌, ◌≤◌, ◌<◌, eqb, length, get_or}
+use Rattle.std.specs.Prelude.{◌≡◌, true, false, cond, List, [], ◌∷◌, ◌++◌, ◌⊎◌}
+use Rattle.std.specs.Prelude.{ℕ, suc, ◌+◌, ◌*◌, ◌≤◌, ◌<◌, eqb, length, get_or}
 use Rattle.limits.specs.Refusals.{too_many}
 use Rattle.ring.specs.Ring.{listed}
 use Rattle.platform.specs.Calls.{AfterRun, run, run_refusal, events_done}

@@ -1,7 +1,8 @@
 -- Any list of calls on stores that stand one after another: steps and runs on one of them, and the dispatcher's calls over some of them in a row.
 -- What they leave of each store, and the steps and runs on that store alone that leave the same. Then the same of one store, where something else
 -- may stand around it at each call of the dispatcher. Assumes nothing.
-use Rattle.std.specs.Prelude.{◌≡◌, ◌≢◌, cond, ◌&&◌, List, [], ◌∷◌, ◌++◌, ℕ, ◌+◌, ◌*◌, ◌-◌, ◌/◌, ◌%◌, ◌<◌, eqb, leb, ltb, length, get_or, take, drop, set}
+use Rattle.std.specs.Prelude.{◌≡◌, ◌≢◌, cond, ◌&&◌, List, [], ◌∷◌, ◌++◌, ℕ, ◌+◌, ◌*◌}
+use Rattle.std.specs.Prelude.{◌-◌, ◌/◌, ◌%◌, ◌<◌, eqb, leb, ltb, length, get_or, take, drop, set}
 use Rattle.limits.specs.Limits.{store_size}
 use Rattle.limits.specs.Refusals.{accepted}
 use Rattle.platform.specs.CallLists.{Call, a_run, store_after, refusal}

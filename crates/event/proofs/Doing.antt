@@ -321,7 +321,8 @@ module _ (b : List ℕ) (r : Ready b) (t i : ℕ) (next : NextIs b t (message i)
       unfolding apply
       message-by = refl
 
-      pub message-refused : most_in_flight < length (state_in b).flight - 1 + u.count → (◌≡◌ {A = Happened} Refused (next_answer b)) × (b ≡ store_left b)
+      pub message-refused : most_in_flight < length (state_in b).flight - 1 + u.count
+          → (◌≡◌ {A = Happened} Refused (next_answer b)) × (b ≡ store_left b)
       message-refused h =
           refused-answer (plan_in b) (state_in b) b r.held.canonical
           (turn-refused (plan_in b) (state_in b) t (message i) next M.to (without i (state_in b).flight) u _ is message-by

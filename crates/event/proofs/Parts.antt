@@ -27,7 +27,8 @@ use Rattle.event.proofs.Searching.{dead-of, live_of}
 -- ---- the ring's order, as lent by the store
 
 -- it has one node at least, and 64 at most
-pub order-sized : (b : List ℕ) → Acting b → {order : List ℕ} → order ≡ order_of (plan_in b) → (1 ≤ length order) × (length order ≤ most_nodes)
+pub order-sized : (b : List ℕ) → Acting b → {order : List ℕ} → order ≡ order_of (plan_in b)
+    → (1 ≤ length order) × (length order ≤ most_nodes)
 order-sized b a {order} e =
     let pl : Plain (plan_in b) = acting-plain b a in
     let size : length order ≡ (plan_in b).n = ap length e ∙ pl.order.size in
@@ -45,7 +46,8 @@ module _ (b : List ℕ) (h : Held b) (t : ℕ) (l : t ≤ most_tick) (c : List �
   pub ticked-plan : plan_in c ≡ plan_in b
   ticked-plan = ap plan_in e ∙ plan-encode (plan_in b) (with_tick (state_in b) t) ticked
 
-  pub ticked-then : (f : State → State) (b' : List ℕ) → b' ≡ encode (plan_in c) (f (state_in c)) → b' ≡ encode (plan_in b) (f (with_tick (state_in b) t))
+  pub ticked-then : (f : State → State) (b' : List ℕ) → b' ≡ encode (plan_in c) (f (state_in c))
+      → b' ≡ encode (plan_in b) (f (with_tick (state_in b) t))
   ticked-then f b' q =
       q ∙ ap₂ (λ (p : Plan) (s : State). encode p (f s)) ticked-plan (ap state_in e ∙ state-encode (plan_in b) (with_tick (state_in b) t) ticked)
 

@@ -1,5 +1,6 @@
 -- Numbers as bytes, the lowest first, at any width, and parts of a list that are zero. Assumes nothing.
-use Rattle.std.specs.Prelude.{Bool, true, ◌&&◌, List, [], ◌∷◌, ◌++◌, ℕ, zero, suc, ◌+◌, ◌-◌, ◌*◌, ◌/◌, ◌%◌, eqb, take, drop, replicate}
+use Rattle.std.specs.Prelude.{Bool, true, ◌&&◌, List, [], ◌∷◌, ◌++◌, ℕ, zero}
+use Rattle.std.specs.Prelude.{suc, ◌+◌, ◌-◌, ◌*◌, ◌/◌, ◌%◌, eqb, take, drop, replicate}
 use Rattle.std.proofs.lemmas.List.Edits.{sets}
 
 -- the number that bytes stand for

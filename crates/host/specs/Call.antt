@@ -1,6 +1,7 @@
 -- The three calls of a host in C, as document 01 states them, with the list that document 02, #107, lets a message carry: what each
 -- answers, and what it leaves in the record and in the message part. The ring of a record is in number order. Assumes nothing.
-use Rattle.std.specs.Prelude.{Bool, true, cond, not, ◌&&◌, ◌||◌, List, [], ◌∷◌, ◌++◌, ℕ, ◌-◌, ◌*◌, ◌^◌, eqb, leb, ltb, length, drop, replicate}
+use Rattle.std.specs.Prelude.{Bool, true, cond, not, ◌&&◌, ◌||◌, List, [], ◌∷◌, ◌++◌}
+use Rattle.std.specs.Prelude.{ℕ, ◌-◌, ◌*◌, ◌^◌, eqb, leb, ltb, length, drop, replicate}
 use Rattle.fields.specs.Fields.{bytes}
 use Rattle.limits.specs.Limits.{most_tick, record_size, message_size, part_size}
 use Rattle.limits.specs.Refusals.{accepted, out_of_range, short_part, bad_record, bad_message, bad_tick}

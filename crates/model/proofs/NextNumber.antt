@@ -76,7 +76,8 @@ due-without t i [] h e = absurd (omega arith)
 due-without t zero (m ∷ ms) h e = rw (eq-eqb m.due t e) (omega arith)
 due-without t (suc i) (m ∷ ms) h e = omega (arith, due-without t i ms (omega arith) e)
 
-timers-set : (t x : ℕ) (ns : List Node) (n z : Node) → x < length ns → timers_at t (set ns x n) + ring_at t (get_or ns x z) ≡ timers_at t ns + ring_at t n
+timers-set : (t x : ℕ) (ns : List Node) (n z : Node) → x < length ns
+    → timers_at t (set ns x n) + ring_at t (get_or ns x z) ≡ timers_at t ns + ring_at t n
 unfolding timers_at
 timers-set t x [] n z h = absurd (omega arith)
 timers-set t zero (m ∷ ns) n z h = omega arith

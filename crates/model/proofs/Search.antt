@@ -98,7 +98,8 @@ module _ (p : Plan) (pl : Plain p) (s : State) where
       go : Memᴰ e (crash_entries (rows_left p s)) ⊎ Memᴰ e (deliveries s ++ timers_of p s) → u ≤ e.tick
       go (inr m) = two (Memᴰ.append_cases (deliveries s) m)
       go (inl m) =
-          let w : (i : ℕ) × (i < length (rows_left p s)) × (e.tick ≡ (get_or (rows_left p s) i no_crash).tick) = crashes-in (rows_left p s) no_crash e m in
+          let w : (i : ℕ) × (i < length (rows_left p s))
+          × (e.tick ≡ (get_or (rows_left p s) i no_crash).tick) = crashes-in (rows_left p s) no_crash e m in
           let q : e.tick ≡ (row_at p (s.done + w.0)).tick = w.2 ∙ ap (λ (r : Crash). r.tick) (get_or-drop s.done p.crashes w.0 no_crash) in
           rw q (nb.crash (s.done + w.0) (omega arith) (omega (arith, w.1, length-drop s.done p.crashes)))
 

@@ -1,6 +1,7 @@
 -- The platform, as document 01's section of that name states it: the state, opening, what is pending, the next event, what an
 -- event does, the first events of a file, and the events of a list of calls. The nodes do what crate `node` defines. Assumes nothing.
-use Rattle.std.specs.Prelude.{Bool, cond, not, List, [], ◌∷◌, ◌++◌, map, reverse, ℕ, zero, suc, ◌+◌, eqb, leb, ltb, length, get_or, take, drop, set}
+use Rattle.std.specs.Prelude.{Bool, cond, not, List, [], ◌∷◌, ◌++◌, map, reverse, ℕ}
+use Rattle.std.specs.Prelude.{zero, suc, ◌+◌, eqb, leb, ltb, length, get_or, take, drop, set}
 use Rattle.std.proofs.Math.Option.{Option, none, some}
 use Rattle.ring.specs.Ring.{keep, numbers, round, place, none as nobody}
 use Rattle.node.specs.declared.Node.{Node}

@@ -1,7 +1,8 @@
 -- What a node may hold: the ranges of a node's fields, in a store and in a record. First as facts with names, then as computed tests.
 -- n is the number of nodes, h and w are H and W, and t is the last tick: a store's last event's, or that of a record's last accepted call.
 -- Assumes nothing.
-use Rattle.std.specs.Prelude.{◌≡◌, ◌≢◌, ◌⊎◌, Bool, true, false, not, ◌&&◌, ◌||◌, ℕ, ◌+◌, ◌*◌, ◌^◌, ◌≤◌, ◌<◌, eqb, leb, ltb}
+use Rattle.std.specs.Prelude.{◌≡◌, ◌≢◌, ◌⊎◌, Bool, true, false, not, ◌&&◌, ◌||◌}
+use Rattle.std.specs.Prelude.{ℕ, ◌+◌, ◌*◌, ◌^◌, ◌≤◌, ◌<◌, eqb, leb, ltb}
 use Rattle.ring.specs.Ring.{listed, part_of}
 use Rattle.node.specs.declared.Node.{Node}
 use Rattle.node.specs.Node.{off, due, H, O, R}

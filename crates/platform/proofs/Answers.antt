@@ -57,7 +57,8 @@ module _ (b out : List ℕ) where
   unfolding write_file
   write-bad bad = rw bad (refl, refl)
 
-  pub write-short : store_in_range b ≡ true → length out < file_room → (Unwritten short_part ≡ (write_file b out).answer) × (out ≡ (write_file b out).out)
+  pub write-short : store_in_range b ≡ true → length out < file_room
+      → (Unwritten short_part ≡ (write_file b out).answer) × (out ≡ (write_file b out).out)
   unfolding write_file
   write-short ok short = rw (ok, lt-ltb (length out) file_room short) (refl, refl)
 

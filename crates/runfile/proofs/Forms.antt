@@ -55,7 +55,8 @@ module _ (n : ℕ) (l : List ℕ) where
 
 -- ---- two numbers
 
-pub pair-some : (row : ℕ → ℕ → Row) (l : List ℕ) (a i : ℕ) → number_field_at l 1 ≡ Value a i → (b j : ℕ) → number_field_at l i ≡ Value b j
+pub pair-some : (row : ℕ → ℕ → Row) (l : List ℕ) (a i : ℕ) → number_field_at l 1 ≡ Value a i → (b j : ℕ)
+    → number_field_at l i ≡ Value b j
     → ends l j ≡ true → pair_of row l ≡ some (row a b)
 unfolding pair_of field_then
 pair-some row l a i f b j g e = rw (f, g, e)

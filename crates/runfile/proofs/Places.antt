@@ -38,7 +38,8 @@ number-within : (i : ℕ) (s : List ℕ) (v j : ℕ) → number_from i s ≡ Val
 number-within i [] v j e = let z : ◌≡◌ {A = ℕ} 0 1 = cc in absurd (omega arith)
 number-within i (b ∷ s) v j e = by (eqb b 48) (digit b) e
   where
-    by : (x y : Bool) → cond x (Value 0 (i + 1)) (cond y (cond y (digits_from (0 * 10 + (b - 48)) (i + 1) s) (Value (min 0 ceiling) i)) NoNumber) ≡ Value v j
+    by : (x y : Bool)
+        → cond x (Value 0 (i + 1)) (cond y (cond y (digits_from (0 * 10 + (b - 48)) (i + 1) s) (Value (min 0 ceiling) i)) NoNumber) ≡ Value v j
         → j ≤ i + suc (length s)
     by true y e = let q : i + 1 ≡ j = cc in omega arith
     by false true e = omega (arith, digits-within (0 * 10 + (b - 48)) (i + 1) s v j e)

@@ -89,7 +89,8 @@ module _ (s : List ℕ) (rows : ℕ) (st : Sofar) (line at : ℕ) (p : Passed s 
 
     pub passed-stop : (k : ℕ) → Stop k ≡ line_answer step → Refused k line ≡ read_of (all_lines (lines s))
     unfolding step_then read_of
-    passed-stop k a = sym (ap read_of (file-step ∙ ap (λ (x : Step). step_then x line (λ q. later_lines q (line + 1) (lines (drop e s)))) (stop-inv step k a)))
+    passed-stop k a =
+        sym (ap read_of (file-step ∙ ap (λ (x : Step). step_then x line (λ q. later_lines q (line + 1) (lines (drop e s)))) (stop-inv step k a)))
 
     -- one line more was passed
     pub passed-next : (new : Sofar) → Next new ≡ line_answer step → Passed s rows new (line + 1) e

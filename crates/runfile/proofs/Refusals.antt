@@ -116,7 +116,8 @@ all-by-line : (ls : List (List ℕ)) → length ls ≤ 65536 → ByLine (all_lin
 unfolding all_lines ByLine
 all-by-line [] h = (bad-form, omega arith, omega arith)
 all-by-line (l ∷ ls) h =
-    then-by-line (first_line (row_of 0 l)) 1 _ (first-numbered (row_of 0 l)) (omega arith) (omega arith) (λ p. later-by-line p 2 ls (omega arith) (omega arith))
+    then-by-line (first_line (row_of 0 l)) 1 _ (first-numbered (row_of 0 l)) (omega arith) (omega arith)
+    (λ p. later-by-line p 2 ls (omega arith) (omega arith))
 
 -- ---- a refused file
 

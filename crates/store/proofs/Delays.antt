@@ -101,7 +101,8 @@ module _ (rows : List Delay) (x : ℕ) where
       let e : high ≡ low = omega arith in
       record { inside = omega arith; before = b.before; from = λ i k l. b.from i (omega arith) l }
 
-  module _ (up : Rising rows) (low high m here : ℕ) (b : Between rows x low high) (m≥ : low ≤ m) (m< : m < high) (got : here ≡ delay_number rows m) where
+  module _ (up : Rising rows) (low high m here : ℕ) (b : Between rows x low high)
+      (m≥ : low ≤ m) (m< : m < high) (got : here ≡ delay_number rows m) where
     pub search-up : here < x → Between rows x (m + 1) high
     search-up h =
         record {

@@ -12,7 +12,8 @@ use Rattle.store.specs.Gap.{moved_down}
 pub gap-room : (w i n : ℕ) → i < n → w * i + w ≤ w * n
 gap-room w i n h = rw (← mul-suc w i) (mul-le-mul_left w h)
 
-pub move-turn : (s : List ℕ) (i by e : ℕ) → i + by < e → e ≤ length s → moved_down s i by e ≡ moved_down (set s i (get_or s (i + by) 0)) (i + 1) by e
+pub move-turn : (s : List ℕ) (i by e : ℕ) → i + by < e → e ≤ length s
+    → moved_down s i by e ≡ moved_down (set s i (get_or s (i + by) 0)) (i + 1) by e
 unfolding moved_down
 move-turn s i by e h l =
     let f : i + 1 ≡ suc i = omega arith in

@@ -38,7 +38,8 @@ byte-read : (b : List ℕ) (at : ℕ) → at < length b → field_at b at 1 ≡ 
 byte-read b at h = field-more b at 0 h ∙ rw (field-none b (suc at)) (omega arith)
 
 -- rows that agree with a list at each place are the list
-pub made-rows : {A : Type 0} (f : ℕ → A) (l : List A) (d : A) → ((i : ℕ) → i < length l → f i ≡ get_or l i d) → map f (numbers 0 (length l)) ≡ l
+pub made-rows : {A : Type 0} (f : ℕ → A) (l : List A) (d : A) → ((i : ℕ) → i < length l → f i ≡ get_or l i d)
+    → map f (numbers 0 (length l)) ≡ l
 unfolding numbers
 made-rows {A} f l d same = go l 0 (λ i h. let e : 0 + i ≡ i = omega arith in ap f e ∙ same i h)
   where

@@ -322,7 +322,8 @@ module _ (b : List ℕ) where
       row_made (crash_row_in b) (number b crash_count) i (record { tick = 0; node = 0 }) k ∙ rw (one-mul i)
 
   pub delay-read : (i : ℕ) → i < length (plan_in b).delays
-      → get_or (plan_in b).delays i (record { number = 0; delay = 0 }) ≡ record { number = cell b delay_numbers i; delay = field_at b (delay_ticks.at + i) 1 }
+      → get_or (plan_in b).delays i (record { number = 0; delay = 0 })
+      ≡ record { number = cell b delay_numbers i; delay = field_at b (delay_ticks.at + i) 1 }
   unfolding plan_in
   delay-read i h =
       let k : i < number b delay_count = omega (arith, delays-counted) in
@@ -369,11 +370,13 @@ module _ (b : List ℕ) where
   unfolding numbers_of cells_at node_parts state_in
   node-cells i h = rw (row_made (node_in b) (number b node_count) i (node_in b 0) (rw (← length-made (node_in b) (number b node_count)) h))
 
-  crash-cells : (i : ℕ) → i < length (plan_in b).crashes → numbers_of crash_parts (get_or (plan_in b).crashes i (crash_row_in b 0)) ≡ cells_at crash_parts b i
+  crash-cells : (i : ℕ) → i < length (plan_in b).crashes
+      → numbers_of crash_parts (get_or (plan_in b).crashes i (crash_row_in b 0)) ≡ cells_at crash_parts b i
   unfolding numbers_of cells_at crash_parts plan_in
   crash-cells i h = rw (row_made (crash_row_in b) (number b crash_count) i (crash_row_in b 0) (rw (← length-made (crash_row_in b) (number b crash_count)) h))
 
-  delay-cells : (i : ℕ) → i < length (plan_in b).delays → numbers_of delay_parts (get_or (plan_in b).delays i (delay_row_in b 0)) ≡ cells_at delay_parts b i
+  delay-cells : (i : ℕ) → i < length (plan_in b).delays
+      → numbers_of delay_parts (get_or (plan_in b).delays i (delay_row_in b 0)) ≡ cells_at delay_parts b i
   unfolding numbers_of cells_at delay_parts plan_in
   delay-cells i h = rw (row_made (delay_row_in b) (number b delay_count) i (delay_row_in b 0) (rw (← length-made (delay_row_in b) (number b delay_count)) h))
 

@@ -1,6 +1,7 @@
 -- Bytes laid out in columns: each field of all records has a column of its own, and its numbers stand there one after another, the
 -- lowest byte first. The places beyond them are zero. Assumes nothing.
-use Rattle.std.specs.Prelude.{Bool, true, ◌&&◌, List, [], ◌∷◌, ◌++◌, map, ℕ, ◌+◌, ◌-◌, ◌*◌, ◌^◌, ◌<◌, eqb, leb, length, replicate}
+use Rattle.std.specs.Prelude.{Bool, true, ◌&&◌, List, [], ◌∷◌, ◌++◌, map, ℕ}
+use Rattle.std.specs.Prelude.{◌+◌, ◌-◌, ◌*◌, ◌^◌, ◌<◌, eqb, leb, length, replicate}
 use Rattle.std.proofs.Math.Seq.{slice}
 use Rattle.fields.specs.Fields.{bytes, field_at, put_at, cleared, zeros}
 use Rattle.store.specs.Gap.{closed}

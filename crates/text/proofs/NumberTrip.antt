@@ -93,7 +93,8 @@ digit-of : (n : ℕ) → n < 10 → digit (48 + n) ≡ true
 unfolding digit
 digit-of n h = rw (le-leb 48 (48 + n) (omega arith), le-leb (48 + n) 57 (omega arith))
 
-spelled_by : (f n : ℕ) → n < f → n < 10 ^ 20 → (i : ℕ) (r : List ℕ) → digits_from 0 i (decimal n ++ r) ≡ digits_from n (i + length (decimal n)) r
+spelled_by : (f n : ℕ) → n < f → n < 10 ^ 20 → (i : ℕ) (r : List ℕ)
+    → digits_from 0 i (decimal n ++ r) ≡ digits_from n (i + length (decimal n)) r
 spelled_by zero n h big i r = absurd (omega arith)
 spelled_by (suc f) n h big i r = elim (dec_lt n 10) [
   | yes p ↦ rw (decimal-small n p, digit-of n p) (ap (λ (k : ℕ). digits_from k (i + 1) r) (omega arith))

@@ -20,7 +20,8 @@ invariant-loop-i l =
     (l.i ≤ l.count)
     × (length l.b ≡ length l.initial.b)
     × (length l.q ≡ length l.initial.q)
-    × ((a : Node) (passed : ℕ) (whole : List ℕ) → Apart l.initial.b l.initial.q l.start l.end whole → Turns whole l.t l.x (turn_of a passed l.sent l.count)
+    × ((a : Node) (passed : ℕ) (whole : List ℕ) → Apart l.initial.b l.initial.q l.start l.end whole
+    → Turns whole l.t l.x (turn_of a passed l.sent l.count)
     → Sent whole l.t l.x (turn_of a passed l.sent l.count) l.start l.end l.i l.b l.q)
 
 abbrev pub decreases-loop-i : goal.decreases-loop-i

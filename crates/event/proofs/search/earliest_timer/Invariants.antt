@@ -9,7 +9,8 @@ use Rattle.event.proofs.search.earliest_timer.Given as goal
 
 abbrev pub invariant-loop-x : goal.invariant-loop-x
 invariant-loop-x l =
-    (l.n ≡ (plan_in l.s).n) × (l.x ≤ l.n) × (least_tick l.t (timer_entries (plan_in l.s) (state_in l.s).done 0 (state_in l.s).nodes) ≡ least_tick l.least
+    (l.n ≡ (plan_in l.s).n) × (l.x ≤ l.n)
+    × (least_tick l.t (timer_entries (plan_in l.s) (state_in l.s).done 0 (state_in l.s).nodes) ≡ least_tick l.least
     (timer_entries (plan_in l.s) (state_in l.s).done l.x (drop l.x (state_in l.s).nodes)))
 
 abbrev pub decreases-loop-x : goal.decreases-loop-x

@@ -9,7 +9,8 @@ use Rattle.lent.proofs.rows.ring_nodes_once.Given as goal
 
 abbrev pub invariant-loop-i : goal.invariant-loop-i
 invariant-loop-i l =
-    (l.n ≡ (plan_in l.s).n) × (l.n ≤ most_nodes) × (l.size ≡ length (plan_in l.s).ring) × (l.i ≤ l.size) × Seen (plan_in l.s) (plan_in l.s).ring l.i l.seen
+    (l.n ≡ (plan_in l.s).n) × (l.n ≤ most_nodes) × (l.size ≡ length (plan_in l.s).ring) × (l.i ≤ l.size)
+    × Seen (plan_in l.s) (plan_in l.s).ring l.i l.seen
 
 abbrev pub decreases-loop-i : goal.decreases-loop-i
 decreases-loop-i l = l.size - l.i

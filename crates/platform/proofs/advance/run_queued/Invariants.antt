@@ -9,7 +9,8 @@ use Rattle.platform.proofs.advance.run_queued.Given as goal
 
 abbrev pub invariant-loop-left : goal.invariant-loop-left
 invariant-loop-left l =
-    (length l.store ≡ length l.initial.store) × (length l.q ≡ length l.initial.q) × ((first : List ℕ) → Underway l.initial.store l.initial.q l.initial.c first
+    (length l.store ≡ length l.initial.store) × (length l.q ≡ length l.initial.q)
+    × ((first : List ℕ) → Underway l.initial.store l.initial.q l.initial.c first
     → RunsOn first l.budget l.left l.store l.q l.c)
 
 abbrev pub decreases-loop-left : goal.decreases-loop-left

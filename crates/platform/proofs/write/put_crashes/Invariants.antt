@@ -9,7 +9,8 @@ use Rattle.platform.proofs.write.put_crashes.Given as goal
 
 abbrev pub invariant-loop-i : goal.invariant-loop-i
 invariant-loop-i l =
-    (l.i ≤ l.count) × Put l.initial.out l.first (rows_text crash_text (take l.i (plan_in l.store).crashes)) l.at l.out × (length l.out ≡ length l.initial.out)
+    (l.i ≤ l.count) × Put l.initial.out l.first (rows_text crash_text (take l.i (plan_in l.store).crashes)) l.at l.out
+    × (length l.out ≡ length l.initial.out)
 
 abbrev pub decreases-loop-i : goal.decreases-loop-i
 decreases-loop-i l = l.count - l.i
