@@ -10,6 +10,7 @@ use lib.Dec.{ltb}
 use Rattle.ring.specs.Ring.{numbers, InOrder}
 use Rattle.ring.proofs.Orders.{numbers-in}
 use Rattle.limits.specs.Limits.{most_tick}
+use Rattle.node.specs.declared.Incoming.{Incoming}
 use Rattle.node.specs.Node.{silent, on_heartbeat_due, on_watch_due, Turn}
 use Rattle.node.proofs.Ranges.{Took, opening-range, silent-took, message-took, beat-took, watch-took}
 use Rattle.host.specs.declared.Record.{Record}
@@ -42,11 +43,11 @@ module _ (r : Record) (f : InRange r) (tick : ℕ) where
   abbrev pub Takes : Turn → Type 0
   Takes u = Took r.nodes r.h r.w r.last tick r.number r.node u
 
-  pub delivered-takes : (kind sender subject list : ℕ) → MessageTaken r kind sender subject list → Takes (delivered r tick kind sender subject list)
+  pub delivered-takes : (m : Incoming) → MessageTaken r m → Takes (delivered r tick m)
   unfolding delivered
-  delivered-takes kind sender subject list m =
+  delivered-takes m t =
       message-took r.nodes order ring r.number f.openable.below f.openable.most r.h r.w r.last tick r.node f.fields f.live
-      kind sender subject list m.known m.from.0 m.from.1 (λ q. (m.about q).0) m.within
+      m t.known t.from.0 t.from.1 t.about t.within
 
   pub fired-takes : Takes (fired r tick)
   unfolding fired
