@@ -1,8 +1,7 @@
 /*
- * Five nodes in one process. A message travels for 1 to 3 ticks, as the 16 bytes that a call wrote; the host hands on
- * every kind alike, and knows of none what it means. Bytes that no node sent are dropped. Node 2 stops at tick 100. The
- * program goes from one tick at which there is something to do to the next, where a host with a clock would sleep. At
- * the end each live node is printed.
+ * Five nodes in one process. A message travels for 1 to 3 ticks, as the 16 bytes that a call wrote. Bytes that no node sent
+ * are dropped. Node 2 stops at tick 100. The program goes from one tick at which there is something to do to the next,
+ * where a host with a clock would sleep. At the end each live node is printed.
  * Build: sh tools/build.sh host && gcc -Iinclude include/host.c target/staticlib/libhost.a -o target/host
  */
 #include <inttypes.h>
@@ -21,12 +20,9 @@
 #define END_TICK 300
 #define MOST_AT_A_TICK 64
 
-/*
- * This program's own choice: a record opens with any W, but with a shorter one live nodes get listed. They may return,
- * by messages A and B, which this host would hand on as well; that all lists become right again is not promised.
- */
+/* This program's own choice: a record opens with any W, but with a shorter one live nodes get listed. */
 #if W < H + D
-#error "live nodes would be listed, and may stay so"
+#error "live nodes would be listed"
 #endif
 
 static uint8_t nodes[NODES][KELBRAUT_RECORD];

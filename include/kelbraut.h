@@ -5,11 +5,10 @@
  *     a rehearsal    a whole ring with planned crashes and delays    link with libplanner.a
  *
  * Up to 64 nodes stand in a ring. Each sends heartbeats to the node after it, its observer, and watches the node before
- * it, its emitter. A node that hears nothing from its emitter for the time-out puts it on its dead list, watches the
- * next node back, and tells the others by reports; one to which its emitter is reported does so at once. A heartbeat
- * carries its sender's list, from which the observer adds to its own. A listed node of which a heartbeat comes is
- * cleared from the list again, and the others are told so: it returns. A node that is rehearsed in a ring in number
- * order does what a node in the field does. Time is counted in ticks.
+ * it, its emitter. A node that hears nothing from its emitter for the time-out puts it on its dead list, watches the next
+ * node back, and tells the others by reports; one to which its emitter is reported does so at once. A heartbeat carries its
+ * sender's list, from which the observer adds to its own. A node that is rehearsed in a ring in number order does what a
+ * node in the field does. Time is counted in ticks.
  *
  * The calls have no state of their own, allocate nothing and always return: all that they know stands in the bytes that
  * the program lends to each call. What a call may write must not overlap with anything else that is lent to it, and no
@@ -44,9 +43,8 @@ extern "C" {
 #define KELBRAUT_SHORT_PART 9     /* message part under 112 bytes, log part under 80, file part under 65,536; also where
                                      less would do */
 #define KELBRAUT_BAD_RECORD 10    /* not 64 bytes, or a field out of range */
-#define KELBRAUT_BAD_MESSAGE 11   /* unknown kind; the sender or a report's subject is no other node of the ring; the
-                                     subject of A or B is no node of it; or the list has a bit from N on, whatever the
-                                     kind */
+#define KELBRAUT_BAD_MESSAGE 11   /* unknown kind, the sender or a report's subject is no other node of the ring, or the list
+                                     has a bit from N on, whatever the kind */
 #define KELBRAUT_BAD_TICK 12      /* before the record's last tick, or above 1,000,000 */
 #define KELBRAUT_BAD_RING 13      /* Q line: not each node once */
 #define KELBRAUT_BAD_PART 14      /* part of stores: empty, or longer than eight of them */
@@ -56,9 +54,6 @@ extern "C" {
 #define KELBRAUT_HEARTBEAT 'H' /* the sender lives, and the nodes of its list are dead; goes to its observer */
 #define KELBRAUT_OBSERVER 'O'  /* the sender is the receiver's new observer */
 #define KELBRAUT_REPORT 'R'    /* the subject is dead; where it is the receiver's emitter, the receiver leaves it */
-#define KELBRAUT_NAMED 'A'     /* the subject is the receiver's new observer: it has returned to the sender, which watched
-                                  the receiver until then */
-#define KELBRAUT_RETURNED 'B'  /* the subject has returned to a node; a receiver that lists it clears it, and tells others */
 
 /*
  * ---- A node ----
@@ -145,53 +140,26 @@ extern "C" {
  *     needs as many more; that is not proved.
  *   - A node stops between two ticks. Nodes that stop in the midst of one, with some of their messages sent, are tested
  *     (tests/readers.c), not proved.
- *   - A node that has stopped is not opened again under its number while the ring runs.
+ *   - No node comes back. A listed node stays listed, and one that has stopped may not be opened again under its number
+ *     while the ring runs.
  *
- * Where all of that holds, no node returns either, and no message is a KELBRAUT_NAMED or a KELBRAUT_RETURNED.
- *
- * A record opens with any `w` of the range, also with one below H + D; live nodes then get listed. A node that is
- * listed though it lives goes on, and returns to each node that lists it and gets a heartbeat of it
- * (kelbraut_node_deliver). A return is a remedy for one list at a time. It is no promise that lists become right again:
- *
- *   - A report of the node that is still on its way lists it once more, and as its mark is cleared the report is passed
- *     on once more, too. Reports and returns may follow each other round the ring for as long as it runs; with many
- *     nodes they soon are more than 2,048 on their way.
- *   - KELBRAUT_RETURNED moves no emitter. Where it has cleared a node before that node's own heartbeat comes, the
- *     heartbeat is of a node that is not listed, and not the emitter: it does nothing. Where that node lies between the
- *     emitter and the receiver, the receiver does not watch it. A search for a new emitter goes back from the one left,
- *     and does not come by it. Only a further return changes that.
- *   - So a node may be alone though it lists nobody, and lists that are empty do not say that each node is watched.
- *   - Heartbeats go to one node, the observer. Where others list the sender, KELBRAUT_RETURNED alone can clear it there.
- *   - A heartbeat may be of a node that has stopped since. That node is cleared all the same, and where it becomes the
- *     emitter, it is left once more later.
- *
- * README.md says how to choose W, how soon all survivors list a node, and how to rehearse what a short W does.
+ * A record opens with any `w` of the range, also with one below H + D; live nodes then get listed. A node that is listed
+ * though it lives is not told so, and goes on. README.md says how to choose W, how soon all survivors list a node, and how
+ * to rehearse what a short W does.
  */
 uint64_t kelbraut_node_open(uint8_t *record, size_t record_size, uint64_t number, uint64_t nodes, uint64_t h, uint64_t w);
 
 /*
- * Delivers a message that node `sender` sent to this record's node. A heartbeat and a new observer's message have no
- * subject, which may be any number there, and only a heartbeat's list counts: on another kind it may be any that has no
- * bit from N on.
+ * Delivers a message that node `sender` sent to this record's node. Only a report's subject counts, and only a heartbeat's
+ * list: on another kind the subject may be any number, and the list any that has no bit from N on.
  *
- *   - A heartbeat of the node's emitter renews the watch, and the nodes of `list` are added to the node's own, but for
- *     the node itself and the sender. It sends nothing.
- *   - A heartbeat of a listed node, which is never the emitter, is its return. It is cleared from list and mark, and
- *     `list` is not added. Where the sender lies between the emitter and the node itself, going ahead from the emitter,
- *     it becomes the emitter, with the watch due after `w`, and KELBRAUT_NAMED of it goes to the old one. Where the
- *     node is its own emitter, the sender becomes its emitter, with the watch due after `w`, and its observer, with a
- *     heartbeat due at once, and no KELBRAUT_NAMED is sent. Wherever the sender lies, KELBRAUT_RETURNED of it then goes
- *     to the nodes to which a report would be passed on.
- *   - A heartbeat of any other node does nothing.
+ *   - A heartbeat of the node's emitter renews the watch, and the nodes of `list` are added to the node's own, but for the
+ *     node itself and the sender. One of another node does nothing. Neither sends anything.
  *   - A new observer's message makes the sender the observer, with a heartbeat due at once.
- *   - The first report of a subject lists it and is passed on, also where a heartbeat has brought it onto the list
- *     before; later ones do nothing, unless the subject was cleared in between. A report of the node's emitter does
- *     what its expired watch would do: the node watches the next one back, for twice `w` at first, and sends it a new
- *     observer's message and then reports; or it is alone, both timers off, and sends nothing.
- *   - KELBRAUT_NAMED makes its subject the observer, with a heartbeat due at once. One that names the node itself is
- *     taken, and does nothing.
- *   - KELBRAUT_RETURNED of a subject that is listed clears it from list and mark and is passed on. Of any other, the
- *     node itself included, it is taken and does nothing. It changes neither emitter nor observer.
+ *   - The first report of a subject lists it and is passed on, also where a heartbeat has brought it onto the list before;
+ *     later ones do nothing. A report of the node's emitter does what its expired watch would do: the node watches the next
+ *     one back, for twice `w` at first, and sends it a new observer's message and then reports; or it is alone, both timers
+ *     off, and sends nothing.
  *
  * So look at kelbraut_next_due again after a delivery. Writes the record and the first 112 bytes of the message part.
  * Answers 0, 10, 12, 11 or 9.
@@ -221,7 +189,7 @@ static inline uint8_t kelbraut_emitter(const uint8_t record[KELBRAUT_RECORD]) {
     return record[6];
 }
 
-/* To whom it sends its heartbeats: itself where it is alone and nobody has become its observer since. */
+/* To whom it sends its heartbeats: itself where it is alone. */
 static inline uint8_t kelbraut_observer(const uint8_t record[KELBRAUT_RECORD]) {
     return record[7];
 }
@@ -232,25 +200,22 @@ static inline uint64_t kelbraut_dead_list(const uint8_t record[KELBRAUT_RECORD])
 }
 
 /*
- * Its mark: the nodes on its list that were reported to it, or that it gave up itself. Of these it passes no report on
- * while they are listed; the others on its list it has from heartbeats alone.
+ * Its mark: the nodes on its list that were reported to it, or that it gave up itself. Of these it passes no report on any
+ * more; the others on its list it has from heartbeats alone.
  */
 static inline uint64_t kelbraut_mark(const uint8_t record[KELBRAUT_RECORD]) {
     return kelbraut_field(record, 32, 8);
 }
 
 /*
- * How many listed nodes an accepted call passed to find a new emitter, the one that it left included, up to the new
- * one, or to the node itself where it is alone; 0 where it made no such search: the emitter stays, or a listed node has
- * returned and is the emitter now. `before` is a copy of the record from before the call, `after` the record after it.
- * All nodes on that way are listed, so that its length in the ring is the number. A program that writes a log as a
- * rehearsal does puts it into the line K of the call, and writes no such line where it is 0.
+ * How many listed nodes an accepted call passed to find a new emitter, the one that it left included, up to the new one, or
+ * to the node itself where it is alone; 0 where the emitter stays. `before` is a copy of the record from before the call,
+ * `after` the record after it. All nodes on that way are listed, so that its length in the ring is the number. A program that
+ * writes a log as a rehearsal does puts it into the line K of the call.
  */
 static inline uint8_t kelbraut_passed(const uint8_t before[KELBRAUT_RECORD], const uint8_t after[KELBRAUT_RECORD]) {
     int left = kelbraut_emitter(before), taken = kelbraut_emitter(after), nodes = after[1];
-    /* A search takes a node that was not listed, a return one that was. */
-    int returned = kelbraut_dead_list(before) >> taken & 1;
-    return (uint8_t)(returned ? 0 : left < taken ? left + nodes - taken : left - taken);
+    return (uint8_t)(left < taken ? left + nodes - taken : left - taken);
 }
 
 /* The tick of the last accepted call, 0 at opening. A call with an earlier one is refused by 12. */
@@ -267,8 +232,8 @@ static inline uint64_t kelbraut_last_tick(const uint8_t record[KELBRAUT_RECORD])
  * due sends the same messages at the same ticks as one that calls it at every tick. Its records are the same, too, but for
  * the last tick, which is that of its own last call, so that a tick that goes back is found out later.
  *
- * Read it anew after each call: a new observer's message, for one, or KELBRAUT_NAMED makes a heartbeat due at the tick
- * of that call. It is before the last tick where a timer is overdue, and can be above KELBRAUT_MOST_TICK.
+ * Read it anew after each call: a new observer's message, for one, makes a heartbeat due at the tick of that call. It is
+ * before the last tick where a timer is overdue, and can be above KELBRAUT_MOST_TICK.
  */
 static inline uint64_t kelbraut_next_due(const uint8_t record[KELBRAUT_RECORD]) {
     /* A timer is 0 where it is off, else one more than its tick. */
@@ -344,20 +309,17 @@ static inline uint64_t kelbraut_list(const uint8_t message[KELBRAUT_MESSAGE]) {
  *                       most 2,048 lines. Messages are numbered from 0 in the order of sending; without a line one
  *                       takes D ticks
  *
- * W may be below H + D, to see how bad that is: live nodes get listed and return, and with many nodes what is sent
- * about them soon is more than 2,048 in flight, so that the next event is refused by 8. A list may then lose nodes,
- * also one that has crashed, by a heartbeat that it sent before. The last line of such a run has KELBRAUT_END_SHORT in
- * the place of KELBRAUT_END. Which of the two it is goes by the P line alone. A run of a file that has W at least H + D
- * is proved to have no event of the letters KELBRAUT_NAMED and KELBRAUT_RETURNED; so its lists only grow.
+ * W may be below H + D, to see how bad that is: live nodes get listed, and with many nodes the reports of them soon are more
+ * than 2,048 in flight, so that the next event is refused by 8. The last line of such a run has KELBRAUT_END_SHORT in the
+ * place of KELBRAUT_END. Which of the two it is goes by the P line alone.
  *
  * Events: those of the earliest tick that has any, and of these first the crashes, by node; then the messages due, by
  * number; then the timers of live nodes, by node, the watch before the heartbeat. The ring's order says who is before and
  * after a node, going back and ahead; events, lists and lines go by node number.
  *
  * Log line: letter, tick, node, other, list, parted by commas, and a line feed. The list is the node's dead list after
- * the event, 16 lower-case hexadecimal digits; bit i stands for node i. An event has one line, or two where the node
- * leaves its emitter: the event's own, and then KELBRAUT_MOVED with the same tick, node and list. A return has one
- * line, also where it makes the returned node the emitter.
+ * the event, 16 lower-case hexadecimal digits; bit i stands for node i. An event has one line, or two where the node leaves
+ * its emitter: the event's own, and then KELBRAUT_MOVED with the same tick, node and list.
  */
 
 /* Sizes in bytes: a store, the longest run file, and the least part for an event's lines and for writing a run file. */
@@ -373,15 +335,14 @@ static inline uint64_t kelbraut_list(const uint8_t message[KELBRAUT_MESSAGE]) {
 /*
  * Letters of events. A message that is delivered has its kind for letter: KELBRAUT_HEARTBEAT and KELBRAUT_OBSERVER with
  * the sender as other, KELBRAUT_REPORT with the subject, which the node lists from then on; where that is the node's
- * emitter, the node leaves it in the same event, as at KELBRAUT_EXPIRED. KELBRAUT_MOVED is the letter of the second
- * line of such an event and of each expired watch; it stands in the log alone, and is the letter of no event.
- * KELBRAUT_NAMED and KELBRAUT_RETURNED have the node that they name as other.
+ * emitter, the node leaves it in the same event, as at KELBRAUT_EXPIRED. KELBRAUT_MOVED is the letter of the second line of
+ * such an event and of each expired watch; it stands in the log alone, and is the letter of no event.
  */
 #define KELBRAUT_CRASH 'C'   /* the node crashes; other: the node itself */
 #define KELBRAUT_DROPPED 'X' /* a message to the node, which has crashed, is dropped; other: the sender */
 #define KELBRAUT_EXPIRED 'W' /* the node's watch expires; other: the emitter that it lists */
-#define KELBRAUT_MOVED 'K'   /* the node has left its emitter for the next one back, or is alone; other: how many listed
-                                nodes it passed on its way back from the one that it left, that one included */
+#define KELBRAUT_MOVED 'K'   /* the node moves to another emitter, or is alone; other: how many listed nodes it passed on
+                                its way back from the one that it left, that one included */
 #define KELBRAUT_SENT 'S'    /* the node sends a heartbeat; other: its observer */
 #define KELBRAUT_END 'E'     /* none is left up to the end tick; tick: that tick, node: how many survive, other: how many
                                 messages are in flight, list: the crashed nodes */

@@ -14,30 +14,21 @@
  * event is refused. Exit status: 0 where all was rehearsed, else 1.
  *
  * A short W is one below H + D. With it live nodes may get listed, and soon most of them are, so that the ticks until
- * all know would say nothing: in their place stands `false` where a live node is listed by the end tick, also where it
- * has returned since. From good to bad the outcomes are ticks, `not yet`, `false`, `refused`. A table that has a short
- * W has five columns more:
+ * all know would say nothing: in their place stands `false` where a live node is listed by the end tick. From good to
+ * bad the outcomes are ticks, `not yet`, `false`, `refused`. A table that has a short W has three columns more:
  *
  *     first    the tick at which a live node is first listed, `never` where none is
  *     live     the most live nodes that stand on lists of live nodes at one time
  *     false    the false events: those by which a node lists a live node that it did not list just before
- *     back     the events by which a node clears a live node from its list: a heartbeat of it comes, or B that names it
- *     still    the live nodes that stand on lists of live nodes at the end
  *
- * Live are the nodes that have not crashed by then, a crash counted at once. The five go up to the end tick, or up to
+ * Live are the nodes that have not crashed by then, a crash counted at once. The three go up to the end tick, or up to
  * a refused event; its row says how far that is. In a row with a worst and a best they are those of the worst: of two
  * that are `false`, or `refused`, the worse has more live nodes, then more false events, then the earlier first tick.
- * With W at least H + D they are proved to be `never` and 0, and are not looked for. Where the shifted file is
+ * With W at least H + D they are proved to be `never`, 0 and 0, and are not looked for. Where the shifted file is
  * refused nothing is rehearsed, and a dash stands in each. A short W has no bound. Where the file's own W is short, it
  * comes first and then H + D, unless other ones are given.
  *
- * A node that is cleared may be listed again, by a report that is still on its way or by another watch, so that `false`
- * can be far above the number of nodes. With a short W a list may lose a crashed node, too, by a heartbeat that it sent
- * before its crash: the ticks go up to the event from which on no list lacks one.
- *
- * That `still` is 0 does not say that the ring is whole: nodes may be alone, with nobody on their lists, and send nothing.
- *
- * Where no node crashes there is something to tell of a short W alone: a row is then one rehearsal, and has the five.
+ * Where no node crashes there is something to tell of a short W alone: a row is then one rehearsal, and has the three.
  *
  * Build: sh tools/build.sh planner
  *        gcc -std=c11 -O2 -Iinclude include/planner.c target/staticlib/libplanner.a -o target/planner
@@ -70,8 +61,6 @@ struct outcome {
     uint64_t events; /* how many events listed a live node */
     uint64_t first;  /* the tick of the first of them, where there is one */
     uint64_t live;   /* the most live nodes on lists of live nodes at one time */
-    uint64_t back;   /* how many events cleared a live node */
-    uint64_t still;  /* the live nodes on lists of live nodes after the last event */
 };
 
 static char file[KELBRAUT_LONGEST_FILE + 1];
@@ -128,7 +117,7 @@ static uint64_t living(void) {
     return set;
 }
 
-/* How the lists stand. With a long W no node returns and a list only grows, so once it is KNOWN it stays so. */
+/* How the lists stand. With a long W a list only grows, so once it is KNOWN it stays so. */
 static enum kind standing(void) {
     uint64_t missing = 0;
     for (unsigned i = 0; i < plan[N]; i++) {
@@ -199,13 +188,11 @@ static void look(struct outcome *o, uint64_t lists[64], unsigned node) {
         o->first = o->events == 0 ? number(store, LAST_TICK, 4) : o->first;
         o->events++;
     }
-    o->back += (lists[node] & ~now & live) != 0;
     lists[node] = now;
     for (unsigned i = 0; i < plan[N]; i++) {
         listed |= has(live, i) ? lists[i] & live : 0;
     }
-    o->still = size_of(listed);
-    o->live = o->still > o->live ? o->still : o->live;
+    o->live = size_of(listed) > o->live ? size_of(listed) : o->live;
 }
 
 /* Rehearses a short W to the end tick, or up to a refused event, by steps: the lists are looked at after each. */
@@ -221,7 +208,7 @@ static struct outcome rehearse_short(uint64_t w, uint64_t shift) {
         look(&o, lists, (unsigned)node);
         if (standing() != KNOWN) {
             o.kind = NOT_YET;
-        } else if (o.kind != KNOWN) { /* from here on, unless a crashed node returns later */
+        } else if (o.kind != KNOWN) { /* from here on, unless a list loses a node later */
             o.kind = KNOWN;
             o.ticks = since_last_crash(tick);
         }
@@ -307,17 +294,17 @@ static void print_outcome(struct outcome o) {
     }
 }
 
-/* Prints the columns first, live, false, back and still. */
+/* Prints the columns first, live and false. */
 static void print_listings(struct outcome o) {
     char first[24] = "never";
     if (o.kind == REFUSED && KELBRAUT_NUMBER(o.answer) != KELBRAUT_OVERFULL) {
-        printf("%10s%8s%8s%8s%8s", "-", "-", "-", "-", "-");
+        printf("%10s%8s%8s", "-", "-", "-");
         return;
     }
     if (o.events > 0) {
         sprintf(first, "%" PRIu64, o.first);
     }
-    printf("%10s%8" PRIu64 "%8" PRIu64 "%8" PRIu64 "%8" PRIu64, first, o.live, o.events, o.back, o.still);
+    printf("%10s%8" PRIu64 "%8" PRIu64, first, o.live, o.events);
 }
 
 /* Ends a row: why the outcome is no number, from the store that its rehearsal left. */
@@ -416,9 +403,6 @@ static int has_short_row(char **arguments) {
 
 static const char listings[] =
     "first: tick at which a live node is first listed, live: the most at one time, false: events that list one";
-static const char returns[] =
-    "back: events that clear a live node from a list, still: live nodes that are listed at the end";
-static const char columns[] = "     first    live   false    back   still\n";
 
 /* Prints the table and answers whether something was refused. */
 static int print_table(int each, char **arguments) {
@@ -428,10 +412,10 @@ static int print_table(int each, char **arguments) {
     print_nodes(crashed);
     printf(", with the crashes shifted by 0 to %" PRIu64 " ticks\n", number(plan, H, 2) - 1u);
     if (with_short) {
-        printf("%s,\n%s%s\n", listings, returns, each ? "" : "; of the worst");
+        printf("%s%s\n", listings, each ? "" : "; of the worst");
     }
     printf(each ? "     W     ticks   shift     bound" : "     W     worst   shift      best   shift     bound");
-    printf("%s", with_short ? columns : "\n");
+    printf(with_short ? "     first    live   false\n" : "\n");
     for (uint64_t row = 0; has_row(arguments, row, &w); row++) {
         refused |= try_time_out(w, each);
     }
@@ -442,7 +426,7 @@ static int print_table(int each, char **arguments) {
 static int print_quiet_table(char **arguments) {
     uint64_t w;
     int refused = 0;
-    printf("No node crashes: each node that is listed lives\n%s,\n%s\n     W%s", listings, returns, columns);
+    printf("No node crashes: each node that is listed lives\n%s\n     W     first    live   false\n", listings);
     for (uint64_t row = 0; has_row(arguments, row, &w); row++) {
         struct outcome o = rehearse_quiet(w);
         printf("%6" PRIu64, w);

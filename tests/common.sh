@@ -124,8 +124,7 @@ steady() {
     awk -F, 'FNR == 1 && $4 + 0 >= $3 + $5 { print FILENAME }' "$@"
 }
 
-# each_generated KIND COUNT FOLDER COMMAND: COMMAND NAME FILE for each file of the generator; KIND is `small`,
-# `returning` or nothing.
+# each_generated KIND COUNT FOLDER COMMAND: COMMAND NAME FILE for each file of the generator; KIND is `small` or nothing.
 each_generated() {
     "$out/generate" $1 "$seed" "$2" "$3"
     index=0

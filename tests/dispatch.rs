@@ -34,7 +34,6 @@ use simulator::dispatch::{dispatch, Given};
 use simulator::generator::{self, Draft, ORDERS, SMALL};
 use simulator::layout::{self, Field};
 use simulator::limits::*;
-use simulator::node::Content;
 use simulator::plan::{self, Plan};
 use simulator::platform::{Ending, Platform};
 use simulator::random::Random;
@@ -98,9 +97,6 @@ struct Seen {
     short: [u64; 3],
     /// Steps of single stores that answer E, and F.
     ends: [u64; 2],
-    /// Stores with an A or B in flight that got a turn, and those in whose turns nodes returned.
-    told: u64,
-    returned: u64,
 }
 
 impl Seen {
@@ -164,7 +160,6 @@ impl Seen {
             return Err(format!("can go on after {} of {turns} turns", given.turns.len()));
         }
         self.waited += u64::from(wait == MAX_STORES - 1);
-        self.count_returns(before, of_store * length);
         if last_letter(after) == b'F' {
             let finished = of_store > 0 && !still && !stopped;
             self.short.iter_mut().zip([of_store, u64::from(stopped), u64::from(finished)]).for_each(|(sum, count)| *sum += count);
@@ -178,15 +173,6 @@ impl Seen {
             self.finished[usize::from(events == of_store * length)] += 1;
         }
         Ok(())
-    }
-
-    /// Counts a store that got these events as turns, where it holds an A or B, and where nodes return in them.
-    fn count_returns(&mut self, before: &[u8], events: u64) {
-        let Some(mut held) = store::decode(before).filter(|_| events > 0) else { return };
-        let tells = |content| matches!(content, Content::NamedObserver { .. } | Content::Returned { .. });
-        self.told += u64::from(held.platform.messages().iter().any(|(_, message)| tells(message.content)));
-        held.platform.run(events);
-        self.returned += u64::from(held.platform.returns() > 0);
     }
 
     /// A call on one store of the part.
@@ -224,9 +210,6 @@ const SHORT: &str = "P,2,2,2,1,6\nC,3,1\n";
 const SHORT_ONE: &str = "P,1,1,1,1,5\nC,0,0\n";
 const SHORT_NONE: &str = "P,1,1,1,1,5\n";
 const SHORT_OVERFULL: &str = "P,64,1,33,40,33\n";
-/// Nodes return in a run of 20 events, and of 55.
-const RETURNED_TWO: &str = include_str!("returned-two.run");
-const RETURNED_FIVE: &str = include_str!("returned-five.run");
 
 fn opened(file: &str) -> Vec<u8> {
     reached(file.as_bytes(), 0)
@@ -260,8 +243,6 @@ struct Stock {
     long: Vec<Vec<u8>>,
     /// Refused by 8, at once or after some events.
     refusing: Vec<Vec<u8>>,
-    /// In the midst of runs in which nodes return.
-    returning: Vec<Vec<u8>>,
     /// In range, though no run file leads there.
     lent: Vec<Vec<u8>>,
     /// The same, with a next message number that soon passes its bound.
@@ -277,7 +258,6 @@ impl Stock {
         stock.long.extend((0..24).map(|index| reached(&generator::plan(seed, index), 300 * (index % 2))));
         stock.refusing.extend([0, 0, 1, 2, 5, 11, 12, 13, 30, 999, 1_000, 1_001].map(overfull_in));
         stock.refusing.extend([0, 1, 11, 12, 999].map(short_overfull_in));
-        stock.returning.extend((0..24).map(|index| reached(&generator::returning_plan(seed, index), 20 * (index % 4))));
         for order in ORDERS {
             let crashes = (12..64).map(|node| (32, node)).collect();
             let file = Draft { crashes, ..generator::crowd(order) }.bytes();
@@ -308,8 +288,8 @@ impl Stock {
 
     /// Any of these stores.
     fn any<'a>(&'a self, random: &mut Random) -> &'a [u8] {
-        let Stock { done, going, long, refusing, returning, lent, last_numbers } = self;
-        let usual = random.pick(&[done, done, going, going, going, long, refusing, refusing, returning, lent]);
+        let Stock { done, going, long, refusing, lent, last_numbers } = self;
+        let usual = random.pick(&[done, done, going, going, going, long, refusing, refusing, lent]);
         let kind = if random.chance(40) { last_numbers } else { usual };
         &kind[random.below(kind.len() as u64) as usize]
     }
@@ -443,13 +423,6 @@ fn worked_bound(seen: &mut Seen) -> Result<(), String> {
         same("the next call", seen.call(&mut part, 1, turns)?, refused(REFUSED_STORE))?;
     }
     Ok(())
-}
-
-/// Runs in which nodes return: an event is one of a turn's, whether it writes H, A or B.
-fn worked_returns(seen: &mut Seen) -> Result<(), String> {
-    let three = [RETURNED_TWO, EIGHT, RETURNED_FIVE].map(opened);
-    worked(seen, &three, &[((7, 6), &[0, 1, 2, 0, 1, 2], &[14, 8, 14], 0), ((7, 3), &[0, 2, 2], &[6, 0, 14], 0)])?;
-    worked(seen, &three, &[((1_000, u64::MAX), &[0, 1, 2], &[20, 8, 55], 0)])
 }
 
 /// Stores with W below H + D beside others: they go round with them, are stopped and done like them, and each ends in its own letter. The
@@ -588,7 +561,6 @@ fn all(seen: &mut Seen, stock: &Stock, seed: u64, count: u64) -> Result<(), Stri
     worked_starts(seen)?;
     worked_bound(seen)?;
     worked_short(seen)?;
-    worked_returns(seen)?;
     damaged(seen)?;
     part_lengths(seen)?;
     mixed(seen, stock, seed, count)?;
@@ -599,7 +571,7 @@ fn all(seen: &mut Seen, stock: &Stock, seed: u64, count: u64) -> Result<(), Stri
 fn summary(seen: &Seen, count: u64) -> Result<(), String> {
     let Seen { calls, numbers, damaged, stores, lengths, turns, given, between, read_off, .. } = seen;
     let Seen { done_skipped, stopped_skipped, stopped, refused_after, refused_in, finished, waited, passed_bound, .. } = seen;
-    let Seen { timeouts, short, ends, told, returned, .. } = seen;
+    let Seen { timeouts, short, ends, .. } = seen;
     let answered = [0, 7, 14, 15].map(|number| (number, numbers[number]));
     let each_damaged: Vec<u64> = (0..MAX_STORES).flat_map(|stores| damaged[stores][..=stores].to_vec()).collect();
     println!("dispatch: {calls} calls agree; answers by number: {answered:?}; {between} calls on single stores between them");
@@ -614,10 +586,6 @@ fn summary(seen: &Seen, count: u64) -> Result<(), String> {
     println!("dispatch: accepted with W at least H + D in all stores {only_long}, in none {only_short}, in some {both}");
     println!("dispatch: {short_turns} turns of stores with W below H + D, {short_stopped} of these stopped, {short_finished} finished");
     println!("dispatch: steps of single stores that answer the last line, E and F: {ends:?}");
-    println!("dispatch: {told} stores with an A or B in flight got turns; in the turns of {returned} nodes returned");
-    if count >= COUNT && (*told < count || *returned < count / 2) {
-        return Err("too few nodes returned".to_string());
-    }
     let hardly = [*only_short, *short_stopped, *short_finished, ends[1]].iter().any(|met| *met < count / 10);
     if count >= COUNT && (*both < count || *short_turns < 10 * count || hardly) {
         return Err("too few stores with W below H + D came up".to_string());

@@ -1,25 +1,18 @@
-//! Demand 3 and requests 106 and 107 over all runs of small rings, by the simulator's search: every delay of every
-//! message, every crash at every tick. Nothing may be found with W = H + D or more; with W = H + D − 1, and by wrong
-//! rules, something has to be, and the run file of what is found with W = H + D − 1 has to be accepted, to list a live
-//! node at the same tick and to end in F. At each move the number passed has to be the count of the listed nodes from
-//! the one left back to the new emitter, and every node reports a subject once. Most rings are in the order of their
-//! numbers, some in another. There too a tick goes by number, so that what it does is not what it does to the nodes
-//! renamed.
+//! Demand 3 and requests 106 and 107 over all runs of small rings, by the simulator's search: every delay of every message, every crash at
+//! every tick. Nothing may be found with W = H + D or more; with W = H + D − 1, and by wrong rules, something has to be, and the run file of
+//! what is found with W = H + D − 1 has to be accepted, to list a live node at the same tick and to end in F. At each move the
+//! number passed has to be the count of the listed nodes from the one left back to the new emitter, and every node reports a subject once.
+//! Most rings are in the order of their numbers, some in another. There too a tick goes by number, so that what it does is not what it does
+//! to the nodes renamed.
 //!
-//! In none of these rings a report of the emitter moves a node, nor does a list go by heartbeats from node to node.
-//! That takes more nodes, and the search then has fewer choices: all messages take D ticks, and only the nodes that are
-//! named crash, at any tick.
+//! In none of these rings a report of the emitter moves a node, nor does a list go by heartbeats from node to node. That takes more nodes, and
+//! the search then has fewer choices: all messages take D ticks, and only the nodes that are named crash, at any tick.
 //!
-//! With W = H + D or more no message A or B comes to a live node, nor the heartbeat of a listed sender. With W below H
-//! + D they do, and nothing is claimed of lists. There the search asks that every node and every message is in range,
-//! that senders return as they should, and what it asks of numbers passed and of reports. Its choices are fewer again,
-//! as one return leads to many messages.
-//!
-//! Usage: exhaust                      the table        exhaust N H W D END [NODE..] one search, in the order of the
-//! nodes named or of the numbers; writes a run in which something is                                     found, as a
-//! run file
+//! Usage: exhaust                      the table
+//!        exhaust N H W D END [NODE..] one search, in the order of the nodes named or of the numbers; writes a run in which something is
+//!                                     found, as a run file
 
-use simulator::exhaust::{Asked, Delayed, Finding, Found, Late, Outcome, Returns, Rules, Search};
+use simulator::exhaust::{Finding, Found, Late, Outcome, Rules, Search};
 use simulator::falsely;
 use simulator::log::Line;
 use simulator::plan::{self, Plan};
@@ -121,52 +114,6 @@ const WRONG: [(Rules, (u8, u32, u32, u32), Finding); 19] = [
     (Rules::LeftNotMarked, (6, 2, 3, 1), Finding::Misreported),
 ];
 
-/// N, the order, H, W and D of the searches with W below H + D, the messages whose delay is gone through, the nodes
-/// that may crash, as a list, and the end tick.
-type Returning = (u8, &'static [u8], (u32, u32, u32), Delayed, u64, u32);
-const RETURNING: [Returning; 26] = [
-    (2, &[], (1, 1, 1), Delayed::All, 0b11, END),
-    (2, &[], (1, 2, 2), Delayed::All, 0b11, END),
-    (2, &[], (2, 3, 2), Delayed::All, 0b11, END),
-    (2, &[], (1, 3, 3), Delayed::All, 0b11, END),
-    (2, &[], (3, 4, 3), Delayed::All, 0b11, END),
-    (3, &[], (1, 1, 1), Delayed::All, 0b111, END),
-    (3, &[], (2, 2, 1), Delayed::All, 0b111, END),
-    (3, &[], (2, 1, 1), Delayed::All, 0b111, END),
-    (3, &[], (3, 4, 2), Delayed::Heartbeats, 0, END),
-    (3, &[], (3, 4, 2), Delayed::Heartbeats, 0b111, 12),
-    (3, &[], (2, 3, 2), Delayed::Heartbeats, 0b111, 12),
-    (3, &[], (1, 2, 2), Delayed::Heartbeats, 0b111, 8),
-    (3, &[], (3, 4, 2), Delayed::Reports, 0, 14),
-    (3, &[], (1, 2, 2), Delayed::Reports, 0, 7),
-    (3, &[], (3, 4, 2), Delayed::Returns, 0, 9),
-    (4, &[], (1, 1, 1), Delayed::All, 0b1111, END),
-    (4, &[], (2, 2, 1), Delayed::All, 0b1111, END),
-    (4, &CROSSED, (2, 2, 1), Delayed::All, 0b1111, END),
-    (4, &[], (3, 4, 2), Delayed::Heartbeats, 0, 11),
-    (4, &CROSSED, (3, 4, 2), Delayed::Heartbeats, 0, 11),
-    (5, &[], (1, 1, 1), Delayed::All, 0b11111, END),
-    (5, &[], (2, 2, 1), Delayed::All, 0b11111, END),
-    (5, &APART, (2, 2, 1), Delayed::All, 0b11111, END),
-    (6, &[], (1, 1, 1), Delayed::All, 0b11, 40),
-    (7, &[], (1, 1, 1), Delayed::All, 0b1, 20),
-    (8, &[], (1, 1, 1), Delayed::All, 0b1, 14),
-];
-
-/// Wrong rules about returns, the place of a search in that table, and what has to be found.
-const WRONG_RETURNS: [(Rules, usize, Finding); 10] = [
-    (Rules::MarkStays, 1, Finding::OutOfRange),
-    (Rules::MarkStays, 5, Finding::OutOfRange),
-    (Rules::ListAdded, 15, Finding::OutOfRange),
-    (Rules::ListAdded, 22, Finding::OutOfRange),
-    (Rules::AloneSendsA, 1, Finding::OutOfRange),
-    (Rules::ObserverStays, 3, Finding::OutOfRange),
-    (Rules::EmitterAnywhere, 5, Finding::Misplaced),
-    (Rules::EmitterAnywhere, 17, Finding::Misplaced),
-    (Rules::ReturnCounted, 8, Finding::Miscounted),
-    (Rules::ReturnCounted, 1, Finding::Miscounted),
-];
-
 /// Claims shorter than request 106's, and N, H, W and D of the searches in which they are found wrong.
 const SHORTER: [(Rules, (u8, u32, u32, u32)); 8] = [
     (Rules::ShortJoining, (2, 1, 2, 1)),
@@ -190,20 +137,7 @@ const SHORTER_LISTS: [(Rules, (u8, u32, u32, u32)); 6] = [
 ];
 
 fn search((nodes, period, timeout, delay): (u8, u32, u32, u32)) -> Search {
-    let (order, least_delay, delayed, mortal) = (Vec::new(), 1, Delayed::All, u64::MAX);
-    Search {
-        nodes,
-        order,
-        period,
-        timeout,
-        delay,
-        least_delay,
-        delayed,
-        mortal,
-        end: END,
-        rules: Rules::Paper,
-        asked: Asked::All,
-    }
+    Search { nodes, order: Vec::new(), period, timeout, delay, least_delay: 1, mortal: u64::MAX, end: END, rules: Rules::Paper }
 }
 
 /// A search in a larger ring: all messages take D ticks, and only these nodes crash.
@@ -211,18 +145,6 @@ fn reported((nodes, order, period, delay, mortal): (u8, &[u8], u32, u32, &[u8]))
     let mortal = mortal.iter().fold(0, |list, node| list | 1 << node);
     let search = search((nodes, period, period + delay, delay));
     Search { order: order.to_vec(), least_delay: delay, mortal, end: LATE_END, ..search }
-}
-
-/// A search with W below H + D, of what is claimed there.
-fn returning((nodes, order, (period, timeout, delay), delayed, mortal, end): Returning) -> Search {
-    Search {
-        order: order.to_vec(),
-        delayed,
-        mortal,
-        end,
-        asked: Asked::Ranges,
-        ..search((nodes, period, timeout, delay))
-    }
 }
 
 /// Numbers parted by commas, or `-` for none.
@@ -297,12 +219,6 @@ fn kept(search: &Search) -> Result<Outcome, String> {
     }
     if outcome.strange > 0 {
         return Err(format!("a heartbeat comes from another than the emitter in {search:?}"));
-    }
-    if outcome.returns != Returns::default() {
-        return Err(format!(
-            "A, B or the heartbeat of a listed sender comes to a node in {search:?}: {:?}",
-            outcome.returns
-        ));
     }
     if search.mortal == u64::MAX && outcome.passed[1..usize::from(search.nodes)].contains(&0) {
         return Err(format!("no move passes so many nodes in {search:?}: {:?}", outcome.passed));
@@ -387,48 +303,7 @@ fn table() -> Result<(), String> {
         }
     }
     larger_rings()?;
-    wrong_rules()?;
-    returns()
-}
-
-/// With W below H + D nothing is found out of range. In all these searches together nodes return in every way.
-fn returns() -> Result<(), String> {
-    println!("\nW below H + D; of listed senders' heartbeats those that leave the emitter, that move it, and those to");
-    println!("a node alone; A; B that clear and that do not; the most in flight:");
-    print!(" N  H  W  D order     delays     crash        end   states    events  moves passed     runs closed  ");
-    println!("elsewhere between   alone       A  clear    not  most");
-    let mut all = [0; 6];
-    for numbers in RETURNING {
-        let (search, outcome) = (returning(numbers), returning(numbers).explore());
-        let Search { nodes, period, timeout, delay, delayed, order, mortal, end, .. } = &search;
-        let Outcome { states, events, moves_by_report, runs, most_in_flight, .. } = outcome;
-        let Returns { elsewhere, between, alone, named_observers, cleared, unlisted } = outcome.returns;
-        let mortal: Vec<u8> = (0..*nodes).filter(|node| mortal >> node & 1 == 1).collect();
-        let (order, mortal, delayed) = (listed_numbers(order), listed_numbers(&mortal), format!("{delayed:?}"));
-        let closed = outcome.closed.map_or("-".to_string(), |tick| tick.to_string());
-        let most = most_passed(&outcome);
-        print!("{nodes:>2} {period:>2} {timeout:>2} {delay:>2} {order:<9} {delayed:<10} {mortal:<11} {end:>4} ");
-        print!("{states:>8} {events:>9} {moves_by_report:>6} {most:>6} {runs:>8.1e} {closed:>6}  ");
-        print!("{elsewhere:>9} {between:>7} {alone:>7} {named_observers:>7} ");
-        println!("{cleared:>6} {unlisted:>6} {most_in_flight:>5}");
-        if let Some(Found { finding, tick, plan }) = outcome.found {
-            return Err(format!(
-                "{finding:?} at tick {tick} in {search:?}, by\n{}",
-                String::from_utf8_lossy(&plan.bytes())
-            ));
-        }
-        let told = [elsewhere, between, alone, named_observers, cleared, unlisted];
-        all.iter_mut().zip(told).for_each(|(sum, count)| *sum += count);
-    }
-    if all.iter().any(|count| *count < 1_000) {
-        return Err(format!("too few returns of some kind: {all:?}"));
-    }
-    heading("Wrong returns: a mark that stays, the carried list added, A of a node alone, its observer kept,\n\
-        the emitter moved anywhere, a number told:");
-    for (rules, place, finding) in WRONG_RETURNS {
-        finds(&Search { rules, ..returning(RETURNING[place]) }, finding)?;
-    }
-    Ok(())
+    wrong_rules()
 }
 
 /// Reports of the emitter move nodes; and relays die, so that without lists in heartbeats some list stays short.

@@ -349,13 +349,6 @@ fn generated(lent: &mut Lent, seed: u64, count: u64) -> Result<Seen, String> {
             seen.count(&file);
         }
     }
-    for index in 0..count / 4 {
-        let file = generator::returning_plan(seed, index);
-        alike(lent, &format!("seed {seed} file {index} of returns"), &file)?;
-        if plan::read(&file).is_ok_and(|plan| plan.timeout >= plan.period + plan.delay) {
-            return Err(format!("file {index} of returns has a W that is not below H + D"));
-        }
-    }
     if count >= COUNT && seen.short * 5 < seen.accepted {
         return Err(format!("{} of {} accepted files have a W below H + D", seen.short, seen.accepted));
     }

@@ -48,26 +48,6 @@ tick 20: H to 2, subject 0, list 9
 tick 30: H to 2, subject 0, list 9
 tick 31: H to 2, subject 0, list 9
 tick 41: H to 2, subject 0, list 9
-tick 45: B to 2, subject 2, list 0
-tick 45: H to 2, subject 0, list 9
-tick 46: B to 2, subject 3, list 0
-tick 46: B to 3, subject 3, list 0
-tick 47: H to 3, subject 0, list 1
-tick 49: A to 2, subject 0, list 0
-tick 49: B to 2, subject 0, list 0
-tick 49: B to 3, subject 0, list 0
-tick 57: H to 3, subject 0, list 0
-tick 63: O to 3, subject 0, list 0
-tick 63: R to 2, subject 0, list 0
-tick 63: R to 3, subject 0, list 0
-tick 67: H to 3, subject 0, list 1
-tick 77: H to 3, subject 0, list 1
-tick 87: H to 3, subject 0, list 1
-tick 91: O to 2, subject 0, list 0
-tick 91: R to 2, subject 3, list 0
-tick 97: H to 3, subject 0, list 9
-tick 107: H to 3, subject 0, list 9
-tick 117: H to 3, subject 0, list 9
 tick 1000001: stopped by 12
 LINES
 }

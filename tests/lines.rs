@@ -1,7 +1,6 @@
 //! Compares the proved log reader, columns and writer with the simulator's on seeded lines: good
-//! ones, ones with a field at or beyond a bound, damaged ones and random bytes. F is also held against E, and R, A and
-//! B against each other: with the one letter in place of the other all three answer the same but for that letter. Every
-//! byte is tried as a letter.
+//! ones, ones with a field at or beyond a bound, damaged ones and random bytes. F is also held against E: with the one letter in
+//! place of the other all three answer the same but for that letter.
 //!
 //! Usage: `lines [SEED [COUNT]]`. Prints the seed; at a difference prints the case and exits by 1.
 //!
@@ -54,11 +53,9 @@ mod proved {
 
 /// How many lines are tried where no count is given.
 const COUNT: u64 = 200_000;
-const LETTERS: &[u8] = b"CHORABXWSKEF";
+const LETTERS: &[u8] = b"CHORXWSKEF";
 /// The letters of a last line.
 const LAST: &[u8] = b"EF";
-/// The letters of a return, whose lines have the columns and ranges of R.
-const RETURN: &[u8] = b"AB";
 
 /// A number near a bound of some column, or any.
 fn number(random: &mut Random) -> u64 {
@@ -74,10 +71,8 @@ fn number(random: &mut Random) -> u64 {
 fn numbers(random: &mut Random) -> [u64; 5] {
     let letter = match random.below(8) {
         0 => random.below(256),
-        1 => {
-            random.pick(&[256 + 65, 256 + 66, 256 + 67, 256 + 69, 256 + 70, 256 + 75, u64::MAX, 1 << 32 | 70, 1 << 32])
-        }
-        2 => u64::from(random.pick(&[LAST, RETURN].concat())),
+        1 => random.pick(&[256 + 67, 256 + 69, 256 + 70, 256 + 75, u64::MAX, 1 << 32 | 70, 1 << 32]),
+        2 => u64::from(random.pick(LAST)),
         _ => u64::from(random.pick(LETTERS)),
     };
     let list = random.draw() << random.below(64);
@@ -104,7 +99,7 @@ fn text(numbers: [u64; 5]) -> Vec<u8> {
 fn damage(random: &mut Random, line: &mut Vec<u8>) {
     let at = random.below(line.len() as u64) as usize;
     let next = (at + 1) % line.len();
-    let byte = random.pick(b"0019afAFgGCEXKkABb@D,,\n\r +-.:/ \0\xff");
+    let byte = random.pick(b"0019afAFgGCEXKk,,\n\r +-.:/ \0\xff");
     match random.below(12) {
         0 => line[at] = byte,
         1 => line[at] = random.draw() as u8,
@@ -123,7 +118,7 @@ fn damage(random: &mut Random, line: &mut Vec<u8>) {
 
 fn line(random: &mut Random) -> Vec<u8> {
     if random.below(10) == 0 {
-        return (0..random.below(45)).map(|_| random.pick(b"ABCEFK0123456789abcdef,,,,\n")).collect();
+        return (0..random.below(45)).map(|_| random.pick(b"CEFK0123456789abcdef,,,,\n")).collect();
     }
     let mut line = text(numbers(random));
     for _ in 0..random.pick(&[0, 0, 1, 1, 2, 3]) {
@@ -195,16 +190,12 @@ struct Seen {
     accepted: u64,
     form: u64,
     range: u64,
-    /// Lines K that are read, lines E and F, and lines A and B; and lines that the writer refuses by 9 in a part of 40
-    /// bytes or more.
+    /// Lines K that are read, and lines E and F; and lines that the writer refuses by 9 in a part of 40 bytes or more.
     passed: u64,
     last: [u64; 2],
-    returns: [u64; 2],
     short: u64,
-    /// Lines and numbers with the one of E and F that were also tried with the other: accepted, and refused. The same
-    /// of R, A and B.
+    /// Lines and numbers with the one of E and F that were also tried with the other: accepted, and refused.
     alike: [u64; 2],
-    alike_returns: [u64; 2],
 }
 
 fn case(random: &mut Random, seen: &mut Seen) -> Result<(), String> {
@@ -216,7 +207,6 @@ fn case(random: &mut Random, seen: &mut Seen) -> Result<(), String> {
             seen.accepted += 1;
             seen.passed += u64::from(line.letter == b'K');
             (0..2).for_each(|place| seen.last[place] += u64::from(line.letter == LAST[place]));
-            (0..2).for_each(|place| seen.returns[place] += u64::from(line.letter == RETURN[place]));
         }
         Err(2) => seen.form += 1,
         Err(_) => seen.range += 1,
@@ -230,28 +220,21 @@ fn case(random: &mut Random, seen: &mut Seen) -> Result<(), String> {
     }
     let written = write(numbers, &lent).map_err(told)?;
     seen.short += u64::from(written == 9 && lent.len() >= NUMBER_BYTES);
-    let (read, written) = (as_other(&line, &lent).map_err(told)?, as_other_written(numbers, &lent).map_err(told)?);
-    for (letter, answer) in [(u64::from(line.first().copied().unwrap_or(0)), read), (numbers[0], written)] {
-        let is_last = LAST.iter().any(|last| u64::from(*last) == letter);
-        let alike = if is_last { &mut seen.alike } else { &mut seen.alike_returns };
-        answer.iter().for_each(|answer| alike[usize::from(*answer != 0)] += 1);
+    for answer in [as_other(&line, &lent).map_err(told)?, as_other_written(numbers, &lent).map_err(told)?].into_iter().flatten() {
+        seen.alike[usize::from(answer != 0)] += 1;
     }
     Ok(())
 }
 
-// ---- F as E, A and B as R
+// ---- F as E
 
-/// E for F, and F for E; A for R, B for A, and R for B; nothing for any other letter.
+/// E for F, and F for E; nothing for any other letter.
 fn other_of(letter: u8) -> Option<u8> {
-    let after = |letters: &'static [u8]| {
-        let place = letters.iter().position(|other| *other == letter)?;
-        Some(letters[(place + 1) % letters.len()])
-    };
-    after(LAST).or(after(b"RAB"))
+    LAST.iter().position(|last| *last == letter).map(|place| LAST[1 - place])
 }
 
-/// A line with E read as the same line with F, and so on: the same answer, the same numbers and the same columns, but
-/// for the letter. The reader's answer; nothing where the line begins with a letter that has no other.
+/// A line with E read as the same line with F, and the other way round: the same answer, the same numbers and the same columns, but for the
+/// letter. The reader's answer; nothing where the line begins with another letter.
 fn as_other(line: &[u8], lent: &[u8]) -> Result<Option<u64>, String> {
     let Some((letter, other)) = line.first().and_then(|letter| Some((*letter, other_of(*letter)?))) else { return Ok(None) };
     let with_other = [&[other], &line[1..]].concat();
@@ -265,8 +248,8 @@ fn as_other(line: &[u8], lent: &[u8]) -> Result<Option<u64>, String> {
         }
         (answer, is_own, numbers)
     });
-    same("reading it with the other letter", &one, &two)?;
-    same("the letter that is read", one.1, one.0 == 0)?;
+    same("reading E for F", &one, &two)?;
+    same("the letter of a last line", one.1, one.0 == 0)?;
     for index in 0..6 {
         let [one, two] = lines.map(|(line, letter)| {
             let mut part = [b'.'; 40];
@@ -275,7 +258,7 @@ fn as_other(line: &[u8], lent: &[u8]) -> Result<Option<u64>, String> {
             part[0] = if is_own { 0 } else { part[0] };
             (size, is_own, part)
         });
-        same(&format!("column {index} with the other letter"), one, two)?;
+        same(&format!("column {index} with E for F"), one, two)?;
     }
     Ok(Some(one.0))
 }
@@ -293,7 +276,7 @@ fn as_other_written(numbers: [u64; 5], lent: &[u8]) -> Result<Option<u64>, Strin
         }
         (answer, is_own, part)
     });
-    same("writing it with the other letter", &one, &two)?;
+    same("writing E for F", &one, &two)?;
     same("the letter that is written", one.1, one.0 > 9)?;
     Ok(Some(if one.0 > 9 { 0 } else { one.0 }))
 }
@@ -333,26 +316,8 @@ const LAST_LINES: [(&str, u64); 31] = [
     ("E,6,1,0,0000000000000002\n", 2),
 ];
 
-/// A line A or B after its letter, and the reader's number, where it is of good form.
-const RETURN_LINES: [(&str, u64); 14] = [
-    (",0,0,0,0000000000000000\n", 0),
-    (",6,1,0,0000000000000002\n", 0),
-    (",9,63,63,8000000000000001\n", 0),
-    (",1000000,63,63,ffffffffffffffff\n", 0),
-    (",999999,0,63,0123456789abcdef\n", 0),
-    (",1000001,63,63,0000000000000000\n", 3),
-    (",1000000,64,63,0000000000000000\n", 3),
-    (",1000000,63,64,0000000000000000\n", 3),
-    (",0,64,0,0000000000000000\n", 3),
-    (",0,0,64,0000000000000000\n", 3),
-    (",0,0,2048,0000000000000000\n", 3),
-    (",18446744073709551616,0,0,0000000000000000\n", 3),
-    (",0,18446744073709551616,0,0000000000000000\n", 3),
-    (",0,0,18446744073709551616,0000000000000000\n", 3),
-];
-
-/// A line that is read has its columns, and written again the same bytes, unless the part is too short.
-fn comes_back(text: &str) -> Result<(), String> {
+/// A last line that is read has its columns, and written again the same bytes, unless the part is too short.
+fn last_line(text: &str) -> Result<(), String> {
     let (line, mut numbers) = (text.as_bytes(), [0; NUMBER_BYTES]);
     proved::read(line, &mut numbers);
     let columns = text.trim_end_matches('\n').split(',').chain([""]);
@@ -368,58 +333,26 @@ fn comes_back(text: &str) -> Result<(), String> {
     same("writing it into 79 bytes", proved::write(five, &mut part[..79]), 9)
 }
 
-/// Every edge of a letter's line, and numbers behind their range, which get 3 in parts of any length. A lower-case
-/// letter is none.
-fn edges_of(letter: u8, lines: impl Iterator<Item = (&'static str, u64)>, beyond: [[u64; 3]; 3]) -> Result<(), String> {
-    for (rest, wanted) in lines {
-        let text = format!("{}{rest}", letter as char);
-        let told = |error| format!("{text:?}: {error}");
-        same("reading", proved::read(text.as_bytes(), &mut [0; NUMBER_BYTES]), wanted).map_err(told)?;
-        read(text.as_bytes(), &[b'.'; NUMBER_BYTES]).map_err(told)?;
-        (0..6).try_for_each(|index| column(text.as_bytes(), index, &[b'.'; 16])).map_err(told)?;
-        if wanted == 0 {
-            comes_back(&text).map_err(told)?;
-        }
-    }
-    let small = format!("{},6,1,0,0000000000000002\n", letter.to_ascii_lowercase() as char);
-    same("reading a small letter", proved::read(small.as_bytes(), &mut [0; NUMBER_BYTES]), 2)?;
-    for [tick, node, other] in beyond {
-        for room in [0, 79, 80] {
-            let numbers = [u64::from(letter), tick, node, other, 0];
-            same("writing out of range", proved::write(numbers, &mut [b'.'; 80][..room]), 3)?;
-        }
-    }
-    Ok(())
-}
-
-/// The edges of last lines and of lines A and B; these have the last lines' edges of form.
-fn all_edges() -> Result<(), String> {
+/// Every edge of a last line with both letters: each number behind its range, in parts of any length, gets 3. A lower-case letter is none.
+fn last_lines() -> Result<(), String> {
     for letter in LAST {
-        edges_of(
-            *letter,
-            LAST_LINES.into_iter(),
-            [[1_000_001, 64, 2_048], [1_000_000, 65, 2_048], [1_000_000, 64, 2_049]],
-        )?;
-    }
-    for letter in RETURN {
-        let form = LAST_LINES.into_iter().filter(|(_, number)| *number == 2);
-        let beyond = [[1_000_001, 63, 63], [1_000_000, 64, 63], [1_000_000, 63, 64]];
-        edges_of(*letter, RETURN_LINES.into_iter().chain(form), beyond)?;
-    }
-    Ok(())
-}
-
-/// Of all bytes twelve are letters, for the reader and for the writer; and no number above a byte is one.
-fn letters() -> Result<(), String> {
-    for letter in 0..=255 {
-        let known = LETTERS.contains(&letter);
-        let numbers = |above| [u64::from(letter) + above, 6, 1, 0, 2];
-        let line = text(numbers(0));
-        let wanted = if known { (0, line.len() as u64) } else { (2, 2) };
-        let found = (proved::read(&line, &mut [0; NUMBER_BYTES]), proved::write(numbers(0), &mut [b'.'; 80]));
-        same(&format!("reading and writing byte {letter} as a letter"), found, wanted)?;
-        for above in [256, 65_536, 1 << 32, 1 << 63] {
-            same(&format!("writing the letter {letter} + {above}"), proved::write(numbers(above), &mut [b'.'; 80]), 2)?;
+        for (rest, wanted) in LAST_LINES {
+            let text = format!("{}{rest}", *letter as char);
+            let told = |error| format!("{text:?}: {error}");
+            same("reading", proved::read(text.as_bytes(), &mut [0; NUMBER_BYTES]), wanted).map_err(told)?;
+            read(text.as_bytes(), &[b'.'; NUMBER_BYTES]).map_err(told)?;
+            (0..6).try_for_each(|index| column(text.as_bytes(), index, &[b'.'; 16])).map_err(told)?;
+            if wanted == 0 {
+                last_line(&text).map_err(told)?;
+            }
+        }
+        let small = format!("{},6,1,0,0000000000000002\n", letter.to_ascii_lowercase() as char);
+        same("reading a small letter", proved::read(small.as_bytes(), &mut [0; NUMBER_BYTES]), 2)?;
+        for (tick, survivors, in_flight) in [(1_000_001, 64, 2_048), (1_000_000, 65, 2_048), (1_000_000, 64, 2_049)] {
+            for room in [0, 79, 80] {
+                let numbers = [u64::from(*letter), tick, survivors, in_flight, 0];
+                same("writing out of range", proved::write(numbers, &mut [b'.'; 80][..room]), 3)?;
+            }
         }
     }
     Ok(())
@@ -451,22 +384,15 @@ fn bounds() -> Result<(), String> {
 /// The bounds, then seeded lines. Every kind of answer has to come up.
 fn compared(seed: u64, count: u64) -> Result<String, String> {
     bounds()?;
-    all_edges()?;
-    letters()?;
+    last_lines()?;
     let (mut random, mut seen) = (Random::seeded(seed), Seen::default());
     for index in 1..=count {
         case(&mut random, &mut seen).map_err(|error| format!("seed {seed}, case {index} differs\n{error}"))?;
     }
-    let Seen { accepted, form, range, passed, last: [e, f], returns: [a, b], short, alike, alike_returns } = seen;
-    let read = format!(
-        "{accepted} accepted, {passed} of them K, {e} E, {f} F, {a} A, {b} B; {form} refused by 2, {range} by 3"
-    );
-    let alike_words = format!("{alike:?} alike with E and F, {alike_returns:?} with R, A and B");
-    let words = format!(
-        "seed {seed}, {count} cases agree: {read}; {short} lines not written into 40 to 79 bytes; {alike_words}"
-    );
-    let least = alike.into_iter().chain(alike_returns).chain([e, f, a, b]).min();
-    let few = least.is_some_and(|lines| lines < count / 200);
+    let Seen { accepted, form, range, passed, last: [e, f], short, alike } = seen;
+    let read = format!("{accepted} accepted, {passed} of them K, {e} E, {f} F; {form} refused by 2, {range} by 3");
+    let words = format!("seed {seed}, {count} cases agree: {read}; {short} lines not written into 40 to 79 bytes; {alike:?} alike with E and F");
+    let few = [e, f, alike[0], alike[1]].iter().any(|lines| *lines < count / 200);
     if count >= 1_000 && (few || [accepted, form, range, passed, short].contains(&0)) {
         return Err(format!("{words}; an answer hardly came up"));
     }

@@ -1,5 +1,5 @@
-//! The log reader, columns and writer over the simulator's, with one mistake at a time about the last line's letters
-//! and about A and B: what tests/lines.rs has to find.
+//! The log reader, columns and writer over the simulator's, with one mistake at a time about the last line's letters: what tests/lines.rs
+//! has to find.
 
 use simulator::limits::*;
 use simulator::log::{self, Line};
@@ -32,33 +32,11 @@ pub enum Mistake {
     TakesShortPart,
     PartBeforeRange,
     LowByteOfLetter,
-    // A and B in the reader: no letters; read as another; other goes to 64, node to 64, or both have the ranges of E; a
-    // byte beside them.
-    ReadsNoA,
-    ReadsNoB,
-    ReadsAAsR,
-    ReadsBAsA,
-    NamedTo62,
-    NamedTo64,
-    NodeTo64,
-    RangesOfLast,
-    FourForB,
-    SmallBRead,
-    BesideARead,
-    // Their columns and the writer.
-    NoColumnsOfA,
-    LetterColumnOfR,
-    WritesNoA,
-    WritesNoB,
-    WritesBAsR,
-    WritesNamed64,
-    ShortPartForB,
-    LowByteOfA,
 }
 
 use Mistake::*;
 
-pub const MISTAKES: [Mistake; 39] = [
+pub const MISTAKES: [Mistake; 20] = [
     ReadsNoF,
     ReadsFAsE,
     OtherRangesOfF,
@@ -79,25 +57,6 @@ pub const MISTAKES: [Mistake; 39] = [
     TakesShortPart,
     PartBeforeRange,
     LowByteOfLetter,
-    ReadsNoA,
-    ReadsNoB,
-    ReadsAAsR,
-    ReadsBAsA,
-    NamedTo62,
-    NamedTo64,
-    NodeTo64,
-    RangesOfLast,
-    FourForB,
-    SmallBRead,
-    BesideARead,
-    NoColumnsOfA,
-    LetterColumnOfR,
-    WritesNoA,
-    WritesNoB,
-    WritesBAsR,
-    WritesNamed64,
-    ShortPartForB,
-    LowByteOfA,
 ];
 
 thread_local!(static MADE: Cell<Mistake> = const { Cell::new(Nothing) });
@@ -107,41 +66,28 @@ pub fn make(mistake: Mistake) {
     MADE.set(mistake);
 }
 
-/// A line F, A or B with its numbers replaced by ones in range, where a mistake takes them.
+/// A line F with its numbers replaced by ones in range, where a mistake takes them.
 fn taken(line: &[u8]) -> Option<Line> {
     let text = std::str::from_utf8(line).ok()?.strip_suffix('\n')?;
     let fields: Vec<&str> = text.split(',').collect();
-    let &[letter, tick, node, other, list] = &fields[..] else { return None };
-    let within = match (letter, MADE.get()) {
-        ("F", SurvivorsTo65) if node == "65" => format!("F,{tick},64,{other},{list}\n"),
-        ("F", InFlightTo2049) if other == "2049" => format!("F,{tick},{node},2048,{list}\n"),
-        ("F", TickTo1000001) if tick == "1000001" => format!("F,1000000,{node},{other},{list}\n"),
-        ("A" | "B", NamedTo64) if other == "64" => format!("{letter},{tick},{node},63,{list}\n"),
-        ("A" | "B", NodeTo64) if node == "64" => format!("{letter},{tick},63,{other},{list}\n"),
-        ("A" | "B", RangesOfLast) => format!("E,{tick},{node},{other},{list}\n"),
+    let &["F", tick, survivors, in_flight, list] = &fields[..] else { return None };
+    let within = match MADE.get() {
+        SurvivorsTo65 if survivors == "65" => format!("F,{tick},64,{in_flight},{list}\n"),
+        InFlightTo2049 if in_flight == "2049" => format!("F,{tick},{survivors},2048,{list}\n"),
+        TickTo1000001 if tick == "1000001" => format!("F,1000000,{survivors},{in_flight},{list}\n"),
         _ => return None,
     };
     let read = Line::read(within.as_bytes()).ok()?;
     let number = |field: &str| field.parse().ok();
-    Some(Line { letter: letter.as_bytes()[0], tick: number(tick)?, node: number(node)?, other: number(other)?, ..read })
-}
-
-/// The letter for which a mistake takes a byte that is none.
-fn letter_of(byte: u8) -> Option<u8> {
-    match (byte, MADE.get()) {
-        (b'f', SmallLetterRead) => Some(b'F'),
-        (b'b', SmallBRead) => Some(b'B'),
-        (b'@', BesideARead) => Some(b'A'),
-        _ => None,
-    }
+    Some(Line { tick: number(tick)?, node: number(survivors)?, other: number(in_flight)?, ..read })
 }
 
 fn read_line(line: &[u8]) -> Result<Line, u64> {
     if let Some(line) = taken(line) {
         return Ok(line);
     }
-    if let Some(letter) = line.first().and_then(|byte| letter_of(*byte)) {
-        return Line::read(&[&[letter], &line[1..]].concat()).map_err(u64::from);
+    if MADE.get() == SmallLetterRead && line.first() == Some(&b'f') {
+        return Line::read(&[b"F", &line[1..]].concat()).map_err(u64::from);
     }
     let read = Line::read(line).map_err(u64::from)?;
     let (survivors, in_flight) = (read.node > 63, read.other > 63);
@@ -151,11 +97,7 @@ fn read_line(line: &[u8]) -> Result<Line, u64> {
         (b'F', OtherRangesOfF) if survivors || in_flight => Err(u64::from(REFUSED_RANGE)),
         (b'F', SurvivorsTo63) if survivors => Err(u64::from(REFUSED_RANGE)),
         (b'F', InFlightTo63) if in_flight => Err(u64::from(REFUSED_RANGE)),
-        (b'F', FourForF) | (b'B', FourForB) => Err(4),
-        (b'A', ReadsNoA) | (b'B', ReadsNoB) => Err(u64::from(REFUSED_FORM)),
-        (b'A', ReadsAAsR) => Ok(Line { letter: b'R', ..read }),
-        (b'B', ReadsBAsA) => Ok(Line { letter: b'A', ..read }),
-        (b'A' | b'B', NamedTo62) if read.other == 63 => Err(u64::from(REFUSED_RANGE)),
+        (b'F', FourForF) => Err(4),
         _ => Ok(read),
     }
 }
@@ -173,8 +115,7 @@ fn read(line: &[u8], numbers: &mut [u8]) -> u64 {
 
 fn column(line: &[u8], column: u64, out: &mut [u8]) -> u64 {
     let part = match (line.first(), MADE.get()) {
-        (Some(b'F'), NoColumnsOfF) | (Some(b'A'), NoColumnsOfA) => &[][..],
-        (Some(b'A' | b'B'), LetterColumnOfR) if column == 0 && Line::read(line).is_ok() => b"R",
+        (Some(b'F'), NoColumnsOfF) => &[][..],
         (Some(b'F'), LetterColumnOfE) if column == 0 && Line::read(line).is_ok() => b"E",
         (Some(b'F'), SixthColumnOfF) if column == 5 && Line::read(line).is_ok() => b"0",
         _ => log::column(line, column as usize),
@@ -188,14 +129,12 @@ fn column(line: &[u8], column: u64, out: &mut [u8]) -> u64 {
 fn write_line(line: &Line, out: &mut [u8]) -> Result<usize, u8> {
     let short = (40..LOG_BYTES).contains(&out.len());
     match (line.letter, MADE.get()) {
-        (b'F', WritesNoF) | (b'A', WritesNoA) | (b'B', WritesNoB) => Err(REFUSED_FORM),
-        (b'B', WritesBAsR) => Line { letter: b'R', ..*line }.write(out),
-        (b'A', WritesNamed64) if line.other == 64 => Line { other: 63, ..*line }.write(out),
+        (b'F', WritesNoF) => Err(REFUSED_FORM),
         (b'F', WritesFAsE) => Line { letter: b'E', ..*line }.write(out),
         (b'F', OtherRangesWritten) if line.node > 63 || line.other > 63 => Err(REFUSED_RANGE),
         (b'F', WritesAnyNumbers) if line.other == 2_049 => Line { other: 2_048, ..*line }.write(out),
         (b'F', PartBeforeRange) if short => Err(REFUSED_PART),
-        (b'F', TakesShortPart) | (b'B', ShortPartForB) if short => {
+        (b'F', TakesShortPart) if short => {
             let mut longer = [0; LOG_BYTES];
             let size = line.write(&mut longer)?;
             out[..size].copy_from_slice(&longer[..size]);
@@ -209,7 +148,6 @@ fn write([letter, tick, node, other, list]: [u64; 5], out: &mut [u8]) -> u64 {
     let letter = match u8::try_from(letter) {
         Ok(letter) => letter,
         Err(_) if MADE.get() == LowByteOfLetter && letter as u8 == b'F' => b'F',
-        Err(_) if MADE.get() == LowByteOfA && letter as u8 == b'A' => b'A',
         Err(_) => return u64::from(REFUSED_FORM),
     };
     write_line(&Line { letter, tick, node, other, list }, out).map_or_else(u64::from, |size| size as u64)

@@ -1,5 +1,4 @@
-//! What mock.rs does wrong about marks, about the lists that heartbeats carry and about nodes that return: a rule of a
-//! node, a range, a list that is lost on its way.
+//! What mock.rs does wrong about marks and about the lists that heartbeats carry: a rule of a node, a range, a list that is lost on its way.
 
 use super::super::calls::{answer, Answer};
 use super::{is_made, Mistake, Mistake::*, MISTAKES};
@@ -8,12 +7,12 @@ use simulator::limits::*;
 use simulator::node::{Content, Node, Timer};
 use simulator::platform::{Ending, Platform};
 use simulator::queue::{Cause, Message, Pending};
-use simulator::ring::{listed, Ring};
+use simulator::ring::listed;
 use simulator::store::Held;
 
 /// The mistakes of a node's rules, which stand in a row.
 pub fn rules() -> &'static [Mistake] {
-    &MISTAKES[SenderLearnt as usize - 1..UnlistedPassedOn as usize]
+    &MISTAKES[SenderLearnt as usize - 1..LowHalfCarried as usize]
 }
 
 // ---- the rules
@@ -61,110 +60,20 @@ impl Done<'_> {
         self.messages().retain(|(_, message)| message.number < first);
     }
 
-    fn send(&mut self, sender: u8, receiver: u8, content: Content) {
-        let (plan, tick, number) = (self.after.plan(), self.after.last_tick(), self.next_number);
-        let delay = plan.delays.iter().find(|row| row.number == number).map_or(plan.delay, |row| row.delay);
-        self.messages().push((tick + delay, Message { number, sender, receiver, content }));
-        self.next_number += 1;
-    }
-
-    /// A message to the forward targets of a list.
-    fn tell(&mut self, sender: u8, list: u64, content: Content) {
-        let targets = self.after.ring().forward_targets(list, sender);
-        targets.as_slice().iter().for_each(|receiver| self.send(sender, *receiver, content));
-    }
-
     /// R of the subject to the forward targets.
     fn relay(&mut self, sender: u8, subject: u8) {
-        self.tell(sender, self.nodes[usize::from(sender)].dead_list, Content::Report { subject });
-    }
-
-    /// Sends anew what a return sends: A to this node, or none, then B to the forward targets of a list, or none; B
-    /// first where it is so made.
-    fn resend(&mut self, receiver: u8, sender: u8, named_to: Option<u8>, list: Option<u64>) {
-        self.unsend();
-        let (named, told) = (Content::NamedObserver { subject: sender }, Content::Returned { subject: sender });
-        let first = is_made(ToldBeforeNamed);
-        named_to.filter(|_| !first).into_iter().for_each(|to| self.send(receiver, to, named));
-        list.into_iter().for_each(|list| self.tell(receiver, list, told));
-        named_to.filter(|_| first).into_iter().for_each(|to| self.send(receiver, to, named));
-    }
-
-    /// The heartbeat of a listed sender.
-    fn returned(&mut self, receiver: u8, sender: u8, list: u64) {
-        let (own, tick, timeout) = (self.own(receiver), self.after.last_tick(), self.after.plan().timeout);
-        let now = *self.node(receiver);
-        let (alone, taken) = (own.emitter == receiver, now.emitter != own.emitter);
-        let by_number = Ring::of(self.after.ring().nodes());
-        let between = is_made(AnyReturnTaken) || by_number.lies_between(own.emitter, sender, receiver);
-        let named_to = (taken && !alone).then_some(own.emitter);
-        let node = self.node(receiver);
-        match () {
-            () if is_made(ReturnIgnored) => *node = own,
-            () if is_made(ReturnedStillMarked) => node.mark = own.mark,
-            () if is_made(ReturnedStillListed) && !taken => (node.dead_list, node.mark) = (own.dead_list, own.mark),
-            () if is_made(ReturnedListAdded) => {
-                node.dead_list |= list & !(1 << receiver | 1 << sender | 1 << node.emitter)
-            }
-            () if (is_made(AnyReturnTaken) || is_made(ReturnByNumber) && !alone) && between => {
-                (node.emitter, node.watch) = (sender, Some(tick + timeout));
-            }
-            () if is_made(ReturnByNumber) && !alone => (node.emitter, node.watch) = (own.emitter, own.watch),
-            () if is_made(ReturnNotTaken) && !alone => (node.emitter, node.watch) = (own.emitter, own.watch),
-            () if is_made(LongWatchAtReturn) && taken => node.watch = Some(tick + 2 * timeout),
-            () if is_made(AloneNotTaken) && alone => *node = Node { dead_list: node.dead_list, mark: node.mark, ..own },
-            () if is_made(AloneKeepsObserver) && alone => {
-                (node.observer, node.heartbeat) = (own.observer, own.heartbeat)
-            }
-            () => {}
-        }
-        let after = self.node(receiver).dead_list;
-        match () {
-            () if is_made(ReturnIgnored) => self.unsend(),
-            () if is_made(NamedByAlone) && alone && own.observer != receiver => {
-                self.resend(receiver, sender, Some(own.observer), Some(after));
-            }
-            () if is_made(NamedToNewEmitter) => self.resend(receiver, sender, named_to.map(|_| sender), Some(after)),
-            () if is_made(NamedNotSent) => self.resend(receiver, sender, Option::None, Some(after)),
-            () if is_made(ToldBeforeNamed) => self.resend(receiver, sender, named_to, Some(after)),
-            () if is_made(ToldByListBefore) => self.resend(receiver, sender, named_to, Some(own.dead_list)),
-            () if is_made(ReturnNotTold) => self.resend(receiver, sender, named_to, Option::None),
-            () => {}
-        }
-    }
-
-    /// An A.
-    fn named(&mut self, receiver: u8, sender: u8, subject: u8) {
-        let (own, tick) = (self.own(receiver), self.after.last_tick());
-        let node = self.node(receiver);
-        match () {
-            () if is_made(NamedItselfObeyed) && subject == receiver => {
-                (node.observer, node.heartbeat) = (receiver, Some(tick))
-            }
-            () if is_made(SenderForNamed) && subject != receiver => node.observer = sender,
-            () if is_made(NamedNotDue) => node.heartbeat = own.heartbeat.filter(|_| node.observer != receiver),
-            () => {}
-        }
-    }
-
-    /// A B.
-    fn told(&mut self, receiver: u8, subject: u8) {
-        let own = self.own(receiver);
-        if is_made(ToldStillMarked) {
-            self.node(receiver).mark = own.mark;
-        }
-        if is_made(ToldNotPassedOn) {
-            self.unsend();
-        }
-        if is_made(UnlistedPassedOn) && !listed(own.dead_list, subject) && subject != receiver {
-            self.tell(receiver, own.dead_list, Content::Returned { subject });
+        let targets = self.after.ring().forward_targets(self.nodes[usize::from(sender)].dead_list, sender);
+        let (plan, tick) = (self.after.plan(), self.after.last_tick());
+        for receiver in targets.as_slice() {
+            let number = self.next_number;
+            let delay = plan.delays.iter().find(|row| row.number == number).map_or(plan.delay, |row| row.delay);
+            let message = Message { number, sender, receiver: *receiver, content: Content::Report { subject } };
+            self.messages().push((tick + delay, message));
+            self.next_number += 1;
         }
     }
 
     fn heartbeat(&mut self, receiver: u8, sender: u8, list: u64) {
-        if listed(self.own(receiver).dead_list, sender) {
-            return self.returned(receiver, sender, list);
-        }
         let (own, now) = (self.own(receiver), self.own(sender).dead_list);
         let (itself, from) = (1u64 << receiver, 1u64 << sender);
         let old = own.dead_list;
@@ -245,8 +154,6 @@ impl Done<'_> {
             Cause::Message(Message { sender, receiver, content, .. }) => match content {
                 Content::Heartbeat { list } => self.heartbeat(receiver, sender, list),
                 Content::Report { subject } => self.report(receiver, subject),
-                Content::NamedObserver { subject } => self.named(receiver, sender, subject),
-                Content::Returned { subject } => self.told(receiver, subject),
                 Content::NewObserver => {}
             },
             Cause::Timer { node, timer: Timer::Watch } => self.watch(node),
@@ -306,42 +213,16 @@ pub fn overlook(store: &mut [u8]) {
         put(store, MARK, place, seen);
     }
     for place in 0..(get(store, MESSAGES, 0) as usize).min(MAX_IN_FLIGHT) {
-        overlook_return(store, place);
         let (kind, list) = (get(store, MESSAGE_KIND, place) as u8, get(store, MESSAGE_LIST, place));
         let seen = match kind {
             b'H' if is_made(CarriedBeyondNotLookedAt) => list & all,
             b'O' if is_made(ListOfNewObserverNotLookedAt) => 0,
             b'R' if is_made(ListOfReportNotLookedAt) => 0,
-            b'A' | b'B' if is_made(ListOfReturnNotLookedAt) => 0,
             b'O' | b'R' if is_made(ListInRangeNotLookedAt) && list & !all == 0 => 0,
             _ => list,
         };
         put(store, MESSAGE_LIST, place, seen);
     }
-}
-
-/// Takes the subject of an A or B into its range, or a kind beside these for one of them, where the call does not look
-/// at it.
-fn overlook_return(store: &mut [u8], place: usize) {
-    let (kind, nodes, subject) =
-        (get(store, MESSAGE_KIND, place) as u8, get(store, NODES, 0), get(store, MESSAGE_SUBJECT, place));
-    match kind {
-        b'A' | b'B' if is_made(SubjectOfReturnNotLookedAt) && subject >= nodes => put(store, MESSAGE_SUBJECT, place, 0),
-        b'@' if is_made(KindBesideTaken) => put(store, MESSAGE_KIND, place, u64::from(b'A')),
-        _ => {}
-    }
-}
-
-/// Whether a message of this kind is in flight.
-pub fn is_in_flight(store: &[u8], kind: u8) -> bool {
-    (0..(get(store, MESSAGES, 0) as usize).min(MAX_IN_FLIGHT))
-        .any(|place| get(store, MESSAGE_KIND, place) as u8 == kind)
-}
-
-/// The sender of the message that is delivered next.
-pub fn sender_of_next(store: &[u8]) -> u64 {
-    let next = (0..get(store, MESSAGES, 0) as usize).min_by_key(|place| (get(store, MESSAGE_DUE, *place), *place));
-    next.map_or(0, |place| get(store, MESSAGE_SENDER, place))
 }
 
 // ---- lists on their way
@@ -360,13 +241,6 @@ pub fn mislay(before: &[u8], store: &mut [u8], long_run: bool) {
     let of_sender = |store: &[u8], place: usize| get(store, DEAD_LIST, get(store, MESSAGE_SENDER, place) as usize);
     match () {
         () if is_made(ListOnReport) => relist(store, first, |store, kind, list, place| if kind == b'R' { of_sender(store, place) } else { list }),
-        () if is_made(ListOnReturn) => {
-            relist(
-                store,
-                first,
-                |store, kind, list, place| if matches!(kind, b'A' | b'B') { of_sender(store, place) } else { list },
-            );
-        }
         () if is_made(ListOnNewObserver) => {
             relist(store, first, |store, kind, list, place| if kind == b'O' { of_sender(store, place) } else { list });
         }

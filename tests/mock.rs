@@ -1,6 +1,5 @@
 //! The platform's four calls over the simulator and its store, with one mistake at a time: what tests/platform.rs has to find. With none, they
-//! are the other calls beside tests/dispatch_mock.rs. Mistakes about marks and lists, and about nodes that return, are
-//! made by lists_mock.rs.
+//! are the other calls beside tests/dispatch_mock.rs. Mistakes about marks and lists are made by lists_mock.rs.
 #![allow(dead_code)]
 
 #[path = "lists_mock.rs"]
@@ -29,7 +28,7 @@ macro_rules! mistakes {
             $($name,)*
         }
 
-        pub const MISTAKES: [Mistake; 147] = [$($name,)*];
+        pub const MISTAKES: [Mistake; 117] = [$($name,)*];
     };
 }
 
@@ -112,40 +111,7 @@ mistakes! {
     NothingCarried,
     MarkCarried,
     LowHalfCarried,
-    // A heartbeat of a listed sender.
-    ReturnIgnored,
-    ReturnedStillMarked,
-    ReturnedStillListed,
-    ReturnedListAdded,
-    AnyReturnTaken,
-    ReturnNotTaken,
-    ReturnByNumber,
-    LongWatchAtReturn,
-    AloneNotTaken,
-    AloneKeepsObserver,
-    NamedByAlone,
-    NamedToNewEmitter,
-    NamedNotSent,
-    ToldBeforeNamed,
-    ToldByListBefore,
-    ReturnNotTold,
-    // A and B.
-    NamedItselfObeyed,
-    SenderForNamed,
-    NamedNotDue,
-    ToldStillMarked,
-    ToldNotPassedOn,
-    UnlistedPassedOn,
-    // Their ranges and their lines.
-    SubjectOfReturnNotLookedAt,
-    ListOfReturnNotLookedAt,
-    SevenForNamed,
-    SevenForTold,
-    KindBesideTaken,
-    PassedAtReturn,
-    SenderOnLineOfReturn,
-    ListOnReturn,
-    // The ranges of marks and of lists that heartbeats carry.
+    // Their ranges.
     MarkNotLookedAt,
     MarkOfCrashedNotLookedAt,
     MarkBeyondNotLookedAt,
@@ -303,8 +269,6 @@ fn seven(call: Call, store: &[u8]) -> bool {
     let below_period = get(store, TIMEOUT, 0) < get(store, PERIOD, 0);
     last_letter(store) == b'F' && (by_call || is_made(SevenForShort) || is_made(SevenBelowPeriod) && below_period)
         || is_made(SevenWhereLiveListed) && live_listed(store, false)
-        || is_made(SevenForNamed) && lists::is_in_flight(store, b'A')
-        || is_made(SevenForTold) && lists::is_in_flight(store, b'B')
 }
 
 /// Whether a live node is listed, by any node or by a live one.
@@ -382,11 +346,6 @@ fn mislead(lines: &mut Vec<Line>, before: &[u8], after: &[u8]) {
         }
     } else if is_made(PassedWhereEmitterStays) && own.letter == b'R' && left == emitter {
         lines.push(Line { letter: b'K', other: 0, ..own });
-    } else if is_made(PassedAtReturn) && own.letter == b'H' && left != emitter {
-        lines.push(Line { letter: b'K', other: 1, ..own });
-    }
-    if is_made(SenderOnLineOfReturn) && matches!(own.letter, b'A' | b'B') {
-        lines[0].other = lists::sender_of_next(before);
     }
     if is_made(PassedBeforeOwnLine) {
         lines.reverse();

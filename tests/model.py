@@ -3,7 +3,7 @@ log which `model` defines has the simulator's bytes. The checker proves each by 
 
 Usage: model.py SIMULATE EDGES SEED COUNT FILE.., the simulator's program and the crate of the starred edges: the imports of its table and of
 its proof, and the proof's unfoldings, serve here too. COUNT random files and those named. Writes the proof file to standard output, and how
-many of the logs end in E and in F, and how many lines A and B they have, to standard error.
+many of the logs end in E and in F to standard error.
 """
 import os
 import random
@@ -66,13 +66,10 @@ own = ["use Rattle.edges.specs.Edges.{" + name + "}" for name in ("bytes", "judg
 print("\n".join([*imports(table, proof, *own), "", *written_of(table), ""]))
 files = [run_file(case) for case in range(count)] + [read(path) for path in named]
 ends = {"E": 0, "F": 0}
-returns = {"A": 0, "B": 0}
 for case, file in enumerate(files):
     log = subprocess.run([simulate], input=file.encode(), capture_output=True, check=True).stdout.decode()
     ends[log.splitlines()[-1][0]] += 1
-    for letter in returns:
-        returns[letter] += sum(line.startswith(letter) for line in log.splitlines())
     tries = log.count("\n") - log.count("\nK")
     print(f"case-{case} : written_by {tries} (judged {literal(file)}) ≡ bytes {literal(log)}")
     print(f"unfolding {unfolded} written_by\ncase-{case} = refl\n")
-print(ends["E"], ends["F"], returns["A"], returns["B"], file=sys.stderr)
+print(ends["E"], ends["F"], file=sys.stderr)

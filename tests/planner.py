@@ -6,12 +6,10 @@ REHEARSE names another rehearsal program.
 
 Where the end tick comes first, the file is rehearsed once more up to the bound, by which all must know. A log that ends in 8,0 says nothing of
 what would have come. Of a W below H + D, a short one, the log says which live nodes are listed: its C lines who has
-crashed, its last column who is listed, and who is no longer. Of a longer one it must say that none is, and it may have
-neither A nor B.
+crashed, its last column who is listed. Of a longer one it must say that none is.
 """
 import os
 import random
-import re
 import subprocess
 import sys
 
@@ -22,20 +20,12 @@ MEANINGS = {
 }
 KNOWN, NOT_YET, FALSE, REFUSED = range(4)
 WORDS = ["", "not yet", "false", "refused"]
-LISTINGS = (
-    "first: tick at which a live node is first listed, live: the most at one time, false: events that list one,\n"
-    "back: events that clear a live node from a list, still: live nodes that are listed at the end"
-)
-COLUMNS = "     first    live   false    back   still\n"
-NO_LISTING = None, 0, 0, 0, 0
+LISTINGS = "first: tick at which a live node is first listed, live: the most at one time, false: events that list one"
 # Shapes of generated files, one after another: two thirds have a long W.
 SHAPES = [shape for short in ("quick", "late", "full", "quiet", "short") for shape in ("long", short, "long")]
 NOTHING = "nothing to rehearse: no node crashes\n"
 # What generated files have to come to.
-WANTED = {
-    "not yet", "false", "refused", "never", "after tick", "Q,", "no crash", "short and ticks", "mixed", "order", "some back",
-    "all back",
-}
+WANTED = {"not yet", "false", "refused", "never", "after tick", "Q,", "no crash", "short and ticks", "mixed", "order"}
 
 
 def run(program, text):
@@ -72,10 +62,9 @@ def follow(log, nodes, crashed):
 
 
 def listings(log, nodes):
-    """The first tick at which a live node is listed; the most of them at one time; how many events list one and how many clear
-    one; how many are listed in the end."""
+    """The first tick at which a live node is listed; the most of them at one time; how many events list one."""
     lists, alive = dict.fromkeys(range(nodes), 0), set(range(nodes))
-    first, most, count, back, still = NO_LISTING
+    first, most, count = None, 0, 0
     for letter, tick, node, now in events_of(log):
         if letter == "C":
             alive.remove(node)
@@ -83,13 +72,11 @@ def listings(log, nodes):
             continue
         if any(now >> other & 1 and not lists[node] >> other & 1 for other in alive):
             first, count = tick if first is None else first, count + 1
-        back += any(lists[node] >> other & 1 and not now >> other & 1 for other in alive)
         lists[node], together = now, 0
         for by in alive:
             together |= lists[by]
-        still = sum(together >> other & 1 for other in alive)
-        most = max(most, still)
-    return first, most, count, back, still
+        most = max(most, sum(together >> other & 1 for other in alive))
+    return first, most, count
 
 
 def nodes_text(nodes):
@@ -130,10 +117,8 @@ def outcome(plan, w, shift):
     log = log_of(nodes, h, w, d, end, ring, crashes, delays)
     known, lists = follow(log, nodes, crashed)
     listed = listings(log, nodes)
-    if not short and listed != NO_LISTING:
+    if not short and listed != (None, 0, 0):
         sys.exit(f"planner: W {w} shift {shift}: a live node is listed")
-    if not short and any(letter in "AB" for letter, _, _, _ in events_of(log)):
-        sys.exit(f"planner: W {w} shift {shift}: a node returns")
     if len(log[-1]) == 2 and log[-1] != ["8", "0"]:
         return REFUSED, 0, None, refusal(log, short)
     if len(log[-1]) == 2 and (short or known is None or not crashes):
@@ -154,7 +139,7 @@ def outcome(plan, w, shift):
 def rank(found):
     """How bad it is."""
     kind, ticks, listed, _ = found
-    first, most, count, _, _ = listed or NO_LISTING
+    first, most, count = listed or (None, 0, 0)
     return kind, ticks if kind == KNOWN else 0, most, count, -(first or 0)
 
 
@@ -162,9 +147,9 @@ def column(shift, found):
     return f"{found[1] if found[0] == KNOWN else WORDS[found[0]]:>10}{shift:>8}"
 
 
-def five(listed):
-    first, *others = listed or "-----"
-    return f"{'never' if first is None else first:>10}" + "".join(f"{other:>8}" for other in others)
+def three(listed):
+    first, most, count = listed or "---"
+    return f"{'never' if first is None else first:>10}{most:>8}{count:>8}"
 
 
 def read(text):
@@ -182,10 +167,10 @@ def rows_of(plan):
 
 
 def quiet_table(plan, time_outs):
-    table = f"No node crashes: each node that is listed lives\n{LISTINGS}\n     W{COLUMNS}"
+    table = f"No node crashes: each node that is listed lives\n{LISTINGS}\n     W     first    live   false\n"
     for w in time_outs:
         _, _, listed, why = outcome(plan, w, 0)
-        table += f"{w:>6}{five(listed)}{why}\n"
+        table += f"{w:>6}{three(listed)}{why}\n"
     return table
 
 
@@ -201,7 +186,7 @@ def tables(text, time_outs):
         f"Ticks from the last crash until every survivor lists {nodes_text(node for _, node in crashes)}"
         f", with the crashes shifted by 0 to {h - 1} ticks\n"
     )
-    right = COLUMNS if short else "\n"
+    right = "     first    live   false\n" if short else "\n"
     each = head + f"{LISTINGS}\n" * short + "     W     ticks   shift     bound" + right
     table = head + f"{LISTINGS}; of the worst\n" * short
     table += "     W     worst   shift      best   shift     bound" + right
@@ -210,7 +195,7 @@ def tables(text, time_outs):
         ranks = [rank(one) for one in found]
         worst, best = ranks.index(max(ranks)), ranks.index(min(ranks))
         by = f"{bound(nodes, h, w, d, len(crashes)) if h + d <= w <= 65535 else 'none':>10}"
-        ends = [by + five(listed) * short + why + "\n" for _, _, listed, why in found]
+        ends = [by + three(listed) * short + why + "\n" for _, _, listed, why in found]
         table += f"{w:>6}{column(worst, found[worst])}{column(best, found[best])}{ends[worst]}"
         each += "".join(f"{w:>6}{column(shift, one)}{ends[shift]}" for shift, one in enumerate(found))
     return table, each
@@ -266,12 +251,6 @@ def time_outs_for(numbers, text):
     return numbers.choice([[], [], few])
 
 
-def returns_in(text, crashes):
-    """What the rows of short time-outs say of live nodes that came back: whether others are listed still."""
-    rows = re.findall(("none" if crashes else "^ *[0-9]+") + " +([0-9]+)" * 5 + "(?:  |$)", text, re.MULTILINE)
-    return {"some back" if int(still) > 0 else "all back" for _, _, _, back, still in rows if int(back) > 0}
-
-
 def met_in(text, time_outs, table, each):
     """What of WANTED comes up: words in rows, and kinds of files and tables."""
     _, h, _, d, _, _, crashes, _ = read(text)
@@ -282,7 +261,7 @@ def met_in(text, time_outs, table, each):
     met |= {"no crash"} if table and not crashes else set()
     met |= {"mixed"} if len({int(row[0]) < h + d for row in rows}) == 2 else set()
     met |= {"short and ticks"} if any(int(row[0]) < h + d and row[1].isdigit() for row in rows) and crashes else set()
-    return met | returns_in(table + each, crashes) | ({"order"} if time_outs != sorted(time_outs) else set())
+    return met | ({"order"} if time_outs != sorted(time_outs) else set())
 
 
 def against(program, seed, count):

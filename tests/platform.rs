@@ -2,11 +2,10 @@
 //! Every call must give the same answer and leave the same lent bytes and the same numbers behind its pointers: on files good and
 //! damaged, on steps and runs mixed at random, on runs of any budget from any place of a file, on stores of which every single byte is
 //! changed in turn, those of the ring's order, of marks and of carried lists in more ways, on lent stores that no file leads to, and on 01's
-//! edges and 02's of a Q line, of reported emitters, of the number of nodes passed, of the lists that heartbeats carry,
-//! of a W below H + D and of listed nodes that return. The lines K of every step are also counted once more, from its
-//! lines alone, and the letter of every last line goes by the bytes of H, W and D. Of what a store holds that a file
-//! with W at least H + D led to, the words of demand 3 and of requests 106 and 107 are asked, and that it has no A or
-//! B; with less a live node may be listed, and all else holds: the store is in range, and the file comes back.
+//! edges and 02's of a Q line, of reported emitters, of the number of nodes passed, of the lists that heartbeats carry and of a W below H + D. The
+//! lines K of every step are also counted once more, from its lines alone, and the letter of every last line goes by the bytes of H, W and
+//! D. Of what a store holds that a file with W at least H + D led to, the words of demand 3 and of requests 106 and 107 are asked; with less
+//! a live node may be listed, and all else holds: the store is in range, and the file comes back.
 //!
 //! Usage: platform [SEED [COUNT]]. A difference prints its seed and index, the call and the file, and the program fails.
 //!
@@ -67,8 +66,6 @@ struct Seen {
     done: u64,
     /// Reports that moved a node, with W at least H + D and with less; and steps by which one did so and left the node alone.
     reported: [u64; 2],
-    /// Heartbeats of listed senders in runs, with W at least H + D, which are on lent stores, and with less.
-    returned: [u64; 2],
     alone: u64,
     /// Moves by steps, whose lines K are counted once more.
     moves: Moves,
@@ -106,7 +103,6 @@ impl Seen {
             spent: 0,
             done: 0,
             reported: [0; 2],
-            returned: [0; 2],
             alone: 0,
             moves: Moves::NONE,
             owed: [0; 3],
@@ -141,7 +137,6 @@ impl Seen {
         let owed = [settling, settle::joining_tick_passed(&mut platform), settle::listing_tick_passed(&mut platform)];
         self.owed.iter_mut().zip(owed).for_each(|(count, owed)| *count += u64::from(owed));
         let told = match () {
-            () if platform.messages().iter().any(|(_, message)| is_named_return(message.content)) => "a return is told",
             () if !settle::no_live_node_listed(platform.nodes()) => "a live node is listed",
             () if !settle::demand_3(&mut platform) => "the ring is not settled",
             () if !settle::request_106(&mut platform) => "survivors are not joined",
@@ -167,7 +162,7 @@ impl Seen {
         let (letter, node, subject) = (answer[1] as u8, answer[3] as usize, answer[4] as u8);
         let [own, now] = [before, platform.nodes()].map(|nodes| nodes.get(node));
         let (Some(own), Some(now)) = (own, now) else { return };
-        self.learnt += u64::from(letter == b'H' && now.dead_list & !own.dead_list != 0);
+        self.learnt += u64::from(letter == b'H' && own.dead_list != now.dead_list);
         self.named += u64::from(letter == b'R' && listed(own.dead_list, subject) && own.mark != now.mark);
     }
 
@@ -200,7 +195,6 @@ impl Seen {
     fn call(&mut self, call: Call, store: &mut Lent, part: &mut Lent, held: &mut Option<Held>) -> Result<Answer, String> {
         let (before, mut part_left) = (store.part().to_vec(), part.part().to_vec());
         let reported = held.as_ref().map_or(0, |held| held.platform.moves_by_report());
-        let returned = held.as_ref().map_or(0, |held| held.platform.returns());
         let recount = held.as_ref().filter(|_| call == Call::Step).map(|held| Recount::standing(&held.platform));
         let nodes = held.as_ref().filter(|_| call == Call::Step).map(|held| held.platform.nodes().to_vec());
         let letter = held.as_ref().map(|_| last_letter(&before));
@@ -208,9 +202,6 @@ impl Seen {
         if let Some(platform) = held.as_ref().map(|held| &held.platform).filter(|platform| platform.moves_by_report() > reported) {
             self.reported[usize::from(letter == Some(b'F'))] += platform.moves_by_report() - reported;
             self.alone += u64::from(call == Call::Step && platform.nodes()[wanted[3] as usize].emitter == wanted[3] as u8);
-        }
-        if let (Some(held), Call::Run { .. }) = (&held, call) {
-            self.returned[usize::from(letter == Some(b'F'))] += held.platform.returns() - returned;
         }
         let store_left = held.as_ref().map_or(before, Held::encode);
         let answer = proved::call(call, store.part_mut(), part.part_mut());
@@ -237,11 +228,6 @@ impl Seen {
         }
         Ok(answer)
     }
-}
-
-/// Whether a message tells of a return: A or B.
-fn is_named_return(content: Content) -> bool {
-    matches!(content, Content::NamedObserver { .. } | Content::Returned { .. })
 }
 
 // ---- generated files, steps and runs mixed at random
@@ -326,8 +312,7 @@ fn lent_sequence(seen: &mut Seen, bytes: &[u8], random: &mut Random) -> Result<(
     Ok(())
 }
 
-/// Whether the next event moves an emitter, lists what a heartbeat names, relays a report of a node that is listed, or
-/// is a return, an A or a B.
+/// Whether the next event moves an emitter, lists what a heartbeat names, or relays a report of a node that is listed.
 fn tells(platform: &Platform) -> bool {
     let mut after = platform.clone();
     let Step::Event(Event { line, passed }) = after.step() else { return false };
@@ -335,7 +320,6 @@ fn tells(platform: &Platform) -> bool {
     match line.letter {
         b'H' => own.dead_list != now.dead_list,
         b'R' => passed.is_some() || listed(own.dead_list, line.other as u8) && own.mark != now.mark,
-        b'A' | b'B' => true,
         _ => passed.is_some(),
     }
 }
@@ -551,75 +535,25 @@ fn platform_after(file: &str, events: u64) -> Platform {
     platform
 }
 
-/// A store of a file in which messages of all five kinds are in flight, and the place of the last one of each. O and R
-/// are where a watch has expired; of the last two heartbeats, whose lists are empty, one is made an A and the other a
-/// B.
-fn all_kinds(file: &str) -> (Vec<u8>, [usize; 5]) {
-    let mut platform = platform_of(file.as_bytes());
-    while platform.messages().iter().all(|(_, message)| message.content != Content::NewObserver) {
-        assert!(matches!(platform.step(), Step::Event(_)), "an emitter is left");
-    }
-    let mut bytes = store::encode(&platform);
-    let kind = |bytes: &[u8], place: usize| layout::get(bytes, layout::MESSAGE_KIND, place) as u8;
-    let last = |bytes: &[u8], letter| {
-        (0..platform.in_flight()).rev().find(|place| kind(bytes, *place) == letter).expect("each kind is in flight")
-    };
-    for letter in *b"AB" {
-        let heartbeat = last(&bytes, b'H');
-        layout::put(&mut bytes, layout::MESSAGE_KIND, heartbeat, u64::from(letter));
-    }
-    let places = b"HORAB".map(|letter| last(&bytes, letter));
-    (bytes, places)
-}
-
-/// Rings of five, of 63 and of 64 nodes in which a node crashes.
-const CRASHING: [&str; 4] = [MIDST, ORDERED, "P,63,2,6,3,60\nC,5,3\n", "P,64,2,6,3,60\nC,5,3\n"];
-
-/// An H may carry any nodes below N, its sender and its receiver among them; a node from N on is refused by 7, and so
-/// is any list of another kind. All five kinds are in flight, in rings of five, of 63 and of 64 nodes.
+/// An H may carry any nodes below N, its sender and its receiver among them; a node from N on is refused by 7, and so is any list of an O or R.
+/// All three kinds are in flight, in rings of five, of 63 and of 64 nodes.
 fn changed_lists(seen: &mut Seen) -> Result<(), String> {
-    for file in CRASHING {
-        let (bytes, places) = all_kinds(file);
-        let all = u64::MAX >> (64 - layout::get(&bytes, layout::NODES, 0));
+    for file in [MIDST, ORDERED, "P,63,2,6,3,60\nC,5,3\n", "P,64,2,6,3,60\nC,5,3\n"] {
+        let mut platform = platform_of(file.as_bytes());
+        while platform.messages().iter().all(|(_, message)| message.content != Content::NewObserver) {
+            platform.step();
+        }
+        let (bytes, nodes) = (store::encode(&platform), platform.plan().nodes);
+        let all = u64::MAX >> (64 - nodes);
         let kind = |place: usize| layout::get(&bytes, layout::MESSAGE_KIND, place) as u8;
+        let last = |letter| (0..platform.in_flight()).rev().find(|place| kind(*place) == letter);
+        let places = b"HOR".map(|letter| last(letter).expect("each kind is in flight"));
         let single = |place| (0..64).map(move |node| (place, 1 << node));
-        gets(seen, &bytes, 0)?;
         for (place, list) in places.into_iter().chain([0]).flat_map(single).chain([(places[0], all)]) {
             let mut changed = bytes.clone();
             layout::put(&mut changed, layout::MESSAGE_LIST, place, list);
             let number = if kind(place) == b'H' && list & !all == 0 { 0 } else { REFUSED_STORE };
             gets(seen, &changed, number).map_err(|error| format!("message {place} carries {list:x}: {error}\n{}", shown(file.as_bytes())))?;
-        }
-    }
-    Ok(())
-}
-
-/// Of all bytes five are kinds of message; and of each kind every subject below N is in range, the receiver among them,
-/// and none from N on.
-fn changed_kinds(seen: &mut Seen) -> Result<(), String> {
-    use layout::*;
-    for file in CRASHING {
-        let (bytes, places) = all_kinds(file);
-        let nodes = get(&bytes, NODES, 0);
-        for (place, kind) in places.into_iter().flat_map(|place| (0..=255).map(move |kind| (place, kind))) {
-            let mut changed = bytes.clone();
-            put(&mut changed, MESSAGE_KIND, place, kind);
-            put(&mut changed, MESSAGE_LIST, place, 0);
-            let number = if b"HORAB".contains(&(kind as u8)) { 0 } else { REFUSED_STORE };
-            gets(seen, &changed, number)
-                .map_err(|error| format!("message {place} of kind {kind}: {error}\n{}", shown(file.as_bytes())))?;
-        }
-        for place in places {
-            let [receiver, sender] = [MESSAGE_RECEIVER, MESSAGE_SENDER].map(|field| get(&bytes, field, place));
-            for subject in [0, 1, receiver, sender, nodes - 1, nodes, nodes + 1, 62, 63, 64, 65, 127, 128, 254, 255] {
-                let mut changed = bytes.clone();
-                put(&mut changed, MESSAGE_SUBJECT, place, subject);
-                let number = if subject < nodes { 0 } else { REFUSED_STORE };
-                gets(seen, &changed, number)
-                    .map_err(|error| format!("message {place} of {subject}: {error}\n{}", shown(file.as_bytes())))?;
-                put(&mut changed, MESSAGE_SENDER, place, receiver);
-                gets(seen, &changed, REFUSED_STORE).map_err(|error| format!("message {place} to its sender: {error}"))?;
-            }
         }
     }
     Ok(())
@@ -1112,198 +1046,12 @@ fn named_before_reports(seen: &mut Seen) -> Result<(), String> {
     same("eight joined after", holds_from(seen, Claim::Joined, file, 3 + 31)?, 31)
 }
 
-/// A step on a lent store: its lines; the fields of a node after it, emitter, observer, watch, heartbeat, list and
-/// mark; and what was sent, kind, receiver and subject.
-type Returned<'a> = (&'a str, [u64; 6], &'a [(u8, u64, u64)]);
-
-/// A store of this file at tick 3 with these fields of a node and these messages to it, due at tick 3.
-fn about_to_return(file: &str, node: Node, messages: &[(u8, Content)]) -> Lent {
-    let opened = platform_of(file.as_bytes());
-    let mut nodes = opened.nodes().to_vec();
-    nodes[usize::from(node.number)] = node;
-    let message = |(number, (sender, content)): (u64, &(u8, Content))| {
-        (3, Message { number, sender: *sender, receiver: node.number, content: *content })
-    };
-    let messages: Vec<(u32, Message)> = (0..).zip(messages).map(message).collect();
-    let next_number = messages.len() as u64;
-    Lent::new(&store::encode(&Platform::resume(opened.plan().clone(), nodes, messages, next_number, 0, 3)))
-}
-
-/// Steps on the store, one after another, each as it is worked by hand; a run of as many events leaves the same.
-fn steps_at_returns(seen: &mut Seen, store: &Lent, node: usize, steps: &[Returned]) -> Result<(), String> {
-    use layout::*;
-    let (mut by_run, mut by_steps, mut held) = (store.clone(), store.clone(), store::decode(store.part()));
-    let mut held_by_run = held.clone();
-    for (lines, fields, sent) in steps {
-        let mut part = Lent::filled(LOG_BYTES);
-        let first = get(by_steps.part(), NEXT_NUMBER, 0);
-        let answer = seen.call(Call::Step, &mut by_steps, &mut part, &mut held)?;
-        same(
-            "the step",
-            String::from_utf8_lossy(&part.part()[..(answer[5] as usize).min(LOG_BYTES)]).as_ref(),
-            *lines,
-        )?;
-        let column = |field, place| get(by_steps.part(), field, place);
-        same(lines, [EMITTER, OBSERVER, WATCH, HEARTBEAT, DEAD_LIST, MARK].map(|field| column(field, node)), *fields)?;
-        let new = (0..column(MESSAGES, 0) as usize).filter(|place| column(MESSAGE_NUMBER, *place) >= first);
-        let found: Vec<(u8, u64, u64)> = new
-            .map(|place| {
-                (column(MESSAGE_KIND, place) as u8, column(MESSAGE_RECEIVER, place), column(MESSAGE_SUBJECT, place))
-            })
-            .collect();
-        same(lines, &found[..], *sent)?;
-    }
-    seen.call(Call::Run { budget: steps.len() as u64 }, &mut by_run, &mut Lent::filled(0), &mut held_by_run)?;
-    by_run.holds("store", by_steps.part())
-}
-
-/// Node 3 of eight, in the order 2, 5, 0, 7, 3, 6, 1, 4, lists 0, 7, 1 and 4, of which it has marked all but 4, and
-/// observes 5. At tick 3:
-///
-/// - 1 does not lie between 5 and 3: it is cleared, and 6, 1 and 5 are told. All nodes are on the list that it carries,
-///   which plays no part.
-/// - 0 lies there: it is observed, 5 is told whom it has to send to, then 6, 1 and 5 that 0 is back.
-/// - A makes 6 the observer, at once. An A that names 3 does nothing.
-/// - B of 4, which is listed and not marked, is passed on to 6, 1 and 2. Once more it does nothing, nor does a B of 3
-///   or of 0.
-/// - 7 lies between 0 and 3: likewise. Then it is the emitter, and what it carries is added.
-fn returned_between(seen: &mut Seen) -> Result<(), String> {
-    let file = "P,8,5,20,6,90\nQ,2,5,0,7,3,6,1,4\n";
-    let (named, told) = (|subject| Content::NamedObserver { subject }, |subject| Content::Returned { subject });
-    let beat = |list| Content::Heartbeat { list };
-    let node = Node { emitter: 5, dead_list: 0x93, mark: 0x83, ..platform_of(file.as_bytes()).nodes()[3] };
-    let messages = [
-        (1, beat(0xff)),
-        (0, beat(0xff)),
-        (5, named(6)),
-        (6, named(3)),
-        (2, told(4)),
-        (1, told(4)),
-        (1, told(3)),
-        (1, told(0)),
-        (7, beat(0)),
-        (7, beat(0x8a)),
-    ];
-    let (a, b) = (|to, subject| (b'A', to, subject), |to, subject| (b'B', to, subject));
-    let store = about_to_return(file, node, &messages);
-    steps_at_returns(seen, &store, 3, &[
-        ("H,3,3,1,0000000000000091\n", [5, 6, 21, 6, 0x91, 0x81], &[b(6, 1), b(1, 1), b(5, 1)]),
-        ("H,3,3,0,0000000000000090\n", [0, 6, 24, 6, 0x90, 0x80], &[a(5, 0), b(6, 0), b(1, 0), b(5, 0)]),
-        ("A,3,3,6,0000000000000090\n", [0, 6, 24, 4, 0x90, 0x80], &[]),
-        ("A,3,3,3,0000000000000090\n", [0, 6, 24, 4, 0x90, 0x80], &[]),
-        ("B,3,3,4,0000000000000080\n", [0, 6, 24, 4, 0x80, 0x80], &[b(6, 4), b(1, 4), b(2, 4)]),
-        ("B,3,3,4,0000000000000080\n", [0, 6, 24, 4, 0x80, 0x80], &[]),
-        ("B,3,3,3,0000000000000080\n", [0, 6, 24, 4, 0x80, 0x80], &[]),
-        ("B,3,3,0,0000000000000080\n", [0, 6, 24, 4, 0x80, 0x80], &[]),
-        ("H,3,3,7,0000000000000000\n", [7, 6, 24, 4, 0, 0], &[a(0, 7), b(6, 7), b(1, 7), b(2, 7)]),
-        ("H,3,3,7,0000000000000002\n", [7, 6, 24, 4, 0x02, 0], &[]),
-        ("S,3,3,6,0000000000000002\n", [7, 6, 24, 9, 0x02, 0], &[(b'H', 6, 0)]),
-    ])
-}
-
-/// Node 2 of the same ring is alone and lists all others: 6 returns, which is its emitter and its observer then, and
-/// hears that it is back. No A is sent. The same where 1 observes the node, which has its heartbeat on. A B and an A
-/// leave the node its own emitter; by the A it has an observer.
-fn returned_alone(seen: &mut Seen) -> Result<(), String> {
-    let file = "P,8,5,20,6,90\nQ,2,5,0,7,3,6,1,4\n";
-    let alone = Node {
-        emitter: 2,
-        observer: 2,
-        watch: None,
-        heartbeat: None,
-        dead_list: 0xfb,
-        mark: 0xfb,
-        ..platform_of(file.as_bytes()).nodes()[2]
-    };
-    let observed = Node { observer: 1, heartbeat: Some(5), ..alone };
-    let beat = (6, Content::Heartbeat { list: 0xff });
-    for node in [alone, observed] {
-        let store = about_to_return(file, node, &[beat]);
-        steps_at_returns(seen, &store, 2, &[
-            ("H,3,2,6,00000000000000bb\n", [6, 6, 24, 4, 0xbb, 0xbb], &[(b'B', 6, 6)]),
-            ("S,3,2,6,00000000000000bb\n", [6, 6, 24, 9, 0xbb, 0xbb], &[(b'H', 6, 0)]),
-        ])?;
-    }
-    let messages = [
-        (1, Content::Returned { subject: 0 }),
-        (1, Content::NamedObserver { subject: 2 }),
-        (1, Content::NamedObserver { subject: 7 }),
-        beat,
-    ];
-    let store = about_to_return(file, alone, &messages);
-    steps_at_returns(seen, &store, 2, &[
-        ("B,3,2,0,00000000000000fa\n", [2, 2, 0, 0, 0xfa, 0xfa], &[(b'B', 0, 0)]),
-        ("A,3,2,2,00000000000000fa\n", [2, 2, 0, 0, 0xfa, 0xfa], &[]),
-        ("A,3,2,7,00000000000000fa\n", [2, 7, 0, 4, 0xfa, 0xfa], &[]),
-        ("H,3,2,6,00000000000000ba\n", [6, 6, 24, 4, 0xba, 0xba], &[(b'B', 0, 6), (b'B', 6, 6)]),
-    ])
-}
-
-/// Seven messages: node 0 of 64 lists 63 and observes 62. Where 2,042 are in flight, the heartbeat of 63 among them, it
-/// is done and leaves 2,048; with one more it is refused by 8 and writes nothing.
-fn returned_seven(seen: &mut Seen) -> Result<(), String> {
-    let opened = platform_of(b"P,64,20,90,25,400\n");
-    let mut nodes = opened.nodes().to_vec();
-    (nodes[0].emitter, nodes[0].dead_list) = (62, 1 << 63);
-    let other = |number| (9, Message { number, sender: 2, receiver: 3, content: Content::Returned { subject: 1 } });
-    let first = (3, Message { number: 0, sender: 63, receiver: 0, content: Content::Heartbeat { list: 0 } });
-    for in_flight in [2_042, 2_043] {
-        let messages = std::iter::once(first).chain((1..in_flight).map(other)).collect();
-        let bytes = store::encode(&Platform::resume(opened.plan().clone(), nodes.clone(), messages, in_flight, 0, 3));
-        for (call, done, over) in [
-            (Call::Step, answer(0, &[u64::from(b'H'), 3, 0, 63, 26]), refused(REFUSED_EVENT)),
-            (Call::Run { budget: 1 }, ran(1, 1), stopped(0)),
-        ] {
-            let mut store = Lent::new(&bytes);
-            let found = seen.call(call, &mut store, &mut Lent::filled(LOG_BYTES), &mut store::decode(&bytes))?;
-            let full = in_flight == 2_042;
-            same(&format!("{call:?} of a return with {in_flight} in flight"), found, if full { done } else { over })?;
-            let column = |field, place| layout::get(store.part(), field, place);
-            same("messages in flight", column(layout::MESSAGES, 0), if full { 2_048 } else { 2_043 })?;
-            let sent = (2_041..2_048)
-                .map(|place| (column(layout::MESSAGE_KIND, place) as u8, column(layout::MESSAGE_RECEIVER, place)));
-            if full {
-                same(
-                    "what is sent",
-                    sent.collect(),
-                    [62, 1, 2, 4, 8, 16, 32].map(|to| (if to == 62 { b'A' } else { b'B' }, to)).to_vec(),
-                )?;
-            }
-        }
-    }
-    Ok(())
-}
-
-/// 02's returns: worked on lent stores, and the logs of files with W below H + D.
-///
-/// - Two nodes that are alone, each listing the other, have their heartbeats still in flight: both return, and each B
-///   names its receiver.
-/// - Five nodes, of which 0 gets the heartbeat of 4 a tick late: 4 returns as the emitter, 3 is told to send to it, and
-///   the others, who had just been told that it is dead, that it is back. Some reports are still on their way, so that
-///   0 gives it up once more.
-fn returned_nodes(seen: &mut Seen) -> Result<(), String> {
-    returned_between(seen)?;
-    returned_alone(seen)?;
-    returned_seven(seen)?;
-    for (file, log) in [
-        (include_str!("returned-two.run"), include_str!("returned-two.log")),
-        (include_str!("returned-five.run"), include_str!("returned-five.log")),
-        (include_str!("alone.run"), include_str!("alone.log")),
-        (include_str!("returned.run"), include_str!("returned.log")),
-        (include_str!("returned-late.run"), include_str!("returned-late.log")),
-    ] {
-        logged(seen, file, log)?;
-    }
-    Ok(())
-}
-
 /// 02's runs with W below H + D, worked by hand.
 ///
 /// - Two nodes, H 2, D 1, which is 01's edge: with W 2 each watch expires before the first heartbeat comes. Both list the other, are alone and
 ///   send nothing.
 /// - Three nodes likewise, in tests/short.run: each lists the one before and sends O and R to the one after. Node 2 crashes, and by the reports 0
-///   and 1 leave the emitters that they had just taken. Both are alone, each listing the other; by heartbeats that were
-///   on their way nodes return.
+///   and 1 leave the emitters that they had just taken. Both are alone, each listing the other.
 /// - A lone node; no event up to the end tick; all messages quicker by L lines than D, so that no watch expires. F goes by the P line alone.
 fn short_timeouts(seen: &mut Seen) -> Result<(), String> {
     let two = "W,2,0,1,0000000000000002\nK,2,0,1,0000000000000002\nW,2,1,0,0000000000000001\nK,2,1,1,0000000000000001\n";
@@ -1385,7 +1133,6 @@ fn edges(seen: &mut Seen) -> Result<(), String> {
     full_flight(seen)?;
     named_nodes(seen)?;
     named_before_reports(seen)?;
-    returned_nodes(seen)?;
     short_timeouts(seen)?;
     every_timeout(seen)?;
     settling(seen)?;
@@ -1408,35 +1155,12 @@ fn all(seen: &mut Seen, seed: u64, count: u64) -> Result<(), String> {
     listed_emitters(seen)?;
     changed_marks(seen)?;
     changed_lists(seen)?;
-    changed_kinds(seen)?;
     changed_bytes(seen)
-}
-
-/// Every arm of a return has to come up, in steps and in runs, on lent stores and on those that a file led to.
-fn returns_summary(moves: &Moves, in_runs: [u64; 2], count: u64) -> Result<(), String> {
-    let Moves { returns, taken_back, taken_back_alone, named_observers, named_itself, told_returns, cleared, .. } =
-        moves;
-    println!("platform: {returns} steps are returns, {taken_back} make the sender the emitter, {taken_back_alone} of a node alone; in runs {in_runs:?}");
-    println!("platform: {named_observers} steps are A, {named_itself} of them of the receiver; {told_returns} are B, {cleared} of them of a listed node");
-    let arms = [
-        returns - taken_back,
-        taken_back - taken_back_alone,
-        *taken_back_alone,
-        *named_observers,
-        *named_itself,
-        *cleared,
-        told_returns - cleared,
-    ];
-    if count > 0 && (arms.iter().any(|steps| *steps < count / 6) || in_runs.iter().any(|runs| *runs < 10 * count)) {
-        return Err("too few nodes returned".to_string());
-    }
-    Ok(())
 }
 
 /// Every kind of answer has to come up.
 fn summary(seen: &Seen, count: u64) -> Result<(), String> {
-    let Seen { opened, calls, numbers, spent, done, reported, returned, alone, moves, owed, learnt, named, short, met } =
-        seen;
+    let Seen { opened, calls, numbers, spent, done, reported, alone, moves, owed, learnt, named, short, met } = seen;
     let answered = NUMBERS.map(|number| (number, numbers[number]));
     println!("platform: {calls} calls agree, {opened} stores opened; answers by number: {answered:?}; {spent} runs spent, {done} done");
     println!("platform: moves by report with W at least H + D and with less {reported:?}, {alone} steps of them to be alone");
@@ -1445,7 +1169,6 @@ fn summary(seen: &Seen, count: u64) -> Result<(), String> {
     if count > 0 && (lines < count || more < count / 3 || most < 63 || moves.by_report < count / 10) {
         return Err("too few lines K came up".to_string());
     }
-    returns_summary(moves, *returned, count)?;
     let [settled, joined, full] = owed;
     println!("platform: owed after calls on stores that a file led to, and so: {settled} settled rings, {joined} joined ones, {full} full lists");
     let Short { opened: short_opened, calls: short_calls, ends, reached, listing, written } = short;

@@ -5,12 +5,10 @@
  *     bytes    every byte of a record and of a message, with every value, by docs/LAYOUTS.md; every move in every ring
  *     calls    records that random calls lead to: before the next due tick the timers do nothing, at it they do something;
  *              whom they send to and with which list, whose heartbeat counts, what it adds to the list, which reports are
- *              passed on, how many nodes a move passes, what a listed sender's heartbeat does and what A and B do, which ticks
- *              are refused
+ *              passed on, how many nodes a move passes, which ticks are refused
  *     rings    whole rings twice, with the timers called at every tick and only where one is due: the messages are the same,
  *              and the records but for the last tick. Nodes stop in the midst of a tick, with some of a call's messages
- *              sent. With W at least H + D no live node is listed, and no A or B is sent; with less, some are, and listed nodes
- *              return. A ring with more than 2,048 messages in flight goes no further
+ *              sent. With W at least H + D no live node is listed; with less, some are
  *
  * Usage: readers SEED [PART]. Stops at the first failure.
  */
@@ -23,7 +21,6 @@
 
 #define MOST_NODES 64
 #define MOST_IN_FLIGHT 65536
-#define OVERFULL 2048
 #define END_TICK 500
 
 #define CHECK(fact) ((fact) ? (void)0 : fail(#fact, __LINE__))
@@ -140,10 +137,6 @@ static void test_bytes(void) {
 static uint64_t own_number, nodes, period, time_out;
 
 static uint64_t heartbeats, moves, left_alone, passed_one, passed_more, learnt, relayed;
-static uint64_t taken_back, cleared_alone, back_to_alone, named, told, emitters_back;
-
-/* The messages of the last delivery to a copy. */
-static uint8_t answered[KELBRAUT_MESSAGES];
 
 static uint64_t bit(uint64_t node) {
     return UINT64_C(1) << node;
@@ -238,12 +231,13 @@ static void test_next_due(const uint8_t *record) {
 
 /* What a message does to a copy of a record, at the tick after the last, and whether anything is sent. */
 static int deliver(uint8_t *copy, const uint8_t *record, uint64_t kind, uint64_t sender, uint64_t subject, uint64_t list) {
+    uint8_t sent[KELBRAUT_MESSAGES];
     uint64_t tick = kelbraut_last_tick(record) + 1;
     memcpy(copy, record, KELBRAUT_RECORD);
-    CHECK(kelbraut_node_deliver(copy, KELBRAUT_RECORD, tick, kind, sender, subject, list, answered, sizeof answered) ==
+    CHECK(kelbraut_node_deliver(copy, KELBRAUT_RECORD, tick, kind, sender, subject, list, sent, sizeof sent) ==
           KELBRAUT_ACCEPTED);
     CHECK(kelbraut_last_tick(copy) == tick);
-    return kelbraut_kind(answered) != 0;
+    return kelbraut_kind(sent) != 0;
 }
 
 /* A report of a node that is listed already: passed on, and marked, where it is not marked yet, else nothing. */
@@ -263,92 +257,13 @@ static void test_listed(const uint8_t *record, uint64_t sender) {
 }
 
 /*
- * The node is no longer listed or marked, and all else of both stays. From this place on B of it was sent, to as many nodes as
- * there are powers of two below the count of unlisted ones, to none twice, and neither to the node itself nor to a listed one.
- */
-static void test_cleared(const uint8_t *copy, const uint8_t *record, uint64_t node, size_t place) {
-    uint64_t list = kelbraut_dead_list(record) & ~bit(node), to = 0, powers = 0, unlisted = 0, count = 0;
-    CHECK(kelbraut_dead_list(copy) == list && kelbraut_mark(copy) == (kelbraut_mark(record) & ~bit(node)));
-    for (uint64_t other = 0; other < nodes; other++) {
-        unlisted += (list >> other & 1) == 0;
-    }
-    for (uint64_t power = 1; power < unlisted; power *= 2) {
-        powers++;
-    }
-    for (const uint8_t *m = answered + place; m < answered + KELBRAUT_MESSAGES && kelbraut_kind(m) != 0; m += KELBRAUT_MESSAGE) {
-        CHECK(kelbraut_kind(m) == 'B' && kelbraut_subject(m) == node && kelbraut_sender(m) == own_number);
-        CHECK(((list | to | bit(own_number)) >> kelbraut_receiver(m) & 1) == 0 && kelbraut_list(m) == 0);
-        to |= bit(kelbraut_receiver(m));
-        count++;
-    }
-    CHECK(count == powers);
-}
-
-/*
- * The heartbeat of a listed node. It is the emitter from then on where it stands fewer steps ahead of the emitter than the node
- * itself, and the emitter so far is told by an A; to a node alone it is the observer, too. What it carries plays no part.
- */
-static void test_return(const uint8_t *record, uint64_t sender) {
-    uint8_t copy[KELBRAUT_RECORD];
-    uint64_t tick = kelbraut_last_tick(record) + 1, emitter = kelbraut_emitter(record);
-    int alone = emitter == own_number;
-    int taken = alone || (sender + nodes - emitter) % nodes < (own_number + nodes - emitter) % nodes;
-    deliver(copy, record, KELBRAUT_HEARTBEAT, sender, 0, short_list());
-    test_cleared(copy, record, sender, taken && !alone ? KELBRAUT_MESSAGE : 0);
-    CHECK(kelbraut_emitter(copy) == (taken ? sender : emitter));
-    CHECK(kelbraut_observer(copy) == (alone ? sender : kelbraut_observer(record)));
-    if (taken && !alone) {
-        CHECK(kelbraut_kind(answered) == 'A' && kelbraut_receiver(answered) == emitter);
-        CHECK(kelbraut_subject(answered) == sender && kelbraut_list(answered) == 0);
-    }
-    CHECK(!alone || kelbraut_next_due(copy) == tick);
-    if (taken) {
-        copy[24] = copy[25] = copy[26] = copy[27] = 0;
-        CHECK(kelbraut_next_due(copy) == tick + time_out);
-    } else {
-        CHECK(kelbraut_next_due(copy) == kelbraut_next_due(record));
-    }
-    taken_back += taken && !alone;
-    back_to_alone += (uint64_t)alone;
-    cleared_alone += !taken;
-}
-
-/* A makes the named node the observer, but for the node itself; B does nothing unless the named node is listed. */
-static void test_named(const uint8_t *record, uint64_t sender, uint64_t subject) {
-    uint8_t copy[KELBRAUT_RECORD];
-    uint64_t tick = kelbraut_last_tick(record) + 1, list = kelbraut_dead_list(record);
-    CHECK(!deliver(copy, record, 'A', sender, subject, short_list()));
-    if (subject == own_number) {
-        CHECK(same_but_last_tick(copy, record));
-    } else {
-        CHECK(kelbraut_observer(copy) == subject && kelbraut_emitter(copy) == kelbraut_emitter(record));
-        CHECK(kelbraut_dead_list(copy) == list && kelbraut_mark(copy) == kelbraut_mark(record));
-        CHECK(kelbraut_next_due(copy) <= tick);
-        named++;
-    }
-    deliver(copy, record, 'B', sender, subject, short_list());
-    CHECK(kelbraut_emitter(copy) == kelbraut_emitter(record) && kelbraut_observer(copy) == kelbraut_observer(record));
-    CHECK(kelbraut_next_due(copy) == kelbraut_next_due(record));
-    if (list >> subject & 1) {
-        test_cleared(copy, record, subject, 0);
-        told++;
-    } else {
-        CHECK(same_but_last_tick(copy, record) && kelbraut_kind(answered) == 0);
-    }
-}
-
-/*
  * A heartbeat from the emitter renews the watch and adds its list, but for the node itself and the sender, to the list alone;
- * one from another node that is not listed does nothing; a new observer is the observer.
+ * one from another node does nothing; a new observer is the observer.
  */
 static void test_sender(const uint8_t *record, uint64_t sender) {
     uint8_t copy[KELBRAUT_RECORD];
     uint64_t tick = kelbraut_last_tick(record) + 1, list = short_list();
-    int returns = kelbraut_dead_list(record) >> sender & 1;
-    if (returns) {
-        test_return(record, sender);
-    }
-    CHECK(deliver(copy, record, KELBRAUT_HEARTBEAT, sender, 0, list) == returns);
+    CHECK(!deliver(copy, record, KELBRAUT_HEARTBEAT, sender, 0, list));
     if (sender == kelbraut_emitter(record)) {
         CHECK(kelbraut_dead_list(copy) == (kelbraut_dead_list(record) | (list & ~bit(own_number) & ~bit(sender))));
         CHECK(kelbraut_mark(copy) == kelbraut_mark(record));
@@ -357,7 +272,7 @@ static void test_sender(const uint8_t *record, uint64_t sender) {
         copy[24] = copy[25] = copy[26] = copy[27] = 0;
         CHECK(kelbraut_next_due(copy) == tick + time_out);
     } else {
-        CHECK(returns || same_but_last_tick(copy, record));
+        CHECK(same_but_last_tick(copy, record));
     }
     CHECK(!deliver(copy, record, KELBRAUT_OBSERVER, sender, 0, list));
     CHECK(kelbraut_dead_list(copy) == kelbraut_dead_list(record));
@@ -382,8 +297,6 @@ static void test_record(const uint8_t *record) {
         if (sender != own_number) {
             test_sender(record, sender);
             test_listed(record, sender);
-            test_named(record, sender, below(nodes));
-            test_named(record, sender, sender);
         }
     }
     if (last > 0) {
@@ -416,27 +329,19 @@ static uint64_t other_node(void) {
 static void random_call(uint8_t *record) {
     uint8_t before[KELBRAUT_RECORD], sent[KELBRAUT_MESSAGES];
     uint64_t tick = next_tick(record);
-    int returns = 0;
     memcpy(before, record, sizeof before);
     if (nodes == 1 || below(2) == 0) {
         CHECK(kelbraut_node_timers(record, KELBRAUT_RECORD, tick, sent, sizeof sent) == KELBRAUT_ACCEPTED);
     } else {
-        uint64_t kind = (uint64_t)"HHOORRRAB"[below(9)], sender = other_node(), subject = other_node();
+        uint64_t kind = (uint64_t)"HORR"[below(4)], sender = other_node(), subject = other_node();
         if (below(2) == 0 && kelbraut_emitter(record) != own_number) {
             sender = kelbraut_emitter(record);
         }
         CHECK(kelbraut_node_deliver(record, KELBRAUT_RECORD, tick, kind, sender, subject, short_list(), sent, sizeof sent) ==
               KELBRAUT_ACCEPTED);
-        returns = kind == KELBRAUT_HEARTBEAT && (kelbraut_dead_list(before) >> sender & 1);
     }
     CHECK(kelbraut_last_tick(record) == tick);
-    /* A return makes no search for a new emitter, and so passes nobody, also where the emitter is another. */
-    if (returns) {
-        CHECK(kelbraut_passed(before, record) == 0);
-        emitters_back += kelbraut_emitter(record) != kelbraut_emitter(before);
-    } else {
-        test_passed(before, record);
-    }
+    test_passed(before, record);
 }
 
 static void test_sequence(void) {
@@ -464,14 +369,9 @@ static void test_calls(void) {
     }
     CHECK(heartbeats > 1000 && moves > 1000 && left_alone > 100 && passed_one > 1000 && passed_more > 100);
     CHECK(learnt > 1000 && relayed > 1000);
-    CHECK(taken_back > 1000 && cleared_alone > 1000 && back_to_alone > 1000 && named > 1000 && told > 1000);
-    CHECK(emitters_back > 100);
     printf("readers: calls: %" PRIu64 " heartbeats, %" PRIu64 " new emitters, %" PRIu64 " nodes alone; one passed %" PRIu64
            " times, more %" PRIu64 "; %" PRIu64 " heartbeats add to a list, %" PRIu64 " reports of listed nodes are passed on\n",
            heartbeats, moves, left_alone, passed_one, passed_more, learnt, relayed);
-    printf("readers: calls: listed senders are emitters again %" PRIu64 " times, to a node alone %" PRIu64 ", are cleared alone %"
-           PRIu64 "; A names an observer %" PRIu64 " times, B clears %" PRIu64 "\n",
-           taken_back, back_to_alone, cleared_alone, named, told);
 }
 
 /* ---- whole rings */
@@ -488,19 +388,18 @@ struct ring {
         uint8_t message[KELBRAUT_MESSAGE];
     } flights[MOST_IN_FLIGHT];
     size_t in_flight;
-    uint64_t sent, most_delay, seed, timer_calls, returns;
+    uint64_t sent, most_delay, seed, timer_calls;
 };
 
 static struct ring waking, sleeping;
 
-static uint64_t stopped, listed_alive, all_sent, all_waking, all_sleeping, all_returns, overfull;
+static uint64_t stopped, listed_alive, all_sent, all_waking, all_sleeping;
 
 /* Puts the messages of a call in flight, in whose midst the node may stop, and says how many the call sent. */
 static int send_all(struct ring *r, size_t node, const uint8_t *sent, uint64_t tick) {
     int count = 0;
     for (const uint8_t *m = sent; m < sent + KELBRAUT_MESSAGES && kelbraut_kind(m) != 0; m += KELBRAUT_MESSAGE) {
         CHECK(kelbraut_sender(m) == node && r->in_flight < MOST_IN_FLIGHT);
-        r->returns += kelbraut_kind(m) == 'A' || kelbraut_kind(m) == 'B';
         if (r->left[node] > 0) {
             struct flight *f = &r->flights[r->in_flight++];
             f->due = tick + 1 + mixed(r->seed + r->sent++) % r->most_delay;
@@ -623,14 +522,9 @@ static void test_ring(void) {
         }
         compare(tick);
         uint64_t wrong = live_listed(&sleeping);
-        CHECK(!safe || (wrong == 0 && sleeping.returns == 0));
+        CHECK(!safe || wrong == 0);
         listed_alive += wrong;
-        if (!safe && sleeping.in_flight > OVERFULL) {
-            overfull++;
-            break;
-        }
     }
-    all_returns += sleeping.returns;
     for (size_t node = 0; node < nodes; node++) {
         stopped += sleeping.left[node] == 0;
     }
@@ -644,11 +538,8 @@ static void test_rings(void) {
         test_ring();
     }
     CHECK(stopped > 300 && listed_alive > 300 && all_sent > 50000 && all_sleeping < all_waking / 3);
-    CHECK(all_returns > 1000 && overfull < 40);
     printf("readers: rings: %" PRIu64 " messages, %" PRIu64 " nodes stopped; %" PRIu64 " timer calls in place of %" PRIu64 "\n",
            all_sent, stopped, all_sleeping, all_waking);
-    printf("readers: rings: %" PRIu64 " messages A and B, all with W below H + D; %" PRIu64 " rings end with more than %d in flight\n",
-           all_returns, overfull, OVERFULL);
 }
 
 int main(int count, char **words) {

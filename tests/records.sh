@@ -2,12 +2,11 @@
 # The nodes beside the rehearsal: tests/records.c drives a record for each node of a run file through the calls of a host in C,
 # and its log has to be the rehearsal program's, byte for byte: what is rehearsed is what the nodes do. The files are those
 # named below, most of 48 nodes, and generated ones; refused ones are left out, and those with a Q line, as records stay in number
-# order. With W below H + D lists hold live nodes, which return, and still every call is accepted; with W at least H + D
-# none does, and there is no line A or B. Mistakes planted in tests/records.c have to be found. Stops at the first
-# difference, prints its seed and keeps its file.
+# order. With W below H + D lists hold live nodes, and still every call is accepted; with W at least H + D none does. Mistakes planted in
+# tests/records.c have to be found. Stops at the first difference, prints its seed and keeps its file.
 #
-# Usage: tests/records.sh [SEED [COUNT]]: COUNT small generated files, a fifth as many large ones and a tenth as many in
-# which listed nodes return, about half of them without a Q line; REHEARSE names another program.
+# Usage: tests/records.sh [SEED [COUNT]]: COUNT small generated files, a fifth as many large ones, about half of them without a Q
+# line; REHEARSE names another program.
 
 . "$(dirname "$0")/common.sh"
 
@@ -47,9 +46,8 @@ same() {
     enough=long
     [ "$timeout" -ge $((period + delay)) ] || enough=short
     sed -n 's/^K,[0-9]*,[0-9]*,\([0-9]*\),.*/\1/p' "$work/records" >> "$work/passed-$enough"
-    read -r live back < "$work/live"
+    read -r live < "$work/live"
     files=$((files + 1))
-    taken_back=$((taken_back + back))
     [ "$nodes" -lt 48 ] || wide=$((wide + 1))
     if [ "$enough" = short ]; then
         short=$((short + 1))
@@ -57,8 +55,6 @@ same() {
         listed=$((listed + live))
     elif [ "$live" -ne 0 ]; then
         differ "$1" "$2" "$live calls leave a live node in a list"
-    elif grep -q '^[AB]' "$work/records" || [ "$back" -ne 0 ]; then
-        differ "$1" "$2" 'a node returns though W is at least H + D'
     fi
 }
 
@@ -130,9 +126,9 @@ lists() {
 short_rings() {
     named "01's edge, W 2" ring P,2,2,2,1,6
     lists "01's edge, W 2"
-    named 'three nodes list each other' cat tests/short.run
+    named 'three nodes alone' cat tests/short.run
     cmp tests/short.log "$work/records" || fail 'the log of tests/short.run differs'
-    lists 'three nodes list each other'
+    lists 'three nodes alone'
     named 'one node, a short W' ring P,1,1,1,1,5
     named 'no event before the end' ring P,5,9,3,2,2
     named 'a short W up to the greatest tick' ring P,3,1000,1100,255,1000000 1 500000 0 1 0
@@ -144,17 +140,6 @@ short_rings() {
     named '2,048 in flight with a short W' ring P,64,1,33,40,32
     named 'a watch brings 2,049 into flight' ring P,64,1,33,40,33
     [ "$(tail -n 1 "$work/records")" = 8,0 ] || fail 'a watch brings 2,049 into flight, and is not refused'
-}
-
-# Listed nodes return: to nodes alone, to the node after them, to three nodes at once; and B reaches the node that it
-# names.
-returning_rings() {
-    for ring in alone returned returned-late returned-two returned-five; do
-        named "tests/$ring.run" cat "tests/$ring.run"
-        cmp "tests/$ring.log" "$work/records" || fail "the log of tests/$ring.run differs"
-        lists "tests/$ring.run"
-    done
-    [ "$taken_back" -ge 12 ] || fail "$taken_back returns made the sender the emitter"
 }
 
 rings_of_48() {
@@ -195,16 +180,11 @@ mistakes() {
     for mistake in 9 10; do
         mistaken "$mistake" 0
     done
-    cp tests/returned-five.run "$work/mistaken.run"
-    rehearsed 'mistakes' "$work/mistaken.run"
-    for mistake in 11 12 13 14 15; do
-        mistaken "$mistake" 0
-    done
 }
 
 # counted: how many lines there were of each letter, and of 8,0. All of them have to come up.
 counted() {
-    for letter in C H O R A B X W S K E F 8; do
+    for letter in C H O R X W S K E F 8; do
         lines=$(grep -c "^$letter" "$work/letters") || fail "no line of letter $letter came up"
         printf ' %s %d' "$letter" "$lines"
     done
@@ -219,10 +199,9 @@ trap 'rm -rf "$work"' EXIT
 compile 0 "$out/records"
 # A program that writes without end is stopped at 64 megabytes.
 ulimit -f 131072
-files=0 wide=0 ordered=0 refused=0 short=0 listing=0 listed=0 taken_back=0
+files=0 wide=0 ordered=0 refused=0 short=0 listing=0 listed=0
 small_rings
 short_rings
-returning_rings
 rings_of_48
 full_rings
 mistakes
@@ -234,14 +213,8 @@ more=$(cat "$work"/passed-* | grep -vcx 1) || fail 'no node passed more than one
 steady_more=$(grep -vcx 1 "$work/passed-long") || fail 'no node passed more than one with W at least H + D'
 [ "$steady_more" -ge $((count / 50)) ] || fail "$steady_more lines K with more than one node passed with W at least H + D"
 [ "$short" -ge $((count / 10)) ] && [ "$listing" -ge $((count / 15)) ] || fail "$short files with a short W, $listing of them list a live node"
-each_generated returning $((count / 10)) "$work" generated
-named_lines=$(grep -c '^A' "$work/letters") || fail 'no line A came up'
-told_lines=$(grep -c '^B' "$work/letters") || fail 'no line B came up'
-[ "$named_lines" -ge "$count" ] && [ "$told_lines" -ge $((10 * count)) ] && [ "$taken_back" -ge "$count" ] ||
-    fail "$named_lines lines A, $told_lines lines B, $taken_back returns made the sender the emitter"
 lines=$(counted)
-echo "records: $files files, $wide of them with 48 nodes or more, agree; $ordered with a Q line, $refused refused; 15 mistakes found"
+echo "records: $files files, $wide of them with 48 nodes or more, agree; $ordered with a Q line, $refused refused; 10 mistakes found"
 echo "records: $short files with W below H + D, in $listing of them records list a live node, after $listed calls, each accepted"
-echo "records: $taken_back returns made the sender the emitter"
 echo "records: $moves moves by report in the two files made for it and the small ones with W at least H + D; lines:$lines"
 echo "records: $more lines K with more than one node passed, $steady_more of them with W at least H + D, at most $(sort -n "$work"/passed-* | tail -n 1)"

@@ -1,10 +1,9 @@
 #!/bin/sh
 # The rehearsal program beside the simulator: the same bytes for generated run files, good and damaged, for a few large ones, for rings in
-# another order, for reported emitters, for nodes passed, for nodes that heartbeats name, for a W below H + D, for
-# listed nodes that return, for files at and beyond the greatest length, and for input that comes in pieces. The lines K
-# of its logs are also counted once more from the logs alone, and the letter of their last lines is that of the P line;
-# none is refused by 4, and none with W at least H + D has a line A or B. Then its streams: slow, full, closed or no
-# file. Stops at the first difference, prints its seed and keeps its file.
+# another order, for reported emitters, for nodes passed, for nodes that heartbeats name, for a W below H + D, for files at and beyond the
+# greatest length, and for input that comes in pieces. The lines K of its logs are also counted once more from the logs alone, and the letter
+# of their last lines is that of the P line; none is refused by 4. Then its streams: slow, full, closed or no file. Stops at the first
+# difference, prints its seed and keeps its file.
 #
 # Usage: tests/rehearse.sh [SEED [COUNT]]; REHEARSE names another program to compare.
 
@@ -33,7 +32,6 @@ last() {
             IFS=, read -r _ _ period timeout delay _ < "$2"
             if [ "$timeout" -lt $((period + delay)) ]; then letter=F short=$((short + 1)); else letter=E; fi
             [ "${last_line%%,*}" = "$letter" ] || differ "$1" "$2" "the last line is $last_line, and not $letter"
-            [ "$letter" = F ] || ! grep -q '^[AB]' "$work/proved" || differ "$1" "$2" 'a node returns though W is at least H + D'
             ;;
         8,0) refused=$((refused + 1)) ;;
         [1-3],* | [56],* | 13,2) ;;
@@ -135,71 +133,13 @@ short() {
     [ "$last_line" = "$3" ] || fail "$1: the last line is $last_line, and not $3"
 }
 
-# returns: counts what the files of this seed and their kept logs have: lines A and lines B; then files with lines B,
-# all of them, those of each number of nodes from 2 to 8; of up to 8 nodes those with a Q line, with L lines, with
-# neither; of more nodes all, and those with a Q line.
-returns() {
-    awk -F, '
-        FNR == 1 { name = FILENAME; sub(/\....$/, "", name); run = FILENAME ~ /run$/ }
-        run && FNR == 1 { nodes[name] = $2 }
-        run { has[name, $1] = 1 }
-        !run && /^A/ { named++ }
-        !run && /^B/ { told++; back[name] = 1 }
-        END {
-            for (name in back) {
-                n = nodes[name]; q = (name, "Q") in has; l = (name, "L") in has
-                all++; of[n]++
-                if (n > 8) { large++; large_q += q } else { few_q += q; few_l += l; plain += !q && !l }
-            }
-            printf "%d %d %d", named, told, all
-            for (n = 2; n <= 8; n++) printf " %d", of[n]
-            print "", few_q + 0, few_l + 0, plain + 0, large + 0, large_q + 0
-        }' "$work/$seed"-*.run "$work/$seed"-*.log
-}
-
-# Listed nodes return: 2 to 8 nodes with Q and L lines and without, and larger rings with L lines, by which few nodes
-# get listed. Each kind has to come up.
-returning() {
-    rm -f "$work/$seed"-*
-    each_generated returning "$1" "$work" kept
-    counts=$(returns)
-    set -- "$1" $counts
-    least="0 $((2 * $1)) $((20 * $1)) $(($1 / 2))"
-    for kind in 2 3 4 5 6 7 8; do least="$least $(($1 / 40))"; done
-    least="$least $(($1 / 10)) $(($1 / 10)) $(($1 / 20)) $(($1 / 20)) $(($1 / 40))"
-    for wanted in $least; do
-        [ "$1" -ge "$wanted" ] || fail "too few nodes return in the files made for it: $counts, not $least"
-        shift
-    done
-    set -- $counts
-    echo "rehearse: $1 lines A and $2 lines B in $3 files made for returns; with 2 to 8 nodes $4 $5 $6 $7 $8 $9 ${10}"
-    echo "rehearse: of these ${11} with a Q line, ${12} with L lines, ${13} with neither; ${14} larger ones, ${15} with a Q line"
-    recounted 'files made for returns' $((3 * $3)) "$3" "$work/$seed"-*.run
-}
-
-# Nodes that return, each in a file of its own. The lines that a return writes are H, then A and B; K does not follow.
-nodes_returned() {
-    named 'a node between returns in another order' 'P,5,2,3,2,8\nQ,4,2,0,3,1\nL,0,1\nL,1,1\nL,2,1\nL,3,1\n'
-    passes H,4,2,4,0000000000000000
-    named 'nodes that return to nodes alone' 'P,2,1,2,2,60\n'
-    passes B,5,0,0,0000000000000000
-    short 'nodes alone for good' 'P,3,1,1,1,8\n' F,8,3,0,0000000000000000
-    short 'a short W, and no node is listed for long' 'P,5,2,3,2,8\nL,0,1\nL,1,1\nL,2,1\nL,3,1\n' F,8,5,21,0000000000000000
-    named 'returns bring too many into flight' 'P,16,2,3,2,200\n'
-    [ "$last_line" = 8,0 ] || fail 'returns of 16 nodes do not bring 2,049 into flight'
-    passes A,6,.*
-    { printf 'P,64,2,3,2,30\n'; for number in $(seq 0 62); do printf 'L,%d,1\n' "$number"; done; } > "$work/returned.run"
-    same 'one of 64 nodes is listed, and returns' "$work/returned.run"
-    passes A,6,62,63,.*
-}
-
 short_timeouts() {
     short "01's edge, W 2" 'P,2,2,2,1,6\n' F,6,2,0,0000000000000000
     short 'one node, a short W' 'P,1,1,1,1,5\n' F,5,1,0,0000000000000000
     short 'no event before the end' 'P,3,2,2,1,1\n' F,1,3,0,0000000000000000
     short 'a short W, and no watch expires' 'P,2,1,2,2,4\nL,0,1\nL,1,1\nL,2,1\nL,3,1\nL,4,1\nL,5,1\nL,6,1\nL,7,1\n' F,4,2,2,0000000000000000
-    short 'a short W in another order' 'P,3,2,2,1,9\nQ,2,0,1\nC,3,2\n' F,9,2,1,0000000000000004
-    short 'the shortest W' 'P,16,1000,1,255,3000\nC,3,1\n' F,3000,15,392,0000000000000002
+    short 'a short W in another order' 'P,3,2,2,1,9\nQ,2,0,1\nC,3,2\n' F,9,2,0,0000000000000004
+    short 'the shortest W' 'P,16,1000,1,255,3000\nC,3,1\n' F,3000,15,0,0000000000000002
     short '2,048 in flight, a short W' 'P,64,1,33,40,32\n' F,32,64,2048,0000000000000000
     named '2,049 in flight, a short W' 'P,64,1,33,40,33\n'
     [ "$last_line" = 8,0 ] || fail '2,049 in flight are not refused'
@@ -224,7 +164,7 @@ large() {
 }
 
 worked_log() {
-    for ring in worked shuffled reported-ten reported-nine learnt short alone returned returned-late returned-two returned-five; do
+    for ring in worked shuffled reported-ten reported-nine learnt short; do
         run < "tests/$ring.run" > "$work/$ring" || true
         cmp "tests/$ring.log" "$work/$ring" || fail "the log of tests/$ring.run differs"
     done
@@ -254,7 +194,6 @@ orders
 nodes_passed
 nodes_named
 short_timeouts
-nodes_returned
 large
 c "$work/streams.so" -shared -fPIC tests/streams.c -ldl
 python3 tests/streams.py "$rehearse" "$work/large.run" "$work/large.log" "$work/streams.so"
@@ -268,5 +207,4 @@ moves=$("$out/simulate" moves $(steady "$work/$seed"-*.run))
 [ "$moves" -ge $((count / 100)) ] || fail "$moves moves by report in the small files with W at least H + D"
 [ "$short" -ge $((count / 6)) ] || fail "$short logs end in F"
 echo "rehearse: $moves moves by report in the small files with W at least H + D"
-returning $((count / 5))
 echo "rehearse: $files files, $lines lines agree; $short of the logs end in F, $refused in 8,0"

@@ -1,8 +1,7 @@
 //! Runs from many places of a file and with many budgets, beside the simulator. A run may search the messages for each event, or keep them
 //! in a queue with 3,072 places; where it changes from one to the other, where it ends and what was run before must not be seen. So
-//! small files are cut at every event, some files at moves, lists and returns; large ones bring many messages into
-//! flight, in other orders than their numbers', up to the refusal by 8, or send more messages in one call than the
-//! queue has places.
+//! small files are cut at every event; large ones bring many messages into flight, in other orders than their numbers', up to the refusal
+//! by 8, or send more messages in one call than the queue has places.
 
 use super::calls::Call;
 use super::common::shown;
@@ -16,7 +15,6 @@ use simulator::node::{Content, Node};
 use simulator::platform::{Event, Platform, Step};
 use simulator::queue::Message;
 use simulator::random::Random;
-use simulator::ring::listed;
 use simulator::store::{self, Held};
 use std::cmp::Reverse;
 
@@ -37,12 +35,6 @@ const MOVES: usize = 6;
 const TELLING: u64 = 60;
 const TELLINGS: usize = 6;
 const CARRIED: u64 = 8;
-/// How many files are generated of which steps at returns, at A and at B are tried, and how many events of each kind in
-/// a file.
-const RETURNING: u64 = 60;
-const RETURNS: usize = 2;
-/// The kind of an A of its receiver. It goes to an emitter and names a listed node, and no emitter is listed.
-const NAMED_ITSELF: usize = 4;
 /// Messages for which the queue has places.
 const PLACES: u64 = 3_072;
 /// At tick 8 a crash comes before two watches, no message and no heartbeat among them.
@@ -67,25 +59,18 @@ pub struct Met {
     told: [u64; 2],
     /// Runs with many lists in flight of heartbeats that were sent before them: some arrived in the run, some were left after it.
     carried: [u64; 2],
-    /// Steps in generated files at returns: of a node between, of another, to a node alone; at A of another node, and
-    /// of the receiver, to which no file leads; at B of a listed node, of another, and of the receiver.
-    back: [u64; 8],
 }
 
 impl Met {
     /// Every cut that a tick allows has to come up, and each kind of run.
     pub fn summary(&self) -> Result<(), String> {
-        let Met { cuts, long, refused, short, reported, moves, told, carried, back } = self;
+        let Met { cuts, long, refused, short, reported, moves, told, carried } = self;
         println!("platform: cuts within a tick by class {cuts:?}; {long:?} runs of more than {PLACES} messages; {refused} refused late");
         println!("platform: {short} of {} small files, cut at every event, have a W below H + D", TINY + SMALL);
         println!("platform: a report moves a node in {reported} of {REPORTED} generated files");
         println!("platform: {} steps at moves of {MOVING} generated files, {} with more than one node passed", moves[0], moves[1]);
         println!("platform: {told:?} steps in {TELLING} generated files by which a heartbeat tells a node, or a report one that knew");
         println!("platform: {carried:?} runs of {CARRIED} stores with many lists in flight, in which some arrive, and which leave some");
-        println!("platform: {back:?} steps at returns, A and B of {RETURNING} generated files, by kind");
-        if (0..8).any(|kind| if kind == NAMED_ITSELF { back[kind] > 0 } else { back[kind] < RETURNING / 6 }) {
-            return Err("too few returns came up in files, or an A names its receiver".to_string());
-        }
         if moves[0] < 2 * MOVING || moves[1] < MOVING / 4 || told[0] < TELLING / 2 || told[1] < TELLING / 4 || carried.contains(&0) {
             return Err("too few moves or lists came up".to_string());
         }
@@ -287,7 +272,7 @@ fn places_of_lists(file: &[u8]) -> Vec<(u64, usize)> {
         let place = platform.events_done() - 1;
         let (own, now) = (std::mem::replace(&mut nodes[line.node as usize], platform.nodes()[line.node as usize]), nodes[line.node as usize]);
         match line.letter {
-            b'H' if now.dead_list & !own.dead_list != 0 => places[0].push((place, 0)),
+            b'H' if own.dead_list != now.dead_list => places[0].push((place, 0)),
             b'R' if passed.is_none() && own.dead_list == now.dead_list && own.mark != now.mark => places[1].push((place, 1)),
             _ => {}
         }
@@ -334,65 +319,6 @@ fn telling(seen: &mut Seen, seed: u64) -> Result<(), String> {
     Ok(())
 }
 
-// ---- steps at returns
-
-/// The kind of an event by which a node returns, or an A or B comes, as `Met` counts them; `own` is the node before it.
-fn kind_of_return(own: &Node, line: &Line, now: &Node) -> Option<usize> {
-    let (itself, listed) = (line.other == line.node, listed(own.dead_list, line.other as u8));
-    match line.letter {
-        b'H' if !listed => None,
-        b'H' if own.emitter == own.number => Some(2),
-        b'H' => Some(usize::from(own.emitter == now.emitter)),
-        b'A' => Some(3 + usize::from(itself)),
-        b'B' if itself => Some(7),
-        b'B' => Some(5 + usize::from(!listed)),
-        _ => None,
-    }
-}
-
-/// The places of a file's run before such an event; some of each kind, in the order of the run, with the kind.
-fn places_of_returns(file: &[u8]) -> Vec<(u64, usize)> {
-    let mut platform = platform_of(file);
-    let mut places: [Vec<(u64, usize)>; 8] = Default::default();
-    let mut nodes = platform.nodes().to_vec();
-    while let Step::Event(Event { line, .. }) = platform.step() {
-        let now = platform.nodes()[line.node as usize];
-        let own = std::mem::replace(&mut nodes[line.node as usize], now);
-        let kind = kind_of_return(&own, &line, &now);
-        kind.into_iter().for_each(|kind| places[kind].push((platform.events_done() - 1, kind)));
-    }
-    places.iter_mut().for_each(|places| places.truncate(RETURNS));
-    let mut places = places.concat();
-    places.sort_unstable();
-    places
-}
-
-/// At each of these places a step, which writes one line, and runs of one event and of more; then a run to the end.
-fn returning(seen: &mut Seen, seed: u64) -> Result<(), String> {
-    for index in 0..RETURNING {
-        let file = generator::returning_plan(seed ^ 0x6261_636b, index);
-        let told = |error| format!("seed {seed} file {index} of returns: {error}\n{}", shown(&file));
-        let mut point = Point::open(seen, &file).map_err(told)?;
-        let mut reached = 0;
-        for (place, kind) in places_of_returns(&file) {
-            point.run(seen, place - reached).map_err(told)?;
-            reached = place;
-            let mut other = point.clone();
-            let lines =
-                seen.call(Call::Step, &mut other.store, &mut Lent::filled(LOG_BYTES), &mut other.held).map_err(told)?;
-            if lines[5] >= 50 {
-                return Err(told(format!("after {place} events: a step at a return writes {} bytes", lines[5])));
-            }
-            for budget in [1, 13] {
-                point.clone().run(seen, budget).map_err(told)?;
-            }
-            seen.met.back[kind] += 1;
-        }
-        point.run(seen, u64::MAX).map_err(told)?;
-    }
-    Ok(())
-}
-
 // ---- lent stores with many lists in flight
 
 /// How many of the messages with numbers below this one carry a list.
@@ -426,25 +352,14 @@ fn carried(seen: &mut Seen, seed: u64) -> Result<(), String> {
 
 // ---- lent stores without timers
 
-/// No timer is on but those that a message sets: a heartbeat a watch, a new observer a heartbeat, a report of the
-/// emitter a watch, an A a heartbeat, or the heartbeat of a listed sender both, as the node is alone.
+/// No timer is on but those that a message sets: a heartbeat a watch, a new observer a heartbeat, or a report of the emitter a watch.
 fn woken(seen: &mut Seen) -> Result<(), String> {
     let opened = platform_of(b"P,4,5,20,6,90\n");
     let asleep = |node: &Node| Node { watch: None, heartbeat: None, ..*node };
     let heartbeats = [0, 0b1101].map(|list| Content::Heartbeat { list });
-    let others = [
-        Content::NewObserver,
-        Content::Report { subject: 0 },
-        Content::NamedObserver { subject: 3 },
-        Content::Returned { subject: 2 },
-    ];
-    for (content, alone) in heartbeats.into_iter().chain(others).flat_map(|content| [(content, false), (content, true)])
-    {
+    for content in heartbeats.into_iter().chain([Content::NewObserver, Content::Report { subject: 0 }]) {
         let message = (6, Message { number: 0, sender: 0, receiver: 1, content });
-        let mut nodes: Vec<Node> = opened.nodes().iter().map(asleep).collect();
-        if alone {
-            nodes[1] = Node { emitter: 1, observer: 1, dead_list: 0b1101, mark: 0b0101, ..nodes[1] };
-        }
+        let nodes = opened.nodes().iter().map(asleep).collect();
         let held = Held::from(Platform::resume(opened.plan().clone(), nodes, vec![message], 1, 0, 3));
         let point = Point { store: Lent::new(&held.encode()), held: Some(held) };
         for budget in 0..60 {
@@ -508,7 +423,6 @@ pub fn all(seen: &mut Seen, seed: u64) -> Result<(), String> {
     reported(seen, seed)?;
     moving(seen, seed)?;
     telling(seen, seed)?;
-    returning(seen, seed)?;
     carried(seen, seed)?;
     woken(seen)?;
     crowds(seen)?;

@@ -1,8 +1,7 @@
 #!/bin/sh
-# Builds the simulator and the generator of run files with rustc alone, runs the simulator's own tests, compares the
-# worked logs of document 01, that of a shuffled ring, those of reported emitters, those of short time-outs and those of
-# nodes that return byte by byte, runs generated files, good and damaged and made for returns, and prints the
-# simulator's speed. Stops at the first failure.
+# Builds the simulator and the generator of run files with rustc alone, runs the simulator's own
+# tests, compares the worked logs of document 01, that of a shuffled ring, those of reported emitters and those of short
+# time-outs byte by byte, runs generated files, good and damaged, and prints the simulator's speed. Stops at the first failure.
 #
 # Usage: tests/simulator.sh [SEED [COUNT]]
 
@@ -22,7 +21,7 @@ answers() {
 
 worked_logs() {
     answers two "$(cat tests/worked.run)\n" "$(cat tests/worked.log)\n" ''
-    for worked in shuffled reported-ten reported-nine alone returned returned-late; do
+    for worked in shuffled reported-ten reported-nine; do
         answers "$worked" "$(cat "tests/$worked.run")\n" "$(cat "tests/$worked.log")\n" ''
     done
     answers alone 'P,1,1,2,1,5\n' 'E,5,1,0,0000000000000000\n' ''
@@ -67,13 +66,9 @@ commands() {
     answers joined-none '' '0 0 0 0 0 0 0\n' 'joined tests/worked.log'
     printf 'P,5,1,2,2,24\nC,2,1\nC,2,2\n' > "$out/unclaimed.run"
     answers joined-short '' '0 0 0 0 0 0 0\n' "joined $out/unclaimed.run"
-    cp tests/returned-late.run "$out/false.run"
-    short="$out/false.run 3 2 10"
-    answers false '' "tests/worked.run - 0 0\n$short\ntests/worked.log refused 2,1\n$out/joined.run - 0 0\n" \
+    printf 'P,3,2,3,2,16\nL,0,1\nL,1,1\n' > "$out/false.run"
+    answers false '' "tests/worked.run - 0 0\n$out/false.run 3 3 6\ntests/worked.log refused 2,1\n$out/joined.run - 0 0\n" \
         "false tests/worked.run $out/false.run tests/worked.log $out/joined.run"
-    answers returns '' '12 9 5 4 46 17\n' \
-        'returns tests/alone.run tests/returned.run tests/worked.log tests/returned-late.run tests/worked.run'
-    answers returns-none '' '0 0 0 0 0 0\n' 'returns tests/worked.log tests/reported-ten.run'
 }
 
 # recounted KIND LINES MORE FILE..: every line K of the files' logs is right and none is missing. At least so many come up, and so many of
@@ -116,22 +111,6 @@ falsely() {
     [ "$events" -ge $((10 * count)) ] || fail 'too few live nodes are listed'
 }
 
-# returns KIND LEAST FILE..: nodes return only where W is below H + D, and at least so often: in between, and to nodes
-# alone. So often it is told.
-returns() {
-    kind=$1 least=$2
-    shift 2
-    told=$("$out/simulate" returns "$@") ||
-        fail "a node returns in the $kind though W is at least H + D, or a line is wrong"
-    set -- $told
-    echo "simulator: $1 heartbeats of listed senders in the $kind, $2 of which move the emitter,"
-    echo "simulator: $3 of these to a node alone; $4 lines A, $5 lines B, $6 of which clear a list"
-    [ "$1" -ge "$least" ] && [ "$2" -ge $((least / 2)) ] && [ "$2" -lt "$1" ] && [ "$3" -ge $((least / 20)) ] ||
-        fail "too few returns in the $kind"
-    [ "$4" -ge $((least / 4)) ] && [ "$6" -ge "$least" ] && [ "$5" -gt "$6" ] ||
-        fail "too few returns are told in the $kind"
-}
-
 echo "simulator: seed $seed, $count generated files"
 simulator
 rustc --edition 2021 -D warnings -C opt-level=1 -C debug-assertions --test docs/src/simulator.rs -o "$out/simulator-tests"
@@ -145,12 +124,6 @@ recounted 'generated files' $((5 * count)) "$count" "$files"/*.run
 recounted 'generated files with W at least H + D' "$count" $((count / 10)) $(steady "$files"/*.run)
 joined "$files"/*.run
 falsely "$files"/*.run
-returns 'generated files' "$count" "$files"/*.run
-rm -r "$files"
-mkdir -p "$files"
-each_generated returning $((count / 3)) "$files" ends
-recounted 'files made for returns' "$count" $((count / 10)) "$files"/*.run
-returns 'files made for returns' "$count" "$files"/*.run
 rm -r "$files"
 printf 'P,64,10,265,255,1000000\n' > "$out/speed.run"
 "$out/simulate" time "$out/speed.run"

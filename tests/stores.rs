@@ -1,7 +1,6 @@
 //! Stores: those that a run file leads to; and some that none leads to, all of them in range: a plan with any fields of nodes and any
 //! messages that the ranges allow, W at least H + D or less. Rules can be told apart on these that no run with W at least H + D tells apart, as
-//! a watch renewed by a heartbeat from anyone, a heartbeat that names its sender or its receiver, or the return of a
-//! listed sender.
+//! a watch renewed by a heartbeat from anyone, or a heartbeat that names its sender or its receiver.
 #![allow(dead_code)]
 
 use simulator::layout;
@@ -38,7 +37,7 @@ pub fn any(plan: &Plan, random: &mut Random) -> Vec<u8> {
     let next_number = random.pick(&[next_number, next_number + 1, MAX_NEXT_NUMBER]);
     let mut bytes = store::encode(&Platform::resume(plan.clone(), nodes, messages.clone(), next_number, crashes_done, last));
     for (place, (_, message)) in messages.iter().enumerate() {
-        if matches!(message.content, Content::Heartbeat { .. } | Content::NewObserver) {
+        if !matches!(message.content, Content::Report { .. }) {
             layout::put(&mut bytes, layout::MESSAGE_SUBJECT, place, random.range(0, u64::from(plan.nodes) - 1));
         }
     }
@@ -99,14 +98,8 @@ fn node(plan: &Plan, last: u32, number: u8, alive: bool, density: u64, random: &
     node
 }
 
-/// The first listed node from this one on, in the order of the numbers; this one where none is listed.
-fn listed_from(list: u64, node: u8) -> u8 {
-    (0..64).map(|more| (node + more) % 64).find(|other| list >> other & 1 == 1).unwrap_or(node)
-}
-
-/// Some reports are of their receiver's emitter, and some heartbeats are its own, or come from a node that it lists.
-/// What a heartbeat names may be any nodes, its sender and its receiver among them; A and B may name any node, a listed
-/// one or the receiver among them.
+/// Some reports are of their receiver's emitter, and some heartbeats are its own. What a heartbeat names may be any nodes, its sender and its
+/// receiver among them.
 fn messages(plan: &Plan, last: u32, nodes: &[Node], random: &mut Random) -> Vec<(u32, Message)> {
     let count = if plan.nodes == 1 { 0 } else { random.pick(&[0, 1, 5, 5, 40, 40, 300, 2_040, 2_048]) };
     let gap = random.pick(&[1, 3, 1_000_000]);
@@ -114,22 +107,12 @@ fn messages(plan: &Plan, last: u32, nodes: &[Node], random: &mut Random) -> Vec<
     let one = |_| {
         number += random.range(1, gap);
         let receiver = some_node(plan, random);
-        let Node { emitter, dead_list, .. } = nodes[usize::from(receiver)];
-        let (any, another) = (some_node(plan, random), other_node(plan, receiver, random));
-        let listed = listed_from(dead_list, another);
-        let sender = random.pick(&[another, emitter, listed]);
-        let sender = if sender == receiver { another } else { sender };
-        let subject = random.pick(&[any, any, any, emitter, listed, receiver]);
+        let (any, emitter) = (some_node(plan, random), nodes[usize::from(receiver)].emitter);
+        let another = other_node(plan, receiver, random);
+        let sender = if emitter == receiver { another } else { random.pick(&[another, another, emitter]) };
+        let subject = random.pick(&[any, any, any, emitter]);
         let list = some_list(plan, random);
-        let content = random.pick(&[
-            Content::Heartbeat { list },
-            Content::Heartbeat { list },
-            Content::NewObserver,
-            Content::Report { subject },
-            Content::Report { subject },
-            Content::NamedObserver { subject },
-            Content::Returned { subject },
-        ]);
+        let content = random.pick(&[Content::Heartbeat { list }, Content::NewObserver, Content::Report { subject }]);
         let due = last + random.range(0, u64::from(plan.delay)) as u32;
         (due, Message { number, sender, receiver, content })
     };
@@ -152,6 +135,6 @@ pub fn change(bytes: &mut [u8], used: &[usize], random: &mut Random) {
     let place = random.pick(used);
     let old = bytes[place];
     let (bit, node) = (1 << random.range(0, 7), random.range(0, 64) as u8);
-    let (letter, another) = (random.pick(b"HORAB"), bytes[random.pick(used)]);
+    let (letter, another) = (random.pick(b"HOR"), bytes[random.pick(used)]);
     bytes[place] = random.pick(&[old ^ bit, old.wrapping_add(1), old.wrapping_sub(1), node, letter, another]);
 }

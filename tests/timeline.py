@@ -126,8 +126,7 @@ def incomplete(log):
 
 def strange(log):
     lines = log.splitlines(keepends=True)
-    unknown = lines[0] + b"Z,6,0,1,0000000000000002\n" + b"".join(lines[1:])
-    refused(unknown, "line 2 has the letter Z", "C H O R A B X W S K E F")
+    refused(lines[0] + b"Z,6,0,1,0000000000000002\n" + b"".join(lines[1:]), "line 2 has the letter Z", "C H O R X W S K E F")
     for line in [b"S,2,0,1,7,0000000000000000\n", b"S,2,0,0000000000000000\n", b"S,2,0,1,0000000000000000\r\n", b"S,02,0,1,0000000000000000\n"]:
         refused(line + log, "line 1 is no log line")
     refused(b"S,2,64,1,0000000000000000\n" + log, "line 1 has a number outside its range")
@@ -269,45 +268,31 @@ def listings(log):
     return found
 
 
-@functools.lru_cache(maxsize=1)
-def returns(log):
-    """Each event after which a list has less in it: its columns up to the other node, what is off it, and whether that
-    node has crashed by then."""
-    lists, crashed, found = defaultdict(int), set(), []
-    for letter, tick, node, other, dead in fields(log):
-        if letter == "C":
-            crashed.add(node)
-        if lists[node] & ~dead:
-            found.append(((letter, tick, node, other), members(lists[node] & ~dead), other in crashed))
-        lists[node] = dead
-    return found
-
-
 def false_listings(log):
     """The events by which a live node is listed."""
     return [event for _, event, _, alive in listings(log) if alive]
 
 
 def knowledge(nodes, log):
-    """By pairs: the last tick at which what a survivor lists of a node became right, by a listing, a return or a crash,
-    unless it is wrong at the end; which crashed nodes each survivor lacks then; which survivors it lists; and the
-    crashed nodes."""
-    turned, lists, crashed = {}, [0] * nodes, {}
+    """By pairs: the last of the first ticks at which a survivor lists a node that has crashed by then, unless one lists
+    a live node at the end; which nodes each survivor never lists; which survivors each lists; and the crashed nodes."""
+    first, crashed = {}, {}
     for letter, tick, node, other, dead in fields(log):
         if letter == "C":
             crashed[node] = tick
-        for one in members(lists[node] ^ dead):
-            turned[node, one] = tick
-        lists[node] = dead
+        for listed in range(nodes):
+            if dead >> listed & 1:
+                first.setdefault((node, listed), tick)
     survivors = [node for node in range(nodes) if node not in crashed]
-    lacking, wrong, right = defaultdict(set), defaultdict(set), [0]
-    for survivor in survivors:
-        for other in range(nodes):
-            is_listed = lists[survivor] >> other & 1
-            if is_listed != (other in crashed):
-                (lacking if other in crashed else wrong)[survivor].add(other)
-            right.append(max(turned.get((survivor, other), 0), crashed.get(other, 0)))
-    since = None if lacking or wrong or not crashed or not survivors else max(right)
+    pairs = [(survivor, dead) for survivor in survivors for dead in crashed]
+    lacking, wrong = defaultdict(set), defaultdict(set)
+    for survivor, dead in pairs:
+        if (survivor, dead) not in first:
+            lacking[survivor].add(dead)
+    for survivor, listed in first:
+        if survivor in survivors and listed in survivors:
+            wrong[survivor].add(listed)
+    since = None if lacking or wrong or not pairs else max(max(first[pair], crashed[pair[1]]) for pair in pairs)
     return since, dict(lacking), dict(wrong), set(crashed)
 
 
@@ -325,25 +310,12 @@ def found(ring, left, dead):
     return ring[at - passed], passed
 
 
-def between(ring, emitter, node):
-    """The nodes between an emitter and a node, going ahead; all others where the node is its own emitter."""
-    at = ring.index(emitter)
-    ahead = ring[at + 1 :] + ring[:at]
-    return ahead[: ahead.index(node)] if node != emitter else ahead
-
-
 def moves(ring, log, name):
     """Each event by which a node leaves its emitter: letter, tick, node, whom it leaves, whom it takes and how many it passes. A watch expires on the
-    emitter. Each of these lines, and no other, has its K line after it. A return passes none and has no K line: the
-    sender of the heartbeat becomes the emitter where it stands between that and the node, else the emitter stays."""
+    emitter. Each of these lines, and no other, has its K line after it."""
     emitters = {node: ring[place - 1] for place, node in enumerate(ring)}
-    lines, lists = list(fields(log)), defaultdict(int)
+    lines = list(fields(log))
     for (letter, tick, node, other, dead), after in zip(lines, [*lines[1:], None]):
-        if letter == "H" and lists[node] >> other & 1:
-            left, is_between = emitters[node], other in between(ring, emitters[node], node)
-            emitters[node] = other if is_between else left
-            yield letter, tick, node, left, emitters[node], 0
-        lists[node] = dead
         check(letter != "W" or emitters[node] == other, f"{name}: at tick {tick} node {node} does not expire on its emitter")
         number = None
         if letter in "WR" and emitters[node] == other != node:
@@ -439,22 +411,16 @@ def close(ones, others):
 
 
 MARKS = [("S", "sent"), ("H", "heard"), ("W", "watch"), ("W false", "watch-false"), ("C", "crash"), ("X", "dropped")]
-MARKS += [("R", "report"), ("R false", "report-false"), ("R known", "known"), ("H back", "returned")]
-MARKS += [("A", "named"), ("A itself", "named-itself"), ("B", "back"), ("B known", "back-known")]
+MARKS += [("R", "report"), ("R false", "report-false"), ("R known", "known")]
 
 
 def every_mark(picture, log, name):
     """A false listing by a watch or a report has the mark of its letter in another class, and a report that adds
-    nothing has one of its own, as has an A or B that changes nothing. A return has a mark beside that of its H."""
+    nothing has one of its own."""
     at, new = defaultdict(list), {place: alive for place, _, _, alive in listings(log)}
-    lists = defaultdict(int)
     for place, (letter, tick, node, other, dead) in enumerate(fields(log)):
-        listed, lists[node] = lists[node] >> other & 1, dead
         kind = " false" * (letter in "WR" and bool(new.get(place))) + " known" * (letter == "R" and place not in new)
-        kind += " known" * (letter == "B" and not listed) + " itself" * (letter == "A" and node == other)
         at[letter + kind] += [(node, picture.across(tick))] * (2 if letter in "CX" else 1)
-        if letter == "H" and listed:
-            at["H back"].append((node, picture.across(tick)))
     for kind, mark in MARKS:
         check(close(picture.marks(mark), at[kind]), f"{name}: the marks of {kind} are not those of the log's lines")
 
@@ -485,7 +451,7 @@ def every_circle(picture, log, name):
             listed = " and ".join([named(dead)] * bool(dead) + [named(alive)])
             what = f"by its list it lists {listed}, which {'is' if len(alive) == 1 else 'are'} alive"
             titles.append(f"tick {tick}: node {node} gets the heartbeat of node {other}, and {what}")
-    told = [title for title in picture.titles("gets the heartbeat") if "takes it back" not in title]
+    told = picture.titles("gets the heartbeat")
     check(sorted(told) == sorted(titles), f"{name}: told {told}, not {titles}")
     check(len(picture.titles("alive")) == len(false), f"{name}: not each false listing, or another, is told to be one")
 
@@ -509,88 +475,14 @@ def another_colour(picture, name):
     kinds = ["watch", "report", "known", "crash", "heard", "sent", "new", "listed", "bad", "good"]
     others = {colour for kind in kinds for colour in picture.colours[kind]}
     check(own not in others and share not in others, f"{name}: false listings have another mark's colour")
-    others |= {colour for kind in ["returned", "back"] if kind in picture.colours for colour in picture.colours[kind]}
-    check(own not in others and share not in others, f"{name}: false listings have the colour of returns")
     for kind in ["watch-false", "report-false", "alive"]:
         check(set(picture.colours[kind]) == {own}, f"{name}: the colour of {kind} is not that of the circles")
 
 
-def return_in_words(tick, node, other, left, after, crashed):
-    sender = f"node {other}, which it lists" + ", and which has crashed" * crashed
-    where = f" as its emitter in place of node {left}" if after == other else "; its emitter stays"
-    where = " as its emitter and observer, as it was alone" if left == node else where
-    return f"tick {tick}: node {node} gets the heartbeat of {sender}, and takes it back{where}"
-
-
-def told_in_words(letter, tick, node, other, listed):
-    if letter == "A":
-        what = "observes it from now on" if node != other else "observes it: an A that names its receiver does nothing"
-    else:
-        what = "returned, and takes it off its list" if listed else "returned, which it does not list"
-    return f"tick {tick}: node {node} is told that node {other} {what}"
-
-
-def every_return(picture, took, log, name):
-    """A title for each return, A and B. Of the marks of returns a triangle says that the emitter changes, a square that
-    it stays."""
-    by_place, titles, corners, lists = iter(took), [], {3: [], 4: []}, defaultdict(int)
-    gone = {event for event, _, crashed in returns(log) if crashed}
-    for letter, tick, node, other, dead in fields(log):
-        listed, lists[node], crashed = lists[node] >> other & 1, dead, (letter, tick, node, other) in gone
-        if letter == "H" and listed:
-            _, _, _, left, after, _ = next(by_place)
-            titles.append(return_in_words(tick, node, other, left, after, crashed))
-            corners[3 if after == other else 4].append((node, picture.across(tick)))
-            kind = "to a lone node" if left == node else "as emitter" if after == other else "the emitter stays"
-            seen[f"back, {kind}"] += 1
-            seen["back, a crashed node"] += crashed
-        elif letter in "AB":
-            titles.append(told_in_words(letter, tick, node, other, listed))
-            seen[f"{letter}{' itself' * (node == other)}{' listed' * (letter == 'B' and listed)}"] += 1
-    told = picture.titles("takes it back") + picture.titles("is told that")
-    check(sorted(told) == sorted(titles), f"{name}: told {told}, not {titles}")
-    for count, places in corners.items():
-        marked = picture.marks("returned", [count])
-        check(close(marked, places), f"{name}: the marks of returns with {count} corners are not the log's")
-
-
-RETURN_LEGEND = {
-    "H of a listed node, taken back as emitter": "in place of node|as it was alone",
-    "H of a listed node, taken back; the emitter stays": "its emitter stays",
-    "B of a listed node, taken back": "takes it off its list",
-    "B of a node not listed": "which it does not list",
-    "A, another observer is named": "observes it from now on",
-    "A that names its receiver": "names its receiver does nothing",
-}
-
-
-def legend_of_returns(picture, log, name):
-    """The legend has an entry for each kind of return, A and B that the log has. Their colour is their own; A has that
-    of the observers."""
-    said, titles = [text.text for text in picture.of("small")], picture.titles("")
-    for entry, part in RETURN_LEGEND.items():
-        there = any(re.search(part, title) for title in titles)
-        check((entry in said) == there, f"{name}: the legend is wrong about: {entry}")
-    there = bool({"A", "B"} & {letter for letter, *_ in fields(log)})
-    note = "So do A and B: their lines name the new observer, and the node that returned."
-    check((note in picture.words("faint")) == there, f"{name}: what is said of A and B is wrong")
-    styled = "back" in picture.colours
-    check(styled == (there or bool(returns(log))), f"{name}: a style for no return, or none for one")
-    if styled:
-        own = {*picture.colours["back"], *picture.colours["returned"], picture.colours["back-known"][1]}
-        kinds = ["watch", "report", "crash", "heard", "sent", "new", "listed", "bad", "good", "observer"]
-        others = {colour for kind in kinds for colour in picture.colours[kind]}
-        check(len(own) == 1 and not own & others, f"{name}: returns have another mark's colour")
-        named = {*picture.colours["named"], picture.colours["named-itself"][1]}
-        check(named == set(picture.colours["head"]), f"{name}: an A has not the colour of observers")
-
-
 def every_move(picture, moved, log, name):
     """A mark with a title for each move, and a legend where an emitter is left by a report. Whom the node takes is told where the log shows it: that one
-    gets the node's O, or is left by it later. In a log with a return it is told of all moves, by the ring's order."""
+    gets the node's O, or is left by it later."""
     shown = {(other, node) for letter, _, node, other, _ in fields(log) if letter == "O"} | {(node, left) for _, _, node, left, _, _ in moved}
-    if returns(log):
-        shown = {(node, after) for _, _, node, _, after, _ in moved}
     titles, places, false = defaultdict(list), defaultdict(list), set(false_listings(log))
     for letter, tick, node, left, after, passed in moved:
         why = {"W": f"lists node {left}, whose heartbeat did not come", "R": f"gets the report of node {left}, its emitter"}[letter]
@@ -618,38 +510,30 @@ def every_move(picture, moved, log, name):
 
 
 def every_arrow(picture, moved, log, name):
-    """An arrow for each O, to its receiver, from the event by which its sender took the receiver. Where nodes return,
-    one may be taken again: of such events the first has the first arrow."""
-    sent, wanted, found = defaultdict(list), [], []
-    for _, tick, node, _, after, _ in moved:
-        sent[node, after].append(picture.across(tick))
+    """An arrow for each O, to its receiver, from the event by which its sender took the receiver."""
+    sent, wanted, found = {(node, after): picture.across(tick) for _, tick, node, _, after, _ in moved}, [], []
     for letter, tick, node, other, dead in fields(log):
         if letter == "O":
-            check(sent[other, node], f"{name}: node {other} is not the one that takes node {node}")
-            seen["a node taken again"] += (other, node) in [pair[:2] for pair in wanted]
+            check((other, node) in sent, f"{name}: node {other} is not the one that takes node {node}")
             wanted.append((other, node, picture.across(tick)))
     for [(x, y), _], [(tip_x, tip_y), *_] in zip(picture.points("observer"), picture.points("head")):
         sender, receiver = picture.row(y), picture.row(tip_y)
         if sender is not None and receiver is not None:
             found.append((sender, receiver, tip_x))
-            starts = sent[sender, receiver]
-            right = starts and abs(x - starts.pop(0)) < 0.3 and x < tip_x
+            right = abs(x - sent.get((sender, receiver), -1)) < 0.3
             check(right, f"{name}: an arrow from node {sender} to {receiver} that is not from the event that sent it")
     check(close(found, wanted), f"{name}: the arrows are not those of the lines O")
 
 
 def every_label(picture, moved, log, name):
-    """A label stands where a list changes: what is new or off it, while these are few, and at a move the number passed.
-    A move has none only where the label of another move is in its way. The legend has a number where the rows have
-    one."""
+    """A label stands where a list grows: what is new, while these are few, and at a move the number passed. A move has none only where the label of another
+    move is in its way. The legend has a number where the rows have one."""
     passed, labels, changes = {}, [], []
     for letter, tick, node, left, _, number in moved:
         passed[letter, tick, node, left] = f"K{number}"
     for _, event, dead, alive in listings(log):
         new = " ".join(sign + ",".join(map(str, nodes)) for sign, nodes in [("+", dead), ("!", alive)] if nodes)
         changes.append((event[2], picture.across(event[1]), new, passed.get(event, "")))
-    for (_, tick, node, _), back, _ in returns(log):
-        changes.append((node, picture.across(tick), "-" + ",".join(map(str, back)), ""))
     few = len(changes) <= 160
     wanted = [(node, place, f"{new} {number}".strip() if few else number, number) for node, place, new, number in changes]
     for text in picture.of("new"):
@@ -658,11 +542,8 @@ def every_label(picture, moved, log, name):
             labels.append((row, x, x + room, text.text))
             alive = "alive" in text.get("class").split()
             check(alive == ("!" in text.text), f"{name}: the label {text.text!r} has another's colour")
-            back = "back" in text.get("class").split()
-            check(back == ("-" in text.text), f"{name}: the label {text.text!r} has another's colour")
-            seen["off a list"] += back
             near = [place for node, place, words, _ in wanted if (node, words) == (row, text.text) and 7.7 < abs(x - place) <= 8 + room]
-            check(near, f"{name}: the label {text.text!r} of node {row} stands where its list does not change so")
+            check(near, f"{name}: the label {text.text!r} of node {row} stands where its list does not grow so")
     for node, place, words, number in wanted:
         room = 8 + 8 * len(words)
         near = [label for row, left, right, label in labels if row == node and left <= place + 8 + room and right >= place - room]
@@ -671,12 +552,8 @@ def every_label(picture, moved, log, name):
     legend = [text.text for text in picture.of("new") if picture.row(float(text.get("y")) + 7) is None]
     numbered, room = any("K" in label for *_, label in labels), ", where there is room" * (len(labels) < sum(words != "" for _, _, words, _ in wanted))
     said = [text.text for text in picture.of("small") if text.text.startswith("K, ")]
-    off = any(label[0] == "-" for *_, label in labels)
-    wrong = f"{name}: the legend is wrong about the numbers of moves, or about nodes off lists"
-    check(legend == ["K2"] * numbered + ["-3"] * off, wrong)
+    check(legend == ["K2"] * numbered, f"{name}: the legend is wrong about the numbers of moves")
     check(said == [f"K, move: 2 listed nodes passed, the emitter left included{room}"] * numbered, f"{name}: the legend says {said} of moves")
-    said = [text.text for text in picture.of("small") if "is off the list" in text.text]
-    check(said == [f"node 3 is off the list{room}"] * off, f"{name}: the legend says {said} of nodes off lists")
     said = [text.text for text in picture.of("small") if "is new in the list" in text.text]
     signs = any("+" in label for *_, label in labels)
     wanted = [f"share of the nodes listed; +3: node 3 is new in the list{room}"] * signs
@@ -684,8 +561,8 @@ def every_label(picture, moved, log, name):
 
 
 def every_list(picture, log, name):
-    """Bands stand where a list changes or a node in it crashes, and have a part for live nodes. An empty list has none.
-    Each row ends in its node's list or crash."""
+    """Bands stand where a list grows or a node in it crashes, and have a part for live nodes. Each row ends in its
+    node's list or crash."""
     lists, crashes, parts = [0] * len(picture.rows), {}, {}
     *_, before_last, last = log.decode().splitlines() if log.count(b"\n") > 1 else ["", log.decode().strip()]
     end = int((last if last[0] in "EF" else before_last).split(",")[1])
@@ -697,8 +574,7 @@ def every_list(picture, log, name):
             parts.pop((node, picture.across(tick)), None)
             changed = {holder for holder, held in enumerate(lists) if held >> node & 1}
         for holder in changed - set(crashes):
-            parts.pop((holder, picture.across(tick)), None)
-            if tick < end and lists[holder]:
+            if tick < end:
                 alive = [listed for listed in members(lists[holder]) if listed not in crashes]
                 parts[holder, picture.across(tick)] = len(alive) / len(members(lists[holder]))
     every_band(picture, parts, name)
@@ -772,19 +648,6 @@ def who_lacks_whom(words):
     return said
 
 
-def after_returns(said, log, name):
-    """Holds what is said of returns against the log. Answers the words after it."""
-    back = returns(log)
-    if not back:
-        check("taken back" not in said, f"{name}: {said!r}, but no node returns")
-        return said
-    crashed = sum(gone for *_, gone in back)
-    words = f"Listings taken back: {len(back)}, the first in tick {back[0][0][1]}"
-    words += f"; of crashed nodes: {crashed}." if crashed else "."
-    check(said.startswith(words), f"{name}: {said!r} does not begin with {words!r}")
-    return said.removeprefix(words).strip()
-
-
 def after_false(said, survivors, wrong, log, name):
     """Holds what is said of false listings against the log. Answers the words after it."""
     false = false_listings(log)
@@ -823,14 +686,11 @@ def all_know(picture, run_file, log, name):
     if lines:
         check(abs(float(lines[0].get("x1")) - picture.across(since)) < 0.3, f"{name}: all know from another tick than drawn")
     said = " ".join(text.text for text in picture.of("bad") if not text.text.startswith("Refused"))
-    if not said and returns(log):
-        said = " ".join(text.text for text in picture.of("small") if text.text.startswith("Listings taken back"))
     all_words = " ".join(text.text for text in picture.texts)
     for words, holds in [("No node crashes.", not crashed), ("No node survives.", len(crashed) == nodes)]:
         check((words in all_words) == holds, f"{name}: not said, or wrongly: {words}")
         said = said.removeprefix(words).strip()
     said = after_false(said, nodes - len(crashed), wrong, log, name)
-    said = after_returns(said, log, name)
     if lacking:
         check(said.startswith("At the end "), f"{name}: not said who lacks whom")
         check(who_lacks_whom(said) == lacking, f"{name}: {said!r}, but by the log {lacking}")
@@ -852,43 +712,15 @@ def in_order(picture, ring, name):
     check(said == (ring != sorted(ring)), f"{name}: what is said about the rows' order is wrong")
 
 
-def crowds(log):
-    """The most events that are drawn in one go: of heartbeats, drops, and R and B that change nothing; and of others,
-    or of steps of the lists."""
-    quiet, changing, lists, crashed = Counter(), Counter(), defaultdict(int), set()
-    lines = fields(log)
-    for (letter, tick, node, other, dead), after in zip(lines, [*lines[1:], "E"]):
-        before, lists[node], moved = lists[node], dead, after[0] == "K"
-        quiet["S"] += letter in "SHX"
-        quiet[letter] += letter in "RB" and dead == before and not moved
-        changing["moves"] += letter == "K"
-        changing[letter] += letter in "RB" and dead != before and not moved or letter == "O"
-        changing["H"] += letter == "H" and before >> other & 1
-        changing["B"] += letter == "A"
-        if letter == "C":
-            crashed.add(node)
-            changing["steps"] += sum(held >> node & 1 for one, held in lists.items() if one not in crashed)
-        else:
-            changing["steps"] += dead != before and node not in crashed
-    changing["circles"] = len(false_listings(log))
-    return max(quiet.values(), default=0), max(changing.values(), default=0)
-
-
 def held(picture, run_file, ring, log, name):
     """Holds all of a picture against the log. Answers the tick of the mark."""
-    quiet, changing = crowds(log)
-    said = "Of heartbeats, drops and reports that change nothing, not all are drawn." * (quiet > 8000)
-    said = "Of the events, not all are drawn." if changing > 8000 else said
-    faint = picture.words("faint")
-    right = said in faint and ("not all are drawn" in faint) == bool(said)
-    check(right, f"{name}: what is said about thinning is wrong")
-    if not said:
+    letters = Counter(line[:1] for line in log.decode().splitlines())
+    thin = letters["S"] + letters["H"] + letters["X"] > 8000 or letters["R"] > 8000
+    check(thin == ("not all are drawn" in picture.words("faint")), f"{name}: what is said about thinning is wrong")
+    if not thin:
         every_mark(picture, log, name)
-    if picture.scale and changing <= 8000:
-        went = list(moves(ring, log, name))
-        moved = [move for move in went if move[-1]]
-        every_return(picture, [move for move in went if not move[-1]], log, name)
-        legend_of_returns(picture, log, name)
+    if picture.scale:
+        moved = list(moves(ring, log, name))
         every_move(picture, moved, log, name)
         every_arrow(picture, moved, log, name)
         every_label(picture, moved, log, name)
@@ -899,27 +731,16 @@ def held(picture, run_file, ring, log, name):
     return all_know(picture, run_file, log, name)
 
 
-def hidden(ring, log):
-    """How many pairs of neighbours no heartbeat or watch shows, up to the first tick in which watches expire."""
-    until = min((tick for letter, tick, *_ in fields(log) if letter == "W"), default=1_000_000)
-    early = [(letter, node, other) for letter, tick, node, other, _ in fields(log) if tick <= until and letter in "SW"]
-    return len(ring) - len({(node, other) if letter == "S" else (other, node) for letter, node, other in early})
-
-
 def whole(run_file, name, status=0, log=None):
-    """Draws the log of a run file, or the one given, without and with the run file. Answers the latter picture and the
-    tick of the mark. A log with a return that hides more than one pair of neighbours is not drawn without the file."""
+    """Draws the log of a run file, or the one given, without and with the run file. Answers the latter picture and the tick of the mark."""
     log, ring = log or log_of(run_file), ring_of(run_file)
-    by_ring = drawn(log, status, run_file)
+    by_number, by_ring = drawn(log, status), drawn(log, status, run_file)
     pictures = [(by_ring, ring, name)]
-    if returns(log) and hidden(ring, log) > 1:
-        refused(log, "the log shows too little of the ring's order", "give the run file, too")
-        seen["too little of the ring"] += 1
-    elif ring != sorted(ring):
-        pictures.insert(0, (drawn(log, status), sorted(ring), f"{name}, drawn without the run file"))
+    if ring != sorted(ring):
+        pictures.insert(0, (by_number, sorted(ring), f"{name}, drawn without the run file"))
         seen["shuffled"] += 1
     else:
-        check(by_ring == drawn(log, status), f"{name}: another picture with the run file")
+        check(by_ring == by_number, f"{name}: another picture with the run file")
     for picture, rows, what in pictures:
         picture = Seen(picture)
         in_order(picture, rows, what)
@@ -1066,7 +887,7 @@ def says(run_file, name, words, rows=None):
 def short_time_outs():
     """Runs with W below H + D: what they come to, with and without a false listing."""
     says(b"P,2,2,2,1,6\n", "01's edge", "No node crashes. 2 false listings, the first in tick 2. At the end live")
-    says(b"P,3,2,2,1,30\n", "all are listed", "No node crashes. 12 false listings, the first in tick 2.")
+    says(b"P,3,2,2,1,30\n", "all are listed", "No node crashes. 6 false listings, the first in tick 2.")
     says(b"P,1,2,1,1,6\n", "one node, a short time-out", "")
     check(b"circle" not in drawn(log_of(b"P,1,2,1,1,6\n")), "one node, a short time-out: a style for no false listing")
     # The first heartbeats are quick.
@@ -1108,117 +929,12 @@ def live_node_listed():
     os.remove(rehearsed)
 
 
-def taken_back():
-    """By hand: each kind of return, A and B, a node that is taken three times, and a list that shrinks to nothing and
-    grows again."""
-    name = "each kind of return"
-    start = [("S,1,0,1", 0), ("S,1,1,2", 0), ("S,1,2,3", 0)]
-    rows = [*start, ("W,2,3,2", 4), ("K,2,3,1", 4), ("O,3,1,3", 0), ("H,3,3,2", 0), ("A,4,1,2", 0), ("B,4,0,2", 0)]
-    rows += [("B,4,2,2", 0), ("A,5,1,1", 0), ("R,6,3,0", 1), ("H,7,3,0", 0), ("W,8,3,2", 4), ("K,8,3,1", 4)]
-    rows += [("R,9,3,1", 6), ("K,9,3,1", 6), ("W,10,3,0", 7), ("K,10,3,1", 7), ("O,11,1,3", 0), ("H,11,3,1", 5)]
-    rows += [("C,12,2,2", 0), ("H,13,3,2", 1), ("B,14,3,0", 0), ("W,15,3,2", 4), ("K,15,3,1", 4), ("O,16,1,3", 0)]
-    rows += [("R,16,0,2", 4), ("R,16,1,2", 4), ("F,20,3,0", 4)]
-    picture, since = whole(b"P,4,2,2,1,20\n", name, log=by_hand(*rows))
-    check(since == 16, f"{name}: not tick 16")
-    gets = "gets the heartbeat of node"
-    for words in [
-        f"tick 3: node 3 {gets} 2, which it lists, and takes it back as its emitter in place of node 1",
-        "tick 4: node 1 is told that node 2 observes it from now on",
-        "tick 4: node 0 is told that node 2 returned, which it does not list",
-        "tick 5: node 1 is told that node 1 observes it: an A that names its receiver does nothing",
-        f"tick 7: node 3 {gets} 0, which it lists, and takes it back; its emitter stays",
-        f"tick 11: node 3 {gets} 1, which it lists, and takes it back as its emitter and observer, as it was alone",
-        f"tick 13: node 3 {gets} 2, which it lists, and which has crashed, and takes it back as its emitter in place of"
-        " node 1",
-        "tick 14: node 3 is told that node 0 returned, and takes it off its list",
-        "tick 15: node 3 lists node 2, whose heartbeat did not come, and moves to node 1, passing 1 listed node",
-    ]:
-        check(picture.titles("").count(words) == 1, f"{name}: not told {words!r}")
-    wanted = "5 false listings, the first in tick 2. At the end no survivor lists a live node."
-    wanted += " Listings taken back: 5, the first in tick 3; of crashed nodes: 1."
-    check(picture.words("bad") == wanted, f"{name}: {picture.words('bad')!r}, not {wanted!r}")
-    # A crashed node alone, whose last heartbeat is late: no listing is false.
-    rows = [("S,1,0,1", 0), ("S,1,2,0", 0), ("C,3,1,1", 0), ("W,6,2,1", 2), ("K,6,2,1", 2), ("H,7,2,1", 0)]
-    rows += [("W,9,2,1", 2), ("K,9,2,1", 2), ("R,10,0,1", 2), ("F,12,2,0", 2)]
-    picture, since = whole(b"P,3,2,2,1,12\n", "a crashed node is back", log=by_hand(*rows))
-    check(since == 10 and not picture.of("bad"), "a crashed node is back: not tick 10, or a false listing")
-    # An A or B alone, and a log that ends in 8,0.
-    for line in ["A,3,0,1", "B,3,0,1"]:
-        whole(b"P,3,2,2,1,12\n", f"{line} alone", log=by_hand((line, 0), ("F,12,3,0", 0)))
-        whole(b"P,2,2,2,1,12\n", f"{line} before 8", 2, by_hand((line, 0)) + b"8,0\n")
-
-
-def no_such_return():
-    """Lists that shrink in other ways, lines that do not clear their node, emitters that a node does not have, logs
-    that show too little of the ring, and lines A and B where W is not below H + D."""
-    listed, last = [("S,1,0,1", 0), ("S,1,2,0", 0), ("W,2,2,1", 2), ("K,2,2,1", 2)], ("F,9,3,0", 0)
-    off = "by line 5 node 1 is off the list of node 2, but only a heartbeat of a node and a B of it take it off"
-    for line in ["S,3,2,0", "H,3,2,0", "B,3,2,0", "O,3,2,0", "R,3,2,1", "A,3,2,1", "C,3,2,2"]:
-        crashed = [("F,9,2,0", 4)] if line[0] == "C" else [last]
-        refused(by_hand(*listed, (line, 0), *crashed), off)
-    refused(by_hand(*listed, ("H,3,2,1", 1), last), off)
-    both = [("R,3,2,0", 3), ("K,3,2,1", 3), ("B,4,2,1", 0)]
-    refused(by_hand(*listed, *both, last), "by line 7 nodes 0, 1 are off the list of node 2")
-    for line in ["H,3,2,1", "B,3,2,1"]:
-        words = "line 5 has node 1 in its list, which an H or B line takes off it", "the log is from before returns"
-        refused(by_hand(*listed, (line, 2), last), *words)
-        refused(by_hand(*listed, (line, 2)) + b"8,0\n", *words)
-    back = [*listed, ("H,3,2,1", 0)]
-    drawn(by_hand(*back, last))
-    # Node 2 has node 1 as its emitter again.
-    words = "by line 6 and the next of the log node 2 leaves node 0 and passes 1, but by the ring's order"
-    refused(by_hand(*back, ("W,5,2,0", 1), ("K,5,2,1", 1), last), f"{words} it observes node 1")
-    words = "node 2 leaves node 1 and passes 1, but by the ring's order it observes node 1", "passes 2"
-    refused(by_hand(*back, ("R,4,2,0", 1), ("W,5,2,1", 3), ("K,5,2,1", 3), last), *words)
-    words = "line 6: node 2 sends an O, but no K line says that it has moved there"
-    refused(by_hand(*back, ("O,4,1,2", 0), last), words)
-    # The ring is shown but for one pair of neighbours, or not.
-    unseen = [("W,2,2,1", 2), ("K,2,2,1", 2), ("H,3,2,1", 0), last]
-    refused(by_hand(*unseen), "the log shows too little of the ring's order", "give the run file, too")
-    drawn(by_hand(*unseen), run_file=b"P,3,2,2,1,9\n")
-    # What ends in E has none of it.
-    none = "but in a log that ends in E no node returns"
-    for line in ["A,3,0,1", "B,3,0,1"]:
-        refused(by_hand((line, 0), ("E,9,3,0", 0)), f"line 1 of the log has the letter {line[0]}, {none}")
-        words = f"W is not below H + D, but line 1 of the log has the letter {line[0]}"
-        refused(by_hand((line, 0)) + b"8,0\n", words, arguments=("-", place, kept(b"P,2,2,3,1,9\n")))
-    gone = [("S,1,0,1", 0), ("S,1,2,0", 0), ("C,2,1,1", 0), ("W,2,2,1", 2), ("K,2,2,1", 2), ("H,3,2,1", 0)]
-    refused(by_hand(*gone, ("E,9,2,0", 2)), f"by line 6 of the log node 2 takes node 1 off its list, {none}")
-    drawn(by_hand(*gone, ("F,9,2,0", 2)))
-    os.remove(rehearsed)
-
-
-def returning():
-    """Small rings with W below H + D and delays of all lengths, in number order and in others; and a long one."""
-    numbers = random.Random(4)
-    for index in range(40):
-        nodes, h, d, end = numbers.randint(2, 5), numbers.randint(1, 5), numbers.randint(1, 4), numbers.randint(10, 40)
-        order = ",".join(map(str, numbers.sample(range(nodes), nodes)))
-        crashed = numbers.sample(range(nodes), numbers.randint(0, 2))
-        crashes = sorted((numbers.randint(1, end), node) for node in crashed)
-        delays = [(number, numbers.randint(1, d)) for number in sorted(numbers.sample(range(60), 20))]
-        lines = [f"P,{nodes},{h},{numbers.randint(1, h + d - 1)},{d},{end}"] + [f"Q,{order}"] * (index % 2)
-        lines += [f"C,{tick},{node}" for tick, node in crashes] + [f"L,{number},{delay}" for number, delay in delays]
-        run_file = "".join(line + "\n" for line in lines).encode()
-        whole(run_file, f"returns, file {index}", 2 * log_of(run_file).endswith(b"8,0\n"))
-    # Two pairs of neighbours crash before they send.
-    early = b"C,0,1\nC,0,2\nC,0,4\nC,0,5\n"
-    for ring_line in [b"", b"Q,5,4,2,1,3,0\n"]:
-        whole(b"P,6,2,1,1,30\n" + ring_line + early, "returns in a ring that the log hides")
-    # Reports and returns go round after each other to the end.
-    picture, _ = whole(b"P,7,6,8,3,3000\n", "3,000 ticks of returns")
-    marks = sum(element.tag != SVG + "title" for element in picture.root.iter())
-    thin = "Of the events, not all are drawn." in picture.words("faint")
-    check(thin and marks < 30000, f"3,000 ticks of returns: not thinned out, {marks} elements")
-
-
 def many_listed():
     """Larger rings with W below H + D, some of which end in 8,0, and rings in other orders than that of the numbers."""
-    for nodes, end, status in [(8, 60, 0), (20, 21, 0), (20, 60, 2), (64, 60, 2)]:
-        crashes = b"C,20,3\nC,%d,4\n" % min(31, end)
-        whole(b"P,%d,5,9,6,%d\n%s" % (nodes, end, crashes), f"{nodes} nodes, a short time-out", status)
+    for nodes, status in [(8, 0), (20, 0), (64, 2)]:
+        whole(b"P,%d,5,9,6,60\nC,20,3\nC,31,4\n" % nodes, f"{nodes} nodes, a short time-out", status)
         order = ",".join(map(str, random.Random(3).sample(range(nodes), nodes))).encode()
-        run_file = b"P,%d,5,10,6,%d\nQ,%s\nC,20,3\n" % (nodes, end, order)
+        run_file = b"P,%d,5,10,6,60\nQ,%s\nC,20,3\n" % (nodes, order)
         whole(run_file, f"{nodes} nodes in another order, a short time-out", status)
     quick = b"".join(b"L,%d,1\n" % number for number in range(11))
     whole(b"P,12,4,6,3,90\nC,20,3\nC,47,9\n" + quick, "12 nodes, one late heartbeat")
@@ -1258,13 +974,10 @@ def committed(path, letters):
 def committed_pictures():
     crashes, since, false = committed(shown, "CHORXWSKE")
     check(crashes == 2 and since is not None and not false, "the committed picture lacks its crashes or its mark")
-    crashes, since, false = committed(short, "CHORABXWSKF")
-    check(crashes == 1 and since is not None, "the committed picture of a short time-out lacks its crash or its mark")
+    crashes, since, false = committed(short, "CHORXWSKF")
+    check(crashes == 1 and since is None, "the committed picture of a short time-out lacks its crash, or has a mark")
     kinds = {letter for letter, *_ in false}
     check(kinds == set("WRH"), "the committed picture of a short time-out lacks a kind of false listing")
-    with open(short, "rb") as file:
-        kinds = {letter for (letter, *_), _, crashed in returns(log_of(file.read())) if not crashed}
-    check(kinds == set("HB"), "in the committed picture of a short time-out no live node returns by H and by B")
 
 
 def main():
@@ -1284,9 +997,6 @@ def main():
     listed_by_each()
     short_time_outs()
     live_node_listed()
-    taken_back()
-    no_such_return()
-    returning()
     many_listed()
     many_nodes()
     shuffled()
@@ -1297,9 +1007,6 @@ def main():
     outcomes += ["false W", "false R", "false H", "false H with a crashed node", "left falsely by W"]
     outcomes += ["left falsely by R", "share of live nodes"]
     outcomes += ["live nodes listed", "no live node listed at the end", "many list live nodes"]
-    outcomes += ["back, as emitter", "back, the emitter stays", "back, to a lone node", "back, a crashed node"]
-    outcomes += ["off a list", "A", "A itself", "B", "B itself", "B listed", "a node taken again"]
-    outcomes.append("too little of the ring")
     for outcome in outcomes + ["moves to", "moves on", "is alone", "passed 1", "passed more", "numbers"]:
         check(seen[outcome], f"no file had the outcome: {outcome}")
     print("timeline: " + ", ".join(f"{outcome} {count}" for outcome, count in sorted(seen.items())))

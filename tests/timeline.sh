@@ -1,9 +1,7 @@
 #!/bin/sh
 # The pictures of tools/timeline.py. The committed ones, docs/rehearsal.svg and docs/short.svg, are those of
 # docs/rehearsal.run and docs/short.run, byte for byte. The latter has W below H + D: false listings, of nodes that are
-# alive, are told apart from others by mark, colour, label and words, and while there are any no line says that all
-# know. Listed nodes return there, lists shrink, and lines A and B tell of it: each has its mark, its words and its
-# place in the legend, and who is taken as emitter is that of the ring's order. Refused,
+# alive, are told apart from others by mark, colour, label and words, and no line says then that all know. Refused,
 # incomplete and strange logs, moves and K lines without each other, and run files that are not a log's own, are told in words and leave no file. What is
 # drawn is held against the log's lines: every mark, the tick from which all survivors list all crashed nodes, who lacks whom, and labels that stand apart.
 # Each move of an emitter has its number, which is that of its K line and of the ring. With a run file that has a Q line the rows stand in its order. With
@@ -25,5 +23,4 @@ for shown in rehearsal short; do
     cmp "docs/$shown.svg" "$work/$shown.svg"
 done
 "$out/generate" small "$seed" "$count" "$work"
-python3 tests/timeline.py "$out/simulate" "$work" docs/rehearsal.run docs/short.run tests/learnt.run tests/short.run \
-    "$work/$seed"-*.run
+python3 tests/timeline.py "$out/simulate" "$work" docs/rehearsal.run docs/short.run tests/learnt.run "$work/$seed"-*.run

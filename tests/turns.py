@@ -5,7 +5,7 @@ Usage: tests/turns.py LENGTH TURNS FILE ..                     writes it
 REHEARSE names another rehearsal program.
 
 A log says how many events a file has, and whether one is refused after them; the rest is who gets which turn. A third
-of the generated files have a W below H + D; in these nodes may return, which is an event as any other.
+of the generated files have a W below H + D.
 """
 import os
 import random
@@ -16,7 +16,7 @@ REHEARSE = os.environ.get("REHEARSE", "target/bin/rehearse")
 WANTED = {
     "one file", "eight files", "no event at all", "one turn a call", "fewer turns than asked", "passed over while others go on",
     "done in a turn", "done at a turn's end", "stopped in a turn", "stopped in a turn without events", "stopped in the last turn of a call",
-    "short W", "short W beside long W", "a node returns",
+    "short W", "short W beside long W",
 }
 
 
@@ -28,11 +28,8 @@ class Rehearsal:
             log = subprocess.run([REHEARSE], stdin=text, capture_output=True, check=True).stdout.decode().splitlines()
         self.place, self.file, self.events, self.stopped, self.short = place, file, 0, False, log[-1][0] == "F"
         self.left, self.refused = sum(line[0] not in "KEF8" for line in log), log[-1] == "8,0"
-        self.returns = any(line[0] in "AB" for line in log)
         if not self.refused and log[-1][0] not in "EF":
             sys.exit(f"turns: {file} is refused: {log[-1]}")
-        if log[-1][0] == "E" and self.returns:
-            sys.exit(f"turns: {file} ends in E, and a node returns")
 
     def has_event(self):
         return self.left > 0 or self.refused
@@ -70,7 +67,6 @@ def printed(files, length, turns, met):
     going, text, call, status = [Rehearsal(place, file) for place, file in enumerate(files)], "", 0, 0
     met |= {"no event at all"} if not all(one.has_event() for one in going) else set()
     met |= {"short W"} if any(one.short for one in going) else set()
-    met |= {"a node returns"} if any(one.returns for one in going) else set()
     met |= {"short W beside long W"} if len({one.short for one in going if not one.refused}) == 2 else set()
     while going:
         call += 1

@@ -27,7 +27,7 @@ prints() {
 }
 
 # Three planners: 178 events, 8 events, and 2,048 before one that is refused. A fourth has nothing to do, since a node alone does nothing.
-# A fifth has a W below H + D, with which three nodes list each other and return.
+# A fifth has a W below H + D, with which three nodes list each other.
 files() {
     rm -rf "$runs"
     mkdir "$runs"
@@ -75,19 +75,11 @@ call 3, 3 of 5 turns: 2:178 2:178 2:90
 call 2, 1 of 2 turns: 2:89
   2 six.run: done after 178 events
 ' '' 89 2 two.run alone.run six.run
-    # By the log 52 events. At tick 2 three watches and three heartbeats; at tick 3 three times O, R and H, each H the return
-    # of its sender to a node alone, which sends a heartbeat; at tick 4 three B and three H, all three returns; at tick 5 six
-    # B, three watches and three heartbeats. So far 36. At tick 6 again three times O, R and H, of which one is a return and
-    # makes a heartbeat due; at ticks 7 and 8 a B, an H and a heartbeat each.
-    prints 0 'call 1, 9 of 9 turns: 0:5 1:5 0:3 1:5 1:5 1:5 1:5 1:5 1:5
+    # By the log 15 events: three watches and three heartbeats at tick 2, and at tick 3 three times O, R and H.
+    prints 0 'call 1, 5 of 9 turns: 0:5 1:5 0:3 1:5 1:5
   0 two.run: done after 8 events
-call 2, 4 of 9 turns: 1:5 1:5 1:5 1:2
-  1 short.run: done after 52 events
+  1 short.run: done after 15 events
 ' '' 5 9 two.run short.run
-    prints 0 'call 1, 5 of 9 turns: 0:8 1:13 1:13 1:13 1:13
-  0 two.run: done after 8 events
-  1 short.run: done after 52 events
-' '' 13 9 two.run short.run
 }
 
 refusals() {

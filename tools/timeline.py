@@ -19,17 +19,8 @@ is alive. At the mark and in the lists at the end a live node has an exclamation
 crashed since has none. The share of a list that live nodes make up has a colour, too. The picture says how many false
 listings there are, when the first is, and which live nodes are listed at the end. Where any is, no line says that all
 know. A log that ends in E and has a false listing is not drawn, as no rehearsal writes it.
-
-In such a run a listed node returns: a node that gets a heartbeat of one that it lists takes it off its list. It may
-take it as its emitter, without a K line. Lines B tell others of the return, and lines A name a new observer. Each of
-these has a mark, filled where it changes the node. On A and B `other` is the node named, not the sender, so they have
-no arrow. A label -3 says that node 3 is off the list. Whom a node observes follows from the ring's order, that of the
-run file or else the one that the log shows by its first heartbeats and watches. Where the log shows too little of it, the
-run file is asked for. Where a node moved to the same emitter more than once, the first O to come is drawn from the
-first of these moves. A log that ends in E and has a line A or B, or a node taken off a list, is not drawn, either.
 """
 import contextlib
-import functools
 import os
 import re
 import sys
@@ -42,7 +33,7 @@ Event = namedtuple("Event", "line letter tick node other list passed", defaults=
 NUMBER = "(0|[1-9][0-9]{0,6})"
 LOG_LINE = re.compile(f"([A-Z]),{NUMBER},{NUMBER},{NUMBER},([0-9a-f]{{16}})")
 REFUSAL = re.compile(f"{NUMBER},{NUMBER}")
-LETTERS = "CHORABXWSKEF"
+LETTERS = "CHORXWSKEF"
 LAST_LETTERS = "EF"
 START_LINE = re.compile("P" + 5 * f",{NUMBER}")
 RING_LINE = re.compile(f"Q(?:,{NUMBER})+")
@@ -106,13 +97,6 @@ FALSE_STYLE = """.circle { fill: #ffffff; fill-opacity: 0.55; stroke: #9c1694; s
 .report-false { fill: #9c1694; stroke: #9c1694; stroke-width: 1.2 }
 .share { fill: #c06bba }
 .alive { fill: #9c1694 }
-"""
-# Where there is a line A or B, or a return.
-RETURN_STYLE = """.back { fill: #00717f }
-.returned { fill: #00717f }
-.back-known { fill: #ffffff; stroke: #00717f; stroke-width: 1.2 }
-.named { fill: #6a4fb3; stroke: #6a4fb3; stroke-width: 1.2 }
-.named-itself { fill: #ffffff; stroke: #6a4fb3; stroke-width: 1.2 }
 """
 
 
@@ -184,48 +168,20 @@ def read_log(text):
         if event.letter == "W" and not event.passed:
             fail(f"line {event.line}, a W line, has no K line after it: the log is from before K lines, or one is missing")
     if refused:
-        check_lists(events)
         return events, None
     if members(events[-1].list) != sorted(event.node for event in events if event.letter == "C"):
         fail("the last line's crashed nodes are not those of the C lines: the log's beginning may be missing")
     listing = events[-1].letter == "E" and first_false(events[:-1])
     if listing:
         fail(f"{listing}, but in a log that ends in E no live node is listed")
-    check_lists(events[:-1])
-    back = events[-1].letter == "E" and first_return(events[:-1])
-    if back:
-        fail(f"{back}, but in a log that ends in E no node returns")
     return events[:-1], events[-1]
-
-
-def check_lists(events):
-    """A heartbeat of a listed node, and a B of it, take it off the list, and nothing else takes a node off one."""
-    for event, dead, alive, back in changed(events):
-        if back and (event.letter not in "HB" or back != [event.other] or dead or alive):
-            off = f"{spelled(back)} {'is' if len(back) == 1 else 'are'} off the list of node {event.node}"
-            fail(f"by line {event.line} {off}, but only a heartbeat of a node and a B of it take it off, one at a time")
-    for event in events:
-        if event.letter in "HB" and event.list >> event.other & 1:
-            why = "which an H or B line takes off it: the log is from before returns, or is none"
-            fail(f"line {event.line} has node {event.other} in its list, {why}")
 
 
 def first_false(events):
     """In words, the first event by which a live node is listed, or nothing."""
-    for event, _, alive, _ in changed(events):
+    for event, _, alive in grown(events):
         if alive:
             return f"by line {event.line} of the log node {event.node} lists {alive_in_words(alive)}"
-    return None
-
-
-def first_return(events):
-    """In words, the first event that is a return or tells of one, or nothing."""
-    back = {event for event, *_, gone in changed(events) if gone}
-    for event in events:
-        if event.letter in "AB":
-            return f"line {event.line} of the log has the letter {event.letter}"
-        if event in back:
-            return f"by line {event.line} of the log node {event.node} takes node {event.other} off its list"
     return None
 
 
@@ -242,9 +198,9 @@ def check_time_out(start, events, last):
         return
     if last and last.letter == "F":
         not_its_run_file("by its P line W is not below H + D, but the log ends in F")
-    told = first_false(events) or first_return(events)
-    if told:
-        not_its_run_file(f"by its P line W is not below H + D, but {told}")
+    listing = first_false(events)
+    if listing:
+        not_its_run_file(f"by its P line W is not below H + D, but {listing}")
 
 
 def read_ring(text, nodes, events, last):
@@ -308,16 +264,15 @@ def alive_in_words(nodes):
     return f"{spelled(nodes)}, which {'is' if len(nodes) == 1 else 'are'} alive"
 
 
-def changed(events):
-    """The events after which a node's list is another, with what is new, nodes crashed by then and live ones, and with
-    what is off it."""
+def grown(events):
+    """The events after which a node's list has more in it, with what is new: nodes crashed by then, and live ones."""
     lists, crashed = {}, 0
     for event in events:
         crashed |= (event.letter == "C") << event.node
-        before, lists[event.node] = lists.get(event.node, 0), event.list
-        if event.list != before:
-            new = event.list & ~before
-            yield event, members(new & crashed), members(new & ~crashed), members(before & ~event.list)
+        new = event.list & ~lists.get(event.node, 0)
+        lists[event.node] = event.list
+        if new:
+            yield event, members(new & crashed), members(new & ~crashed)
 
 
 def shares(events):
@@ -362,72 +317,12 @@ def knowledge(nodes, events):
     return since, lacking, wrong
 
 
-# ---- moves and returns
-
-
-def shown_ring(nodes, events):
-    """The nodes in the ring's order, from node 0, where the log shows it up to one pair of neighbours; else nothing."""
-    following = {node: after for _, node, after in neighbours(events)}
-    first = set(range(nodes)) - set(following.values())
-    if len(following) < nodes - 1 or len(first) > 1:
-        return None
-    ring = [0]
-    while len(ring) < nodes:
-        ring.append(following.get(ring[-1], min(first, default=0)))
-    return ring if sorted(ring) == list(range(nodes)) else None
-
-
-def before(ring, left, dead):
-    """The first node that a list does not hold, going back from one that is left, and how many nodes are passed."""
-    place = ring.index(left)
-    passed = next(back for back in range(len(ring)) if not dead >> ring[place - back] & 1)
-    return ring[place - passed], passed
-
-
-def is_between(ring, emitter, node, other):
-    """Whether the other node stands strictly between the emitter and the node, going ahead. All do between a node and
-    itself."""
-    places = {one: (place - ring.index(emitter)) % len(ring) for place, one in enumerate(ring)}
-    return 0 < places[other] < (places[node] or len(ring))
-
-
-def emitters(ring, events, returns):
-    """By move, and by return that changes it, a node's emitter before and after, by the ring's order."""
-    held, found = {node: ring[place - 1] for place, node in enumerate(ring)}, {}
-    for event in events:
-        node, emitter = event.node, held[event.node]
-        if event.passed:
-            after, passed = before(ring, event.other, event.list)
-            if (emitter, passed) != (event.other, event.passed):
-                leaves = f"node {node} leaves node {event.other} and passes {event.passed}"
-                rules = f"it observes node {emitter} and going back from node {event.other} passes {passed}"
-                fail(f"by line {event.line} and the next of the log {leaves}, but by the ring's order {rules}")
-        elif event in returns and event.letter == "H" and is_between(ring, emitter, node, event.other):
-            after = event.other
-        else:
-            continue
-        held[node], found[event] = after, (emitter, after)
-    return found
-
-
-def sent_by_ring(events, found):
-    """By O the move that sent it, by the emitters found. Of several moves to one emitter, the first has the first O."""
-    flying, sent = {}, {}
-    for event in events:
-        if event.passed:
-            flying.setdefault((event.node, found[event][1]), []).append(event)
-        elif event.letter == "O":
-            moves_to_it = flying.get((event.other, event.node))
-            if not moves_to_it:
-                fail(f"line {event.line}: node {event.other} sends an O, but no K line says that it has moved there")
-            sent[event] = moves_to_it.pop(0)
-    return sent
+# ---- moves
 
 
 def moves(events):
     """By node and emitter, the move by which the node takes that emitter, as far as the log shows it: the node's last one before it leaves the emitter or
-    the emitter gets its O, whichever comes first. Nothing where there is none before, as the emitter was there from the start.
-    For logs without a return: in these a node takes an emitter once."""
+    the emitter gets its O, whichever comes first. Nothing where there is none before, as the emitter was there from the start."""
     last, taking = {}, {}
     for event in events:
         if event.passed:
@@ -451,46 +346,20 @@ class Picture:
         if run_file is not None:
             self.ring = read_ring(run_file, self.nodes, events, last)
             check_ring(self.ring, events)
-        self.changes = {event: change for event, *change in changed(events)}
-        self.false = {event: alive for event, (_, alive, _) in self.changes.items() if alive}
-        self.returns = {event: back for event, (*_, back) in self.changes.items() if back}
-        self.told = [event for event in events if event.letter in "AB"]
-        self.emitters, self.thin = {}, set()
-        self.find_moves(run_file is not None)
         self.rows = {node: row for row, node in enumerate(self.ring)}
         self.end = last.tick if last else events[-1].tick
         width = min(WIDEST, max(NARROWEST, (self.end + 1) * TICK_WIDTH))
         self.scale = min(MOST_TICK_WIDTH, width / (self.end + 1))
         self.row = 44 if self.nodes <= 12 else 28 if self.nodes <= 32 else 22
         self.crashes = {event.node: event.tick for event in events if event.letter == "C"}
+        self.moves = moves(events)
+        self.news = {event: (dead, alive) for event, dead, alive in grown(events)}
+        self.false = {event: alive for event, (_, alive) in self.news.items() if alive}
         self.last_words = [self.at_end(node, members(dead)) for node, dead in enumerate(last_lists(self.nodes, events))]
         longest = max(len(words) for words in [LISTS, *(words for words, _ in self.last_words)])
         self.after_end = self.x(self.end) + (16 if self.false else 10)
         self.right = round(max(self.after_end + LETTER_WIDTH * longest, LEFT + NARROWEST))
         self.elements = []
-
-    def find_moves(self, by_run_file):
-        """The move that sent each O, and the emitter that each move takes: by the ring's order where a node returns, as
-        it may be taken as emitter then, and else as far as the log shows it."""
-        if not self.returns:
-            taking = moves(self.events)
-            self.sent = {event: taking[event.other, event.node] for event in self.events if event.letter == "O"}
-            self.taken = {move: emitter for (_, emitter), move in taking.items()}
-            return
-        ring = self.ring if by_run_file else shown_ring(self.nodes, self.events)
-        if ring is None:
-            why = "the log shows too little of the ring's order to tell whom nodes observe after a return"
-            fail(f"{why}: give the run file, too")
-        self.emitters = emitters(ring, self.events, self.returns)
-        self.sent = sent_by_ring(self.events, self.emitters)
-        self.taken = {event: after for event, (_, after) in self.emitters.items()}
-
-    def is_gone(self, event):
-        """Whether the other node has crashed by then. Crashes come first in a tick."""
-        return self.crashes.get(event.other, event.tick + 1) <= event.tick
-
-    def is_alone(self, move):
-        return self.taken[move] == move.node if self.emitters else len(members(move.list)) == self.nodes - 1
 
     def at_end(self, node, held):
         """What a row comes to, in words, and the class of these."""
@@ -548,12 +417,6 @@ class Picture:
     def expired(self, x, y, told=None, kind="watch"):
         self.shape(kind, [(x - 6, y - 7), (x + 6, y - 7), (x, y + 4)], told)
 
-    def square(self, kind, x, y, told=None):
-        self.shape(kind, [(x - 4, y - 4), (x + 4, y - 4), (x + 4, y + 4), (x - 4, y + 4)], told)
-
-    def taken_back(self, x, y, told=None):
-        self.shape("returned", [(x + 6, y - 6), (x + 6, y + 6), (x - 6, y)], told)
-
     def reported(self, x, y, told=None, kind="report"):
         self.shape(kind, [(x - 6, y + 4), (x + 6, y + 4), (x, y - 7)], told)
 
@@ -602,7 +465,7 @@ def draw_rows(picture):
 def draw_lists(picture):
     """A step under the row for each list, as high as the share of the nodes that it holds. The lower part of it is that
     of live nodes."""
-    for node, changes in thinned_steps(picture, shares(picture.events)).items():
+    for node, changes in shares(picture.events).items():
         until = picture.crashes.get(node, picture.end)
         ends = [tick for tick, *_ in changes[1:]] + [until]
         for (tick, dead, alive), end in zip(changes, ends):
@@ -615,35 +478,21 @@ def draw_lists(picture):
                     picture.rect("share", x, round(y + height - part, 1), width, part)
 
 
-def stretch_of(picture, tick):
-    """The number of a tick's stretch of the picture."""
-    return int(picture.x(tick) / (2 * picture.nodes * (picture.x(picture.end) - LEFT) / MOST_MARKS))
-
-
-def thinned(picture, events, kind="change"):
-    """All events where they are few, else one of a node and letter in each stretch of the picture. Where any is left
-    out, the picture keeps that kind of event for its note."""
+def thinned(picture, events):
+    """All events where they are few, else one of a node and letter in each stretch of the picture. And whether any is left out."""
     if len(events) <= MOST_MARKS:
-        return events
+        return events, False
+    stretch = 2 * picture.nodes * (picture.x(picture.end) - LEFT) / MOST_MARKS
     places = {}
     for event in events:
-        places.setdefault((event.node, event.letter, stretch_of(picture, event.tick)), event)
-    if len(places) < len(events):
-        picture.thin.add(kind)
-    return list(places.values())
-
-
-def thinned_steps(picture, steps):
-    """All steps of the lists where they are few, else the last of a node in each stretch of the picture."""
-    if sum(map(len, steps.values())) <= MOST_MARKS:
-        return steps
-    picture.thin.add("change")
-    return {node: list({stretch_of(picture, step[0]): step for step in mine}.values()) for node, mine in steps.items()}
+        places.setdefault((event.node, event.letter, int(picture.x(event.tick) / stretch)), event)
+    return list(places.values()), len(places) < len(events)
 
 
 def draw_heartbeats(picture):
+    kept, thin = thinned(picture, [event for event in picture.events if event.letter in "SHX"])
     size = 8 if picture.row > 40 else 5
-    for event in thinned(picture, [event for event in picture.events if event.letter in "SHX"], "quiet"):
+    for event in kept:
         x, y = picture.x(event.tick), picture.y(event.node)
         if event.letter == "S":
             picture.line("sent", x, y - size, x, y)
@@ -651,19 +500,21 @@ def draw_heartbeats(picture):
             picture.line("heard", x, y, x, y + size)
         else:
             picture.cross("dropped", x, y, 2.5)
+    return thin
 
 
 def draw_observers(picture):
     """An arrow for each O, from the move that sent it."""
-    for event in thinned(picture, list(picture.sent)):
-        sent = picture.sent[event]
-        picture.arrow(picture.x(sent.tick), picture.y(event.other), picture.x(event.tick), picture.y(event.node))
+    for event in picture.events:
+        if event.letter == "O":
+            sent = picture.moves[event.other, event.node]
+            picture.arrow(picture.x(sent.tick), picture.y(event.other), picture.x(event.tick), picture.y(event.node))
 
 
 def draw_circles(picture):
     """A circle for each false listing, round the mark of its event. That of a heartbeat has words of its own."""
-    for event in thinned(picture, list(picture.false)):
-        told = None if event.letter in "WR" else heartbeat_in_words(event, *picture.changes[event][:2])
+    for event in picture.false:
+        told = None if event.letter in "WR" else heartbeat_in_words(event, *picture.news[event])
         picture.circle(picture.x(event.tick), picture.y(event.node) - 1.5 * bool(event.passed), told)
 
 
@@ -682,51 +533,11 @@ def report_in_words(picture, event):
 def draw_reports(picture):
     """Those by which no emitter is left."""
     reports = [event for event in picture.events if event.letter == "R" and not event.passed]
-    kept = thinned(picture, [event for event in reports if event not in picture.changes], "quiet")
-    for event in kept + thinned(picture, [event for event in reports if event in picture.changes]):
-        kind = "report-false" if event in picture.false else "report" if event in picture.changes else "known"
+    kept, thin = thinned(picture, [event for event in reports if event not in picture.news])
+    for event in kept + [event for event in reports if event in picture.news]:
+        kind = "report-false" if event in picture.false else "report" if event in picture.news else "known"
         picture.diamond(kind, picture.x(event.tick), picture.y(event.node), report_in_words(picture, event))
-
-
-def return_in_words(picture, event):
-    """Of a heartbeat by which a node is taken back."""
-    sender = f"node {event.other}, which it lists" + ", and which has crashed" * picture.is_gone(event)
-    words = f"tick {event.tick}: node {event.node} gets the heartbeat of {sender}, and takes it back"
-    if event not in picture.emitters:
-        return f"{words}; its emitter stays"
-    left, _ = picture.emitters[event]
-    place = "and observer, as it was alone" if left == event.node else f"in place of node {left}"
-    return f"{words} as its emitter {place}"
-
-
-def told_in_words(picture, event):
-    """Of an A or B."""
-    if event.letter == "B":
-        what = "returned, and takes it off its list" if event in picture.returns else "returned, which it does not list"
-    elif event.node == event.other:
-        what = "observes it: an A that names its receiver does nothing"
-    else:
-        what = "observes it from now on"
-    return f"tick {event.tick}: node {event.node} is told that node {event.other} {what}"
-
-
-def draw_returns(picture):
-    """A mark for each heartbeat by which a node is taken back, and for each A and B."""
-    quiet = [event for event in picture.told if event.letter == "B" and event not in picture.returns]
-    for event in thinned(picture, quiet, "quiet"):
-        picture.diamond("back-known", picture.x(event.tick), picture.y(event.node), told_in_words(picture, event))
-    for event in thinned(picture, [event for event in picture.told if event.letter == "A" or event in picture.returns]):
-        x, y, words = picture.x(event.tick), picture.y(event.node), told_in_words(picture, event)
-        if event.letter == "B":
-            picture.diamond("back", x, y, words)
-        else:
-            picture.square("named-itself" if event.node == event.other else "named", x, y, words)
-    for event in thinned(picture, [event for event in picture.returns if event.letter == "H"]):
-        x, y, words = picture.x(event.tick), picture.y(event.node), return_in_words(picture, event)
-        if event in picture.emitters:
-            picture.taken_back(x, y, words)
-        else:
-            picture.square("returned", x, y, words)
+    return thin
 
 
 def watch_in_words(event, false):
@@ -736,14 +547,14 @@ def watch_in_words(event, false):
 
 def draw_moves_and_crashes(picture):
     """Answers whether an emitter is left by a report."""
-    by_report, kept = False, set(thinned(picture, [event for event in picture.events if event.passed]))
+    taken, by_report = {move: f"moves to node {emitter}" for (_, emitter), move in picture.moves.items()}, False
     for event in picture.events:
         x, y = picture.x(event.tick), picture.y(event.node)
         if event.letter == "C":
             picture.cross("crash", x, y, 6)
-        elif event in kept:
-            shown = f"moves to node {picture.taken[event]}" if event in picture.taken else "moves on"
-            where = "is alone" if picture.is_alone(event) else shown
+        elif event.passed:
+            alone = len(members(event.list)) == picture.nodes - 1
+            where = "is alone" if alone else taken.get(event, "moves on")
             told = f"{where}, passing {event.passed} listed node{'s' * (event.passed > 1)}"
             false = "-false" * (event in picture.false)
             if event.letter == "W":
@@ -754,32 +565,28 @@ def draw_moves_and_crashes(picture):
     return by_report
 
 
-def label(event, dead, alive, back, few):
-    """The words of a label: crashed nodes and live ones that are new, and those off the list, where changes are few,
-    and a move's number."""
-    signs = [("+", dead), ("!", alive), ("-", back)]
-    names = [(sign, ",".join(map(str, nodes))) for sign, nodes in signs if few and nodes]
+def label(event, dead, alive, few):
+    """The words of a label: crashed nodes and live ones that are new, where changes are few, and a move's number."""
+    names = [(sign, ",".join(map(str, nodes))) for sign, nodes in [("+", dead), ("!", alive)] if few and nodes]
     return [sign + nodes for sign, nodes in names] + [f"K{event.passed}"] * bool(event.passed)
 
 
 def draw_labels(picture):
-    """Right of a mark, at the end left of it: what is new in a list or off it, and at a move the number of its K line.
-    Moves come first where there is not room for all. Answers the legend's words about the labels, by their first
-    letters, and whether a live node is in one."""
-    held, drawn, few = {}, [], len(picture.changes) <= MOST_LABELS
-    labels = [(event, label(event, *change, few)) for event, change in picture.changes.items() if few or event.passed]
+    """Right of a mark, at the end left of it: what is new in a list, and at a move the number of its K line. Moves come first where there is not room for
+    all. Answers the legend's words about the labels, by their first letters, and whether a live node is in one."""
+    held, drawn, few = {}, [], len(picture.news) <= MOST_LABELS
+    labels = [(event, label(event, *new, few)) for event, new in picture.news.items() if few or event.passed]
     for event, words in sorted(labels, key=lambda one: not one[0].passed):
         x, room = picture.x(event.tick), 8 + 8 * len(" ".join(words))
         left = x + 8 if x + room <= picture.x(picture.end) else x - room
         beside = held.setdefault(event.node, [])
         if left >= LEFT and all(left >= until or left + room <= since for since, until in beside):
-            kind = "new" + (" alive" if event in picture.false else " back" if event in picture.returns else "") * few
+            kind = "new alive" if few and event in picture.false else "new"
             picture.text(left, picture.y(event.node) - 7, " ".join(words), kind)
             beside.append((left, left + room))
             drawn.append(words)
     signs, room = {word[0] for words in drawn for word in words}, ", where there is room" * (len(drawn) < len(labels))
     told = {"+": "; +3: node 3 is new in the list", "K": "K, move: 2 listed nodes passed, the emitter left included"}
-    told["-"] = "node 3 is off the list"
     return {sign: (words + room) * (sign in signs) for sign, words in told.items()}, "!" in signs
 
 
@@ -840,13 +647,6 @@ def false_in_words(picture, wrong):
     return f"{words} At the end live nodes are listed: {'; '.join(said)}."
 
 
-def returns_in_words(picture):
-    """How many listings are taken back, when the first is, and how many of them are of crashed nodes."""
-    count, first = len(picture.returns), next(iter(picture.returns)).tick
-    gone = sum(map(picture.is_gone, picture.returns))
-    return f"Listings taken back: {count}, the first in tick {first}" + f"; of crashed nodes: {gone}" * (gone > 0) + "."
-
-
 def ending_in_words(picture, lacking, wrong):
     """What the lists come to, and the class of these words."""
     words = []
@@ -854,34 +654,12 @@ def ending_in_words(picture, lacking, wrong):
         words.append("No node survives." if picture.crashes else "No node crashes.")
     if picture.false:
         words.append(false_in_words(picture, wrong))
-    if picture.returns:
-        words.append(returns_in_words(picture))
     if lacking:
         words.append(lacks_in_words(lacking))
     return " ".join(words), "bad" if picture.false or lacking else "small"
 
 
-def return_entries(picture, labels):
-    """The legend's entries about returns, each where the picture has its mark."""
-    has = {("H", event in picture.emitters) for event in picture.returns if event.letter == "H"}
-    has |= {("B", event in picture.returns) for event in picture.told if event.letter == "B"}
-    has |= {("A", event.node != event.other) for event in picture.told if event.letter == "A"}
-    mark = functools.partial
-    entries = [
-        (("H", True), picture.taken_back, "H of a listed node, taken back as emitter"),
-        (("H", False), mark(picture.square, "returned"), "H of a listed node, taken back; the emitter stays"),
-        (("B", True), mark(picture.diamond, "back"), "B of a listed node, taken back"),
-        (("B", False), mark(picture.diamond, "back-known"), "B of a node not listed"),
-        (("A", True), mark(picture.square, "named"), "A, another observer is named"),
-        (("A", False), mark(picture.square, "named-itself"), "A that names its receiver"),
-    ]
-    entries = [(drawn, words) for kind, drawn, words in entries if kind in has]
-    if labels["-"]:
-        entries.append((lambda x, y: picture.text(x, y + 4, "-3", "new back", "middle"), labels["-"]))
-    return entries
-
-
-def draw_legend(picture, ending, known, by_report, labels, named):
+def draw_legend(picture, ending, known, by_report, labels, named, thin):
     """What the lists come to, the marks with their meaning, and a note. Answers where the picture ends."""
     y = picture.paragraph(picture.bottom() + 46, *ending) + (4 if ending[0] else 0)
     entries = [
@@ -903,7 +681,6 @@ def draw_legend(picture, ending, known, by_report, labels, named):
         words = "round a W, R or H: false listing, of a node that is alive" + "; !3: node 3 is alive" * named
         entries.append((lambda x, y: picture.rect("share", x - 8, y - 4, 16, 8), "share of live nodes listed"))
         entries.append((lambda x, y: picture.circle(x, y), words))
-    entries += return_entries(picture, labels)
     if known:
         words = "from here all survivors list all crashed nodes" + " and no live one" * bool(picture.false)
         entries.append((lambda x, y: picture.line("all", x - 9, y, x + 9, y), words))
@@ -916,13 +693,10 @@ def draw_legend(picture, ending, known, by_report, labels, named):
         picture.text(round(x + 24, 1), y, words, "small")
         x += width
     note = "A log line names the subject of a report, not its sender, so a report stands at its receiver without an arrow."
-    if picture.told:
-        note += " So do A and B: their lines name the new observer, and the node that returned."
     if picture.ring != sorted(picture.ring):
         note = "The rows stand in the ring's order. " + note
-    if picture.thin:
-        kinds = "Of the events" if "change" in picture.thin else "Of heartbeats, drops and reports that change nothing"
-        note += f" {kinds}, not all are drawn."
+    if thin:
+        note += " Of heartbeats, drops and reports that change nothing, not all are drawn."
     return picture.paragraph(y + LEGEND_ROW, note, "small faint")
 
 
@@ -932,21 +706,20 @@ def draw(events, last, run_file):
     draw_rows(picture)
     draw_lists(picture)
     draw_circles(picture)
-    draw_heartbeats(picture)
+    thin = draw_heartbeats(picture)
     since, lacking, wrong = knowledge(picture.nodes, events)
     known = draw_knowledge(picture, since)
     draw_ticks(picture)
     draw_observers(picture)
-    draw_reports(picture)
-    draw_returns(picture)
+    thin = draw_reports(picture) or thin
     by_report = draw_moves_and_crashes(picture)
     labels, named = draw_labels(picture)
     named = draw_end(picture) or named
     ending = ending_in_words(picture, lacking, wrong)
-    width, height = picture.right + 8, draw_legend(picture, ending, known, by_report, labels, named)
+    width, height = picture.right + 8, draw_legend(picture, ending, known, by_report, labels, named, thin)
     head = f'<svg xmlns="http://www.w3.org/2000/svg" width="{width:g}" height="{height:g}" viewBox="0 0 {width:g} {height:g}">'
     ground = f'<rect fill="#ffffff" x="0" y="0" width="{width:g}" height="{height:g}"/>'
-    style = STYLE + FALSE_STYLE * bool(picture.false) + RETURN_STYLE * bool(picture.returns or picture.told)
+    style = STYLE + FALSE_STYLE * bool(picture.false)
     return "\n".join([head, f"<style>{style}</style>", ground, *picture.elements, "</svg>"]) + "\n"
 
 

@@ -1,19 +1,16 @@
-//! All runs of a small ring, in number order or another: every delay from 1 to D of every message, every crash at every
-//! tick, up to an end tick. It asks demand 3's words of the state after each event, and those of requests 106 and 107;
-//! at each move that the number passed is right; of each report that its sender makes it once; and that nodes and
-//! messages are in range. For a larger ring the choices may be fewer: longer delays alone, and crashes of some nodes
-//! alone. With W below H + D nothing is claimed of lists and neighbours, and the search may ask for all else alone.
+//! All runs of a small ring, in number order or another: every delay from 1 to D of every message, every crash at
+//! every tick, up to an end tick. It asks demand 3's words of the state after each event, and those of requests 106 and 107; at each move
+//! that the number passed is right; and of each report that its sender makes it once. For a larger ring the choices may be fewer: longer
+//! delays alone, and crashes of some nodes alone.
 //!
-//! The search goes from tick to tick. Ticks are counted from the state's own, and what can no longer matter is left
-//! out, so that states which go on alike are one and are met once; where no new state comes up, the answer holds for
-//! every end tick. A run in which something is found comes back as a plan. What can no longer matter is little where W
-//! is below H + D, since a node that returns is taken off lists and marks.
+//! The search goes from tick to tick. Ticks are counted from the state's own, and what can no longer matter
+//! is left out, so that states which go on alike are one and are met once; where no new state comes up, the
+//! answer holds for every end tick. A run in which something is found comes back as a plan.
 //!
-//! What requests 106 and 107 claim goes by the ticks since the last crash, which a state leaves out where crashes are
-//! close. So it is asked when all states are met, of each with the most ticks that can have passed (`ages`).
+//! What requests 106 and 107 claim goes by the ticks since the last crash, which a state leaves out where crashes are close. So it is asked
+//! when all states are met, of each with the most ticks that can have passed (`ages`).
 
 use super::ages::Graph;
-use super::limits::MAX_SENDS;
 use super::node::{self, Content, Effect, Node, Sends, Sent, Settings, Timer};
 use super::plan::{Crash, Delay, Plan};
 use super::ring;
@@ -56,50 +53,6 @@ pub enum Rules {
     SingleListing,
     /// The same without (m − 1) × (H + D): by the bound of request 106.
     NoSpreading,
-    /// A node that returns stays marked.
-    MarkStays,
-    /// The list that the heartbeat of a listed sender carries is added.
-    ListAdded,
-    /// A node that was alone sends A all the same: to itself.
-    AloneSendsA,
-    /// A node that was alone sends heartbeats again, but to the observer it had.
-    ObserverStays,
-    /// A sender that returns becomes the emitter wherever it lies.
-    EmitterAnywhere,
-    /// A return tells a number passed, as if the emitter had been searched for.
-    ReturnCounted,
-}
-
-/// What is asked of a search.
-#[derive(Clone, Copy, PartialEq, Eq, Debug)]
-pub enum Asked {
-    /// All that the papers claim of runs with W at least H + D.
-    All,
-    /// What they claim of every run: numbers passed, reports, ranges; nothing of lists and neighbours.
-    Ranges,
-}
-
-/// The messages whose delay is gone through; all others take D ticks.
-#[derive(Clone, Copy, PartialEq, Eq, Debug)]
-pub enum Delayed {
-    All,
-    /// H.
-    Heartbeats,
-    /// O and R.
-    Reports,
-    /// A and B.
-    Returns,
-}
-
-impl Delayed {
-    fn has(self, content: Content) -> bool {
-        match content {
-            _ if self == Delayed::All => true,
-            Content::Heartbeat { .. } => self == Delayed::Heartbeats,
-            Content::NewObserver | Content::Report { .. } => self == Delayed::Reports,
-            Content::NamedObserver { .. } | Content::Returned { .. } => self == Delayed::Returns,
-        }
-    }
 }
 
 /// What is searched: N, the ring's order, H, W, D, the end tick and the rules. W may be below H + D.
@@ -113,12 +66,10 @@ pub struct Search {
     pub delay: u32,
     /// The least delay: 1, or more where not every delay is gone through.
     pub least_delay: u32,
-    pub delayed: Delayed,
     /// The nodes that may crash, as a list: all, or fewer where not every crash is gone through.
     pub mortal: u64,
     pub end: u32,
     pub rules: Rules,
-    pub asked: Asked,
 }
 
 #[derive(Clone, Copy, PartialEq, Eq, Debug)]
@@ -131,12 +82,7 @@ pub enum Finding {
     Miscounted,
     /// A node reports a subject that it had marked or does not mark; or it gets a report and the subject is not marked then.
     Misreported,
-    /// A heartbeat of a listed sender does not make it the emitter where it lies between emitter and receiver, or does
-    /// so elsewhere.
-    Misplaced,
-    /// A node lists its emitter or itself, marks a node that it does not list, observes itself with the watch on, sends
-    /// to itself with the heartbeat on, or has a timer due too late. Or a message goes to its sender, or has a number
-    /// or list that no node has.
+    /// A node lists its emitter, or marks a node that it does not list.
     OutOfRange,
     /// No event due up to 2 × W × f + D ticks after the last of f crashes is left, but the survivors are not joined.
     Unjoined,
@@ -171,43 +117,11 @@ pub struct Outcome {
     pub closed: Option<u32>,
     /// Heartbeats that came to a live node from another than its emitter.
     pub strange: u64,
-    pub returns: Returns,
-    /// The most messages in flight at the start of a tick that may still change their receiver.
-    pub most_in_flight: usize,
     /// How late survivors are not joined, where nothing is found.
     pub late: Late,
     /// How late their lists are not full, where nothing is found.
     pub late_lists: Late,
     pub found: Option<Found>,
-}
-
-/// What came to live nodes of returns.
-#[derive(Clone, Copy, Default, PartialEq, Eq, Debug)]
-pub struct Returns {
-    /// Heartbeats of listed senders: those that left the emitter, those that made the sender the emitter, and those to
-    /// a node alone.
-    pub elsewhere: u64,
-    pub between: u64,
-    pub alone: u64,
-    /// A; and B of a node that the receiver listed, or did not.
-    pub named_observers: u64,
-    pub cleared: u64,
-    pub unlisted: u64,
-}
-
-impl Returns {
-    fn count(&mut self, node: &Node, after: &Node, sender: u8, content: Content) {
-        let count = match content {
-            _ if node.is_return(sender, content) && node.emitter == node.number => &mut self.alone,
-            _ if node.is_return(sender, content) && node.emitter == after.emitter => &mut self.elsewhere,
-            _ if node.is_return(sender, content) => &mut self.between,
-            Content::NamedObserver { .. } => &mut self.named_observers,
-            Content::Returned { subject } if ring::listed(node.dead_list, subject) => &mut self.cleared,
-            Content::Returned { .. } => &mut self.unlisted,
-            _ => return,
-        };
-        *count += 1;
-    }
 }
 
 /// A message in flight that may still change its receiver.
@@ -237,38 +151,31 @@ struct State {
     /// Bit d stands for messages due in d ticks that will do nothing.
     idle: u32,
     crashes: Crashes,
-    /// Whether lists and marks only grow, as they do where no live node gets listed.
-    growing: bool,
 }
 
 impl State {
-    fn open(search: &Search, settings: &Settings) -> State {
+    fn open(settings: &Settings) -> State {
         State {
             nodes: (0..settings.ring.nodes()).map(|number| Node::open(settings, number)).collect(),
             flights: Vec::new(),
             idle: 0,
             crashes: Crashes::None,
-            growing: !search.short_timeout(),
         }
     }
 
-    /// The message as far as it can still change its receiver; nothing where it cannot. Where lists and marks only
-    /// grow, a listed node need not be named and a marked one not be reported. No node is named to itself.
+    /// The message as far as it can still change its receiver; nothing where it cannot. Lists and marks only grow, so that a listed
+    /// node need not be named and a marked one not be reported.
     fn essence(&self, flight: Flight) -> Option<Flight> {
         let receiver = &self.nodes[usize::from(flight.receiver)];
-        let (listed, marked) = if self.growing { (receiver.dead_list, receiver.mark) } else { (0, 0) };
         match flight.content {
             _ if !receiver.alive => None,
             Content::Heartbeat { list } => {
-                let list = ring::without(list & !listed, receiver.number);
+                let list = ring::without(list & !receiver.dead_list, receiver.number);
                 Some(Flight { content: Content::Heartbeat { list: ring::without(list, flight.sender) }, ..flight })
             }
             Content::NewObserver => Some(flight),
             Content::Report { subject } => {
-                (subject != receiver.number && !ring::listed(marked, subject)).then_some(flight)
-            }
-            Content::NamedObserver { subject } | Content::Returned { subject } => {
-                (subject != receiver.number).then_some(flight)
+                (subject != receiver.number && !ring::listed(receiver.mark, subject)).then_some(flight)
             }
         }
     }
@@ -283,11 +190,8 @@ impl State {
     }
 
     /// Marks what no mark can matter for any more: the nodes that all live nodes list, so that none of these will observe one and report
-    /// it, and of which no report is in flight. A node that may return is not settled.
+    /// it, and of which no report is in flight.
     fn mark_settled(&mut self) {
-        if !self.growing {
-            return;
-        }
         let reported = |list, flight: &Flight| match flight.content {
             Content::Report { subject } => ring::with(list, subject),
             _ => list,
@@ -364,19 +268,12 @@ impl State {
                 }
                 Content::NewObserver => key.push(255),
                 Content::Report { subject } => key.push(*subject),
-                Content::NamedObserver { subject } => key.push(64 + subject),
-                Content::Returned { subject } => key.push(128 + subject),
             }
         }
     }
 }
 
 impl Search {
-    /// Whether W is below H + D.
-    pub fn short_timeout(&self) -> bool {
-        self.plan(&[]).short_timeout()
-    }
-
     fn settings(&self) -> Settings {
         Settings { ring: self.plan(&[]).ring(), period: self.period, timeout: self.timeout }
     }
@@ -422,8 +319,7 @@ impl Search {
         }
     }
 
-    /// Searches to the end tick, or until something is found. Requests 106 and 107, if they are asked, are so at the
-    /// end.
+    /// Searches to the end tick, or until something is found. Requests 106 and 107 are asked at the end.
     pub fn explore(&self) -> Outcome {
         let longest_watch = if self.rules == Rules::LongWatch { 3 } else { 2 } * self.timeout;
         assert!(self.nodes <= 16 && longest_watch < 250 && self.delay < 8, "the search is for small rings");
@@ -442,9 +338,6 @@ impl Search {
                 closed = Some(tick);
                 break;
             }
-        }
-        if self.asked == Asked::Ranges {
-            return Outcome { closed, runs: tree.runs(), ..tree.outcome() };
         }
         let (outcome, ages) = (Outcome { closed, ..tree.outcome() }, tree.graph().ages());
         match tree.breach(&ages) {
@@ -499,7 +392,6 @@ struct Tree<'search> {
     moves_by_report: u64,
     passed: [u64; 17],
     strange: u64,
-    returns: Returns,
     /// Of the state that is being gone on from: what is chosen so far, and the states led to.
     chosen: Choice,
     leads: Vec<usize>,
@@ -525,7 +417,6 @@ impl<'search> Tree<'search> {
             moves_by_report: 0,
             passed: [0; 17],
             strange: 0,
-            returns: Returns::default(),
             chosen: Choice::default(),
             leads: Vec::new(),
             from: 0,
@@ -534,7 +425,7 @@ impl<'search> Tree<'search> {
             sought: Sought::Nothing,
             key: Vec::new(),
         };
-        tree.meet(State::open(search, &tree.settings));
+        tree.meet(State::open(&tree.settings));
         tree
     }
 
@@ -635,11 +526,7 @@ impl<'search> Tree<'search> {
         let before = *node;
         let effect = self.effect_of(node, sender, content);
         self.strange += u64::from(matches!(content, Content::Heartbeat { .. }) && sender != before.emitter);
-        self.returns.count(&before, node, sender, content);
-        if before.is_return(sender, content) && !self.taken_back(&before, node, sender) {
-            return Err(Finding::Misplaced);
-        }
-        if matches!(content, Content::Report { .. }) && node.emitter != before.emitter {
+        if node.emitter != before.emitter {
             self.moves_by_report += 1;
             if self.search.rules == Rules::ShortReported {
                 node.watch = node.watch.map(|_| self.settings.timeout);
@@ -659,49 +546,7 @@ impl<'search> Tree<'search> {
             (Rules::NamedNotRelayed, Content::Report { subject }) if ring::listed(node.dead_list, subject) => return Effect::none(),
             _ => content,
         };
-        let before = *node;
-        let effect = node.deliver(&self.settings, 0, sender, content);
-        match content {
-            Content::Heartbeat { list } if before.is_return(sender, content) => {
-                self.effect_of_return(&before, node, (sender, list), effect)
-            }
-            _ => effect,
-        }
-    }
-
-    /// What the heartbeat of a listed sender does by the rules, where the papers' rule does this.
-    fn effect_of_return(
-        &self,
-        before: &Node,
-        node: &mut Node,
-        (sender, list): (u8, u64),
-        mut effect: Effect,
-    ) -> Effect {
-        let alone = before.emitter == before.number;
-        match self.search.rules {
-            Rules::MarkStays => node.mark = before.mark,
-            Rules::ListAdded => node.dead_list |= ring::without(ring::without(list, node.number), sender),
-            Rules::AloneSendsA if alone => effect.sends.add(node.number, Content::NamedObserver { subject: sender }),
-            Rules::ObserverStays if alone => node.observer = before.observer,
-            Rules::EmitterAnywhere => node.emitter = sender,
-            Rules::ReturnCounted if node.emitter != before.emitter => effect.passed = Some(0),
-            _ => {}
-        }
-        effect
-    }
-
-    /// Whether a listed sender is the emitter after its heartbeat exactly where it comes sooner than the receiver, in
-    /// steps ahead of the emitter before. A receiver that was its own emitter comes after a whole round.
-    fn taken_back(&self, before: &Node, after: &Node, sender: u8) -> bool {
-        let nodes = usize::from(self.search.nodes);
-        let ahead = |node: u8| (self.place(node) + nodes - self.place(before.emitter)) % nodes;
-        let sooner = before.emitter == before.number || ahead(sender) < ahead(before.number);
-        after.emitter == if sooner { sender } else { before.emitter }
-    }
-
-    /// The node's place in the ring.
-    fn place(&self, node: u8) -> usize {
-        self.search.order.iter().position(|other| *other == node).unwrap_or(usize::from(node))
+        node.deliver(&self.settings, 0, sender, content)
     }
 
     /// The same of a timer.
@@ -720,8 +565,7 @@ impl<'search> Tree<'search> {
         self.asked(&before, node, effect)
     }
 
-    /// What an event of a node sends, where nothing is wrong with the number passed, with what it reports and with any
-    /// range.
+    /// What an event of a node sends, where nothing is wrong with the number passed, with what it reports and with its lists.
     fn asked(&mut self, before: &Node, after: &Node, Effect { sends, passed }: Effect) -> Result<Sends, Finding> {
         let newly = |subject| ring::listed(after.mark, subject) && !ring::listed(before.mark, subject);
         let repeats = |sent: &Sent| matches!(sent.content, Content::Report { subject } if !newly(subject));
@@ -729,42 +573,11 @@ impl<'search> Tree<'search> {
             Err(Finding::Miscounted)
         } else if sends.as_slice().iter().any(repeats) {
             Err(Finding::Misreported)
-        } else if !self.node_in_range(after) || !self.sends_in_range(after.number, &sends) {
+        } else if ring::listed(after.dead_list, after.emitter) || after.mark & !after.dead_list != 0 {
             Err(Finding::OutOfRange)
         } else {
             Ok(sends)
         }
-    }
-
-    /// The ranges of a live node, as the papers have them for a store.
-    fn node_in_range(&self, node: &Node) -> bool {
-        let nodes = self.search.nodes;
-        let up_to = |due: Option<u32>, most| due.is_none_or(|due| due <= most);
-        let longest_watch = if self.search.rules == Rules::LongWatch { 3 } else { 2 } * self.settings.timeout;
-        node.emitter < nodes
-            && node.observer < nodes
-            && ring::below(node.dead_list, u64::from(nodes))
-            && node.mark & !node.dead_list == 0
-            && !ring::listed(node.dead_list, node.emitter)
-            && !ring::listed(node.dead_list, node.number)
-            && (node.watch.is_none() || node.emitter != node.number)
-            && (node.heartbeat.is_none() || node.observer != node.number)
-            && up_to(node.watch, longest_watch)
-            && up_to(node.heartbeat, self.settings.period)
-    }
-
-    /// Those of what it sends, at most seven messages.
-    fn sends_in_range(&self, sender: u8, sends: &Sends) -> bool {
-        let nodes = self.search.nodes;
-        let in_range = |sent: &Sent| match sent.content {
-            _ if sent.receiver == sender || sent.receiver >= nodes => false,
-            Content::Heartbeat { list } => ring::below(list, u64::from(nodes)),
-            Content::NewObserver => true,
-            Content::Report { subject } | Content::NamedObserver { subject } | Content::Returned { subject } => {
-                subject < nodes
-            }
-        };
-        sends.as_slice().len() <= MAX_SENDS && sends.as_slice().iter().all(in_range)
     }
 
     /// When the watch is due by the rules, where the papers' rule says when.
@@ -777,17 +590,16 @@ impl<'search> Tree<'search> {
         }
     }
 
-    /// Whether a number passed is told exactly where the emitter changes to one that was not listed, and is the count
-    /// of the listed nodes from the one left back to the new emitter. They are counted by the places of all nodes in
-    /// the ring: those of fewer steps back from the one left than the new emitter. An emitter that was listed before
-    /// has returned, and was not searched for.
+    /// Whether a number passed is told exactly where the emitter changes, and is the count of the listed nodes from the one left back to
+    /// the new emitter. They are counted by the places of all nodes in the ring: those of fewer steps back from the one left than the
+    /// new emitter.
     fn counted(&mut self, before: &Node, after: &Node, passed: Option<u8>) -> bool {
-        let moved = before.emitter != after.emitter && !ring::listed(before.dead_list, after.emitter);
-        if !moved || passed.is_none() {
-            return !moved && passed.is_none();
+        if before.emitter == after.emitter || passed.is_none() {
+            return before.emitter == after.emitter && passed.is_none();
         }
         let nodes = usize::from(self.search.nodes);
-        let back = |node: u8| (self.place(before.emitter) + nodes - self.place(node)) % nodes;
+        let place = |node: u8| self.search.order.iter().position(|other| *other == node).unwrap_or(usize::from(node));
+        let back = |node: u8| (place(before.emitter) + nodes - place(node)) % nodes;
         let is_passed = |node: &u8| ring::listed(after.dead_list, *node) && back(*node) < back(after.emitter);
         let count = (0..self.search.nodes).filter(is_passed).count();
         self.passed[count] += 1;
@@ -804,8 +616,7 @@ impl<'search> Tree<'search> {
         if place == sends.as_slice().len() {
             return self.go_on(state);
         }
-        let Search { least_delay, delay, delayed, .. } = *self.search;
-        let least_delay = if delayed.has(sends.as_slice()[place].content) { least_delay } else { delay };
+        let Search { least_delay, delay, .. } = *self.search;
         let shorter = (least_delay..delay).find_map(|due| self.send_one(state.clone(), sender, sends, place, due));
         shorter.or_else(|| self.send_one(state, sender, sends, place, delay))
     }
@@ -824,7 +635,7 @@ impl<'search> Tree<'search> {
 
     fn end_tick(&mut self, mut state: State) -> Option<Finding> {
         state.idle &= !1;
-        let finding = self.unsettled(&state).filter(|_| self.search.asked == Asked::All);
+        let finding = self.unsettled(&state);
         if finding.is_some() {
             return finding;
         }
@@ -836,9 +647,6 @@ impl<'search> Tree<'search> {
     /// What demand 3 claims after each event. Whether it parts survivors is kept for request 106, which may not claim anything yet.
     fn after_event(&mut self, state: &State) -> Option<Finding> {
         self.events += 1;
-        if self.search.asked == Asked::Ranges {
-            return None;
-        }
         if !settle::no_live_node_listed(&state.nodes) {
             return Some(Finding::LiveNodeListed);
         }
@@ -890,8 +698,6 @@ impl<'search> Tree<'search> {
             runs: 0.0,
             closed: None,
             strange: self.strange,
-            returns: self.returns,
-            most_in_flight: self.states.iter().map(|state| state.flights.len()).max().unwrap_or(0),
             late: [None; 17],
             late_lists: [None; 17],
             found: None,
@@ -1028,19 +834,16 @@ mod tests {
         timeout: 3,
         delay: 2,
         least_delay: 1,
-        delayed: Delayed::All,
         mortal: u64::MAX,
         end: 40,
         rules: Rules::Paper,
-        asked: Asked::All,
     };
 
     /// What a state and a platform have in common at the start of a tick: the live nodes, with their timers counted from that tick, and
     /// the messages that matter, by due tick, as far as they do.
     fn common(platform: &Platform, tick: u32) -> (Vec<Node>, Vec<Flight>) {
-        let growing = !platform.plan().short_timeout();
         let mut state =
-            State { nodes: platform.nodes().to_vec(), flights: Vec::new(), idle: 0, crashes: Crashes::None, growing };
+            State { nodes: platform.nodes().to_vec(), flights: Vec::new(), idle: 0, crashes: Crashes::None };
         for (due, Message { sender, receiver, content, .. }) in platform.messages() {
             state.put(Flight { due: due - tick, sender, receiver, content });
         }
@@ -1050,10 +853,6 @@ mod tests {
         let nodes =
             live.map(|node| Node { watch: count(node.watch), heartbeat: count(node.heartbeat), ..*node });
         (nodes.collect(), state.flights)
-    }
-
-    fn opened(search: &Search) -> State {
-        State::open(search, &search.settings())
     }
 
     /// Four nodes, each of which has one neighbour that is none in number order.
@@ -1111,68 +910,6 @@ mod tests {
         }
         assert!(id > 1_000);
         reported
-    }
-
-    /// Three nodes with W below H + D. Heartbeats take one tick or two, all else two; nothing is asked of lists.
-    fn returning() -> Search {
-        Search {
-            period: 3,
-            timeout: 4,
-            delayed: Delayed::Heartbeats,
-            mortal: 0b100,
-            end: 12,
-            asked: Asked::Ranges,
-            ..SMALL
-        }
-    }
-
-    #[test]
-    fn the_platform_comes_to_the_same_states_by_returns() {
-        compare_states(&returning(), 3_000);
-        compare_states(&Search { order: vec![0, 2, 1], delayed: Delayed::Reports, mortal: 0, ..returning() }, 3_000);
-        let four = Search {
-            nodes: 4,
-            order: vec![0, 2, 1, 3],
-            period: 2,
-            timeout: 2,
-            delay: 1,
-            end: 40,
-            mortal: u64::MAX,
-            ..returning()
-        };
-        compare_states(&four, 3_000);
-    }
-
-    /// With W below H + D listed senders return in every way, and nothing is out of range. Each wrong rule about them
-    /// is found. With W at least H + D nobody returns.
-    #[test]
-    fn nothing_is_out_of_range_by_returns() {
-        let outcome = returning().explore();
-        let Returns { between, alone, named_observers, cleared, unlisted, .. } = outcome.returns;
-        assert_eq!(outcome.found, None);
-        assert!(
-            [between, alone, named_observers, cleared, unlisted].iter().all(|count| *count > 50),
-            "{:?}",
-            outcome.returns
-        );
-        let crowded = Search { nodes: 4, period: 1, timeout: 1, delay: 1, mortal: u64::MAX, end: 40, ..returning() };
-        let outcome = crowded.explore();
-        assert!(
-            outcome.found.is_none() && outcome.closed.is_some() && outcome.returns.elsewhere > 50,
-            "{:?}",
-            outcome.returns
-        );
-        let finding =
-            |rules, search: &Search| Search { rules, ..search.clone() }.explore().found.map(|found| found.finding);
-        assert_eq!(finding(Rules::MarkStays, &returning()), Some(Finding::OutOfRange));
-        assert_eq!(finding(Rules::ListAdded, &crowded), Some(Finding::OutOfRange));
-        assert_eq!(finding(Rules::AloneSendsA, &crowded), Some(Finding::OutOfRange));
-        assert_eq!(finding(Rules::ObserverStays, &crowded), Some(Finding::OutOfRange));
-        assert_eq!(finding(Rules::EmitterAnywhere, &crowded), Some(Finding::Misplaced));
-        assert_eq!(finding(Rules::ReturnCounted, &returning()), Some(Finding::Miscounted));
-        for search in [SMALL, shuffled(), Search { asked: Asked::Ranges, ..SMALL }] {
-            assert_eq!(Search { end: 12, ..search }.explore().returns, Returns::default());
-        }
     }
 
     /// Each node crashes at one of the ticks or not at all, and with D = 1 no delay is left to choose.
@@ -1428,7 +1165,7 @@ mod tests {
     /// receiver, and of a heartbeat's list the nodes that the receiver lists, itself and the sender.
     #[test]
     fn messages_are_kept_as_far_as_they_matter() {
-        let mut state = opened(&Search { nodes: 6, ..SMALL });
+        let mut state = State::open(&Search { nodes: 6, ..SMALL }.settings());
         state.nodes[1] = Node { dead_list: 0b1100, mark: 0b0100, ..state.nodes[1] };
         state.nodes[2].alive = false;
         let kept = |receiver, content| state.essence(Flight { due: 1, sender: 0, receiver, content }).map(|flight| flight.content);
@@ -1443,27 +1180,6 @@ mod tests {
         for content in [heartbeat(0b1000), Content::NewObserver, Content::Report { subject: 4 }] {
             assert_eq!(kept(2, content), None);
         }
-    }
-
-    /// Where nodes may return, all is kept of a message to a live node but what names that node, and in a heartbeat its
-    /// sender.
-    #[test]
-    fn messages_are_kept_whole_where_nodes_return() {
-        let mut state = opened(&Search { nodes: 6, timeout: 2, ..SMALL });
-        state.nodes[1] = Node { dead_list: 0b1100, mark: 0b0100, ..state.nodes[1] };
-        state.nodes[2].alive = false;
-        let kept = |receiver, content| {
-            state.essence(Flight { due: 1, sender: 0, receiver, content }).map(|flight| flight.content)
-        };
-        assert_eq!(kept(1, Content::Heartbeat { list: 0b101111 }), Some(Content::Heartbeat { list: 0b101100 }));
-        let naming =
-            |subject| [Content::Report { subject }, Content::NamedObserver { subject }, Content::Returned { subject }];
-        for content in [0, 2, 3, 5].into_iter().flat_map(naming) {
-            assert_eq!((kept(1, content), kept(2, content)), (Some(content), None));
-        }
-        assert_eq!(naming(1).map(|content| kept(1, content)), [None; 3]);
-        state.mark_settled();
-        assert_eq!(state.nodes[1].mark, 0b0100);
     }
 
     /// Node 1 of five observes 0 and has marked 3. After an event it may not list 0, nor mark what it does not list, nor report 3 once more;
@@ -1487,7 +1203,7 @@ mod tests {
     /// does not list 2.
     #[test]
     fn marks_are_set_where_they_no_longer_matter() {
-        let mut state = opened(&Search { nodes: 5, ..SMALL });
+        let mut state = State::open(&Search { nodes: 5, ..SMALL }.settings());
         for (node, dead_list, mark) in [(0, 0b11100, 0b10000), (1, 0b11000, 0b01000), (2, 0b11000, 0)] {
             state.nodes[node] = Node { dead_list, mark, ..state.nodes[node] };
         }
@@ -1523,7 +1239,7 @@ mod tests {
         nodes.push(Node { alive: false, ..tree.states[0].nodes[3] });
         let new_observer = |sender| Flight { due: 0, sender, receiver: 2, content: Content::NewObserver };
         let flights = vec![new_observer(1), new_observer(0)];
-        tree.states[0] = State { nodes, flights, idle: 0, crashes: Crashes::Close, growing: true };
+        tree.states[0] = State { nodes, flights, idle: 0, crashes: Crashes::Close };
         assert!(tree.joined(&tree.states[0]));
         assert_eq!(tree.expand(0), None);
         assert!(tree.parted == [true] && tree.states.iter().all(|state| tree.joined(state)));

@@ -1,6 +1,5 @@
-//! How bad a short W is: the live nodes that get listed in a run. It is told by the platform's nodes after each event,
-//! or by the lines of a log alone. With W at least H + D there are none. A node that returns is taken off lists and may
-//! get listed again, which counts again.
+//! How bad a short W is: the live nodes that get listed in a run. It is told by the platform's nodes after each event, or by the lines of a
+//! log alone. With W at least H + D there are none.
 
 use super::log::Line;
 use super::node::{self, Node};
@@ -14,7 +13,7 @@ pub struct Falsely {
     pub first: Option<u64>,
     /// The most live nodes that live nodes list after some event.
     pub most: u32,
-    /// Events by which a node comes to list a live node, or several, that it did not list just before.
+    /// Events by which a node comes to list a live node, or several, that it did not list before.
     pub events: u64,
 }
 
@@ -126,18 +125,6 @@ mod tests {
         assert_eq!(of_log(&log.as_bytes()[..log.find("H,13").unwrap()]), Ok(told(4, 1, 1)));
         assert_eq!(of_log(b"8,0\n"), Ok(Falsely::NONE));
         assert!(of_log(b"F,20,65,0,0000000000000002\n").is_err());
-    }
-
-    /// 0 lists 2 three times: a heartbeat and a B take it off in between. At one moment one live node is listed, and
-    /// after the B none.
-    #[test]
-    fn a_node_that_returns_may_be_listed_again() {
-        let log = "W,4,0,2,0000000000000004\nK,4,0,1,0000000000000004\nH,5,0,2,0000000000000000\n\
-            R,6,0,2,0000000000000004\nB,7,0,2,0000000000000000\nB,7,2,2,0000000000000000\n\
-            A,8,1,2,0000000000000000\nH,9,0,1,0000000000000004\nF,20,3,0,0000000000000000\n";
-        assert_eq!(of_log(log.as_bytes()), Ok(told(4, 1, 3)));
-        assert_eq!(of_log(&log.as_bytes()[..log.find("H,9").unwrap()]), Ok(told(4, 1, 2)));
-        assert_eq!(of_log(&log.as_bytes()[..log.find("R,6").unwrap()]), Ok(told(4, 1, 1)));
     }
 
     /// What only a dead node lists is not counted in the most: 0 lists 2 and crashes.

@@ -1,23 +1,13 @@
-//! A seeded generator of run files, good and damaged. A file depends on its seed and index alone. Of the good files of
-//! every kind about a third has W below H + D.
+//! A seeded generator of run files, good and damaged. A file depends on its seed and index alone. Of the good files of every kind about a
+//! third has W below H + D.
 //!
-//! `file(seed, index, size)` gives the bytes of one file, `plan(seed, index)` an undamaged one, `spaced_plan(seed,
-//! index)` one whose crashes are all spaced by S, `reported_plan(seed, index, size)` one in which a report of the
-//! emitter may well move a node, `tripped_plan(seed, index, size)` one in which many nodes crash close together and the
-//! survivors come to be joined and to have full lists, `returning_plan(seed, index)` one with W below H + D in which
-//! listed nodes may well return; `crowd(order)` is a plan that brings 2,048 messages into flight, due in that order;
-//! `some_order` is an order of a ring's nodes, or none.
-//!
-//! What no file leads to is made too: `some_call(random, nodes, node)` is a message of a node call, in range or at an
-//! end of one, and `lent_platform(seed, index)` a platform with any fields that a store may hold.
+//! `file(seed, index, size)` gives the bytes of one file, `plan(seed, index)` an undamaged one, `spaced_plan(seed, index)` one whose
+//! crashes are all spaced by S, `reported_plan(seed, index, size)` one in which a report of the emitter may well move a node,
+//! `tripped_plan(seed, index, size)` one in which many nodes crash close together and the survivors come to be joined and to have full lists;
+//! `crowd(order)` is a plan that brings 2,048 messages into flight, due in that order; `some_order` is an order of a ring's nodes, or none.
 
 use super::limits::{FILE_BYTES, MAX_DELAY_ROWS};
-use super::node::{Content, Node};
-use super::plan::{self, Plan};
-use super::platform::Platform;
-use super::queue::Message;
 use super::random::Random;
-use super::ring;
 use std::fmt::Write as _;
 
 /// How many events the heartbeats of a plan lead to.
@@ -118,11 +108,6 @@ pub fn reported_plan(seed: u64, index: u64, size: Size) -> Vec<u8> {
 /// One file of a power trip.
 pub fn tripped_plan(seed: u64, index: u64, size: Size) -> Vec<u8> {
     tripped_draft(&mut Random::new(seed, index), size).bytes()
-}
-
-/// One file in which listed nodes may well return.
-pub fn returning_plan(seed: u64, index: u64) -> Vec<u8> {
-    returning_draft(&mut Random::new(seed, index)).bytes()
 }
 
 /// How the due ticks of messages go with their numbers.
@@ -317,120 +302,6 @@ fn tripped_draft(random: &mut Random, size: Size) -> Draft {
     draft.end = joined + random.pick(&[0, timeout, listed, listed + 3 * timeout]);
     put_delays(random, &mut draft);
     draft
-}
-
-/// A plan with W below H + D in which listed nodes may well return. Mostly two to eight nodes, with a Q line or
-/// without, and any L lines or none: all delays being D, every node lists the one before, and every first heartbeat
-/// comes from a listed sender. Larger rings soon have too many messages in flight that way, as reports are relayed
-/// again and again. So in these most first heartbeats come in time, by L lines, and messages take one tick for long:
-/// only a few nodes get listed, and their return is told everywhere.
-fn returning_draft(random: &mut Random) -> Draft {
-    let large = random.chance(4);
-    let nodes = if large { random.range(9, 64) } else { random.range(2, 8) };
-    let (period, delay) = (random.range(1, 6), if large { random.range(2, 6) } else { random.range(1, 6) });
-    let any = random.range(1, period + delay - 1);
-    let timeout = if large { period + delay - 1 } else { random.pick(&[period + delay - 1, period + delay - 1, any]) };
-    let end = random.pick(&[8, 20, 60]) + 2 * timeout;
-    let order = some_order(random, nodes);
-    let mut draft = Draft { nodes, period, timeout, delay, end, order, crashes: Vec::new(), delays: Vec::new() };
-    if random.chance(3) {
-        let count = random.range(1, nodes.div_ceil(2));
-        let rows = (0..count).map(|_| (random.range(0, end), random.below(nodes))).collect();
-        put_crashes(&mut draft, rows);
-    }
-    if large {
-        let late = random.pick(&[1, 1, 2, 3]);
-        let late: Vec<u64> = (0..late).map(|_| random.below(nodes)).collect();
-        let delay_of = |number| if late.contains(&number) { delay } else { 1 };
-        draft.delays = (0..MAX_DELAY_ROWS as u64).map(|number| (number, delay_of(number))).collect();
-    } else {
-        put_delays(random, &mut draft);
-    }
-    draft
-}
-
-/// The message of a node call.
-#[derive(Clone, Copy, PartialEq, Eq, Debug)]
-pub struct Call {
-    pub kind: u64,
-    pub sender: u64,
-    pub subject: u64,
-    pub list: u64,
-}
-
-/// A message to a node of so many: mostly of a kind that there is, from another node, of any subject below N and with
-/// any list below 2^N; now and then with one number at or beyond an end of its range.
-pub fn some_call(random: &mut Random, nodes: u64, node: u64) -> Call {
-    let letters: Vec<u64> = b"HHHORRAB".iter().map(|letter| u64::from(*letter)).collect();
-    let ends = [0, nodes - 1, node, nodes, nodes + 1, 63, 64, 255, 256, 1 << 32, u64::MAX];
-    let mut call = Call {
-        kind: random.pick(&letters),
-        sender: random.below(nodes),
-        subject: random.below(nodes),
-        list: random.draw() & random.draw() & u64::MAX >> (64 - nodes),
-    };
-    match random.range(0, 15) {
-        0 => call.kind = random.pick(&[0, 1, 64, 67, 71, 88, 97, 255, 256 + 65, 256 + 66, u64::MAX]),
-        1 => call.sender = random.pick(&ends),
-        2..=4 => call.subject = random.pick(&ends),
-        5 => call.list = random.pick(&[0, u64::MAX >> (64 - nodes), 1 << (nodes - 1), 1 << (nodes % 64), u64::MAX]),
-        _ => {}
-    }
-    call
-}
-
-/// A platform with any fields that a store may hold, and some messages of every kind in flight; of R, A and B the
-/// subject is mostly any node, else 0, N − 1, the receiver or the sender. W may be below H + D, and the ring in any
-/// order.
-pub fn lent_platform(seed: u64, index: u64) -> Platform {
-    let mut random = Random::new(seed, index);
-    let nodes = random.pick(&[2, 3, 4, 5, 8, 9, 33, 64]);
-    let (period, delay) = (random.range(1, 6), random.range(1, 6));
-    let timeout = some_timeout(&mut random, period, delay, 0);
-    let order = some_order(&mut random, nodes);
-    let mut draft = Draft { nodes, period, timeout, delay, end: 60, order, crashes: Vec::new(), delays: Vec::new() };
-    crash_anywhere(&mut random, &mut draft);
-    let plan = plan::read(&draft.bytes()).expect("the file is accepted");
-    let tick = random.range(0, 30) as u32;
-    let done = plan.crashes.iter().filter(|row| row.tick < tick).count();
-    let crashed = |node| plan.crashes[..done].iter().any(|row| row.node == node);
-    let lent = (0..plan.nodes).map(|number| lent_node(&mut random, &plan, number, !crashed(number), tick)).collect();
-    let messages =
-        (0..random.range(1, 60)).map(|number| lent_message(&mut random, &plan, number, tick)).collect::<Vec<_>>();
-    let next = messages.len() as u64 + random.below(3);
-    Platform::resume(plan, lent, messages, next, done, tick)
-}
-
-/// Any fields of a node that are in range.
-fn lent_node(random: &mut Random, plan: &Plan, number: u8, alive: bool, tick: u32) -> Node {
-    let mut any = || random.below(u64::from(plan.nodes)) as u8;
-    let (emitter, observer) = (any(), any());
-    let list = random.draw() & if random.chance(2) { random.draw() } else { u64::MAX } & u64::MAX >> (64 - plan.nodes);
-    let dead_list = ring::without(ring::without(list, number), emitter);
-    let mut due = |other, most: u32| {
-        (other != number && !random.chance(5)).then(|| tick + random.below(u64::from(most) + 1) as u32)
-    };
-    let (watch, heartbeat) = (due(emitter, 2 * plan.timeout), due(observer, plan.period));
-    Node { number, alive, emitter, observer, watch, heartbeat, dead_list, mark: dead_list & random.draw() }
-}
-
-/// Any message that is in range.
-fn lent_message(random: &mut Random, plan: &Plan, number: u64, tick: u32) -> (u32, Message) {
-    let nodes = u64::from(plan.nodes);
-    let receiver = random.below(nodes) as u8;
-    let sender = ((u64::from(receiver) + random.range(1, nodes - 1)) % nodes) as u8;
-    let any = random.below(nodes) as u8;
-    let subject = random.pick(&[any, any, any, 0, plan.nodes - 1, receiver, sender]);
-    let list = random.draw() & random.draw() & u64::MAX >> (64 - nodes);
-    let content = random.pick(&[
-        Content::Heartbeat { list },
-        Content::Heartbeat { list },
-        Content::NewObserver,
-        Content::Report { subject },
-        Content::NamedObserver { subject },
-        Content::Returned { subject },
-    ]);
-    (tick + random.below(u64::from(plan.delay) + 1) as u32, Message { number, sender, receiver, content })
 }
 
 /// Up to three groups, each a row of nodes that may share some with another: mostly a few, sometimes all nodes or all but one.

@@ -36,7 +36,7 @@ pub const COLUMNS: usize = 5;
 pub const LIST_DIGITS: usize = 16;
 /// Most forward targets: the powers of two below 64.
 pub const MAX_TARGETS: usize = 6;
-/// Most messages that one rule sends: O, then R to each target; or A, then B to each.
+/// Most messages that one rule sends: O, then R to each target.
 pub const MAX_SENDS: usize = MAX_TARGETS + 1;
 /// Stands in the forwarding table where there is no target.
 pub const NO_TARGET: u8 = 255;

@@ -1,6 +1,5 @@
-//! The rules of one node, in 01's order and words, R as request 102 amends it, H and R as request 107 does, H, A and B
-//! as request 110. A rule that searches for a new emitter also answers how many listed nodes were passed, as request
-//! 103 asks.
+//! The rules of one node, in 01's order and words, R as request 102 amends it, H and R as request 107 does. A rule that moves the emitter
+//! also answers how many listed nodes were passed, as request 103 asks.
 
 use super::limits::MAX_SENDS;
 use super::ring::{self, Back, Ring};
@@ -22,10 +21,6 @@ pub enum Content {
     NewObserver,
     /// R.
     Report { subject: u8 },
-    /// A: the named node has returned and observes the receiver, which the sender observed so far.
-    NamedObserver { subject: u8 },
-    /// B: the named node has returned.
-    Returned { subject: u8 },
 }
 
 /// The two timers of a node, "watch before heartbeat".
@@ -54,7 +49,7 @@ impl Sends {
         Sends { places: [Sent { receiver: 0, content: Content::NewObserver }; MAX_SENDS], count: 0 }
     }
 
-    pub fn add(&mut self, receiver: u8, content: Content) {
+    fn add(&mut self, receiver: u8, content: Content) {
         self.places[self.count] = Sent { receiver, content };
         self.count += 1;
     }
@@ -68,8 +63,7 @@ impl Sends {
 #[derive(Clone, Copy, Debug)]
 pub struct Effect {
     pub sends: Sends,
-    /// How many listed nodes were passed, the one just left included, where the rule searches for a new emitter. A
-    /// sender that returns becomes the emitter without a search.
+    /// How many listed nodes were passed, the one just left included, where the rule moves the emitter.
     pub passed: Option<u8>,
 }
 
@@ -79,7 +73,7 @@ impl Effect {
         Effect::of(Sends::none())
     }
 
-    /// Messages, and no search for a new emitter.
+    /// Messages, and the emitter stays.
     fn of(sends: Sends) -> Effect {
         Effect { sends, passed: None }
     }
@@ -142,89 +136,29 @@ impl Node {
         }
     }
 
-    /// Whether a message, delivered next, is the heartbeat of a listed sender.
-    pub fn is_return(&self, sender: u8, content: Content) -> bool {
-        matches!(content, Content::Heartbeat { .. }) && ring::listed(self.dead_list, sender)
-    }
-
     /// A message is delivered to this live node.
     pub fn deliver(&mut self, settings: &Settings, tick: u32, sender: u8, content: Content) -> Effect {
         match content {
             Content::Heartbeat { list } => self.take_heartbeat(settings, tick, sender, list),
-            Content::NewObserver => self.send_to(tick, sender),
-            Content::Report { subject } => self.take_report(settings, tick, subject),
-            Content::NamedObserver { subject } => self.take_named_observer(tick, subject),
-            Content::Returned { subject } => self.take_returned(settings, subject),
+            Content::NewObserver => self.take_new_observer(tick, sender),
+            Content::Report { subject } => return self.take_report(settings, tick, subject),
         }
+        Effect::none()
     }
 
-    /// "Message H: from the emitter, watch due becomes this tick + W; from any other node, nothing." "A receiver whose
-    /// emitter sent it adds those nodes, never itself or the sender. Nodes learnt this way aren't relayed from there".
-    /// A listed sender returns; it is never the emitter.
-    fn take_heartbeat(&mut self, settings: &Settings, tick: u32, sender: u8, list: u64) -> Effect {
-        if self.is_return(sender, Content::Heartbeat { list }) {
-            return self.take_back(settings, tick, sender);
-        }
+    /// "Message H: from the emitter, watch due becomes this tick + W; from any other node, nothing." "A receiver whose emitter sent
+    /// it adds those nodes, never itself or the sender. Nodes learnt this way aren't relayed from there".
+    fn take_heartbeat(&mut self, settings: &Settings, tick: u32, sender: u8, list: u64) {
         if sender == self.emitter {
             self.watch = Some(tick + settings.timeout);
             self.dead_list |= ring::without(ring::without(list, self.number), sender);
         }
-        Effect::none()
     }
 
-    /// "a heartbeat from a listed sender clears it from the receiver's list and mark; the list it carries isn't added.
-    /// If the sender lies between emitter and receiver, as all do where the receiver is its own emitter (alone), it
-    /// becomes the emitter, watch due tick + W, without a K line, and the receiver sends A naming it to the old
-    /// emitter". "A receiver that was alone sends no A; the sender also becomes its observer, heartbeat due that tick.
-    /// Wherever the sender lies, the receiver then sends B naming the returned node to its forward targets."
-    fn take_back(&mut self, settings: &Settings, tick: u32, sender: u8) -> Effect {
-        let mut sends = Sends::none();
-        let old = self.emitter;
-        self.clear(sender);
-        if settings.ring.lies_between(old, sender, self.number) {
-            self.emitter = sender;
-            self.watch = Some(tick + settings.timeout);
-            if old == self.number {
-                self.send_to(tick, sender);
-            } else {
-                sends.add(old, Content::NamedObserver { subject: sender });
-            }
-        }
-        self.tell(settings, Content::Returned { subject: sender }, &mut sends);
-        Effect::of(sends)
-    }
-
-    /// "Message O: observer becomes the sender, heartbeat due becomes this tick." So it is of a node that A names.
-    fn send_to(&mut self, tick: u32, observer: u8) -> Effect {
-        self.observer = observer;
+    /// "Message O: observer becomes the sender, heartbeat due becomes this tick."
+    fn take_new_observer(&mut self, tick: u32, sender: u8) {
+        self.observer = sender;
         self.heartbeat = Some(tick);
-        Effect::none()
-    }
-
-    /// A: "whose observer becomes the named node, heartbeat due that tick". "An A naming its receiver does nothing".
-    fn take_named_observer(&mut self, tick: u32, subject: u8) -> Effect {
-        if subject == self.number {
-            return Effect::none();
-        }
-        self.send_to(tick, subject)
-    }
-
-    /// "A node that gets B and lists the named node clears list and mark and passes B on; otherwise it does nothing."
-    /// No node lists itself.
-    fn take_returned(&mut self, settings: &Settings, subject: u8) -> Effect {
-        if !ring::listed(self.dead_list, subject) {
-            return Effect::none();
-        }
-        let mut sends = Sends::none();
-        self.clear(subject);
-        self.tell(settings, Content::Returned { subject }, &mut sends);
-        Effect::of(sends)
-    }
-
-    /// A node that is back is neither listed nor marked.
-    fn clear(&mut self, subject: u8) {
-        self.dead_list = ring::without(self.dead_list, subject);
-        self.mark = ring::without(self.mark, subject);
     }
 
     /// "Message R of a subject": the node itself, nothing; "a node relays the first R of each subject it gets, also where a heartbeat
@@ -240,7 +174,7 @@ impl Node {
         }
         let mut sends = Sends::none();
         self.list_and_mark(subject);
-        self.tell(settings, Content::Report { subject }, &mut sends);
+        self.report(settings, subject, &mut sends);
         Effect::of(sends)
     }
 
@@ -250,11 +184,11 @@ impl Node {
         self.mark = ring::with(self.mark, subject);
     }
 
-    /// R or B of a subject to the forward targets. "The list is the one after the change."
-    fn tell(&self, settings: &Settings, content: Content, sends: &mut Sends) {
+    /// R of the subject to the forward targets. "The list is the one after the change."
+    fn report(&self, settings: &Settings, subject: u8, sends: &mut Sends) {
         let targets = settings.ring.forward_targets(self.dead_list, self.number);
         for target in targets.as_slice() {
-            sends.add(*target, content);
+            sends.add(*target, Content::Report { subject });
         }
     }
 
@@ -286,7 +220,7 @@ impl Node {
             self.emitter = node;
             self.watch = Some(tick + 2 * settings.timeout);
             sends.add(node, Content::NewObserver);
-            self.tell(settings, Content::Report { subject: left }, &mut sends);
+            self.report(settings, left, &mut sends);
         }
         Effect { sends, passed: Some(passed) }
     }
@@ -434,12 +368,11 @@ mod tests {
         assert_eq!(node, Node { mark: after.dead_list, ..marked });
     }
 
-    /// Whatever it carries, a heartbeat of another unlisted node than the emitter does nothing: of the observer, of one
-    /// that is neither.
+    /// Whatever it carries, a heartbeat of another node than the emitter does nothing: of a listed node, of the observer, of one that is neither.
     #[test]
     fn only_the_emitter_names_nodes() {
         let before = Node { dead_list: 1 << 7, mark: 1 << 7, ..Node::open(&EIGHT, 1) };
-        for sender in [2, 4, 6] {
+        for sender in [2, 4, 7] {
             for list in [1 << 3, 0b1111_1111, 1] {
                 let mut node = before;
                 let effect = node.deliver(&EIGHT, 4, sender, Content::Heartbeat { list });
@@ -485,188 +418,6 @@ mod tests {
         let mut alone = Node { dead_list: 0b1111_1100, ..Node::open(&EIGHT, 1) };
         alone.expire_watch(&EIGHT, 10);
         assert_eq!((alone.dead_list, alone.mark), (0b1111_1101, 1));
-    }
-
-    /// Node 1 has left 0 and gone back to 5. It lists 0, 6, 7 and 3, of which a heartbeat named 6.
-    fn gone_back() -> Node {
-        Node { emitter: 5, watch: Some(30), dead_list: 0b1100_1001, mark: 0b1000_1001, ..Node::open(&EIGHT, 1) }
-    }
-
-    fn returned(subject: u8, targets: &[u8]) -> Vec<Sent> {
-        targets.iter().map(|receiver| Sent { receiver: *receiver, content: Content::Returned { subject } }).collect()
-    }
-
-    fn named_observer(subject: u8, receiver: u8) -> Vec<Sent> {
-        vec![Sent { receiver, content: Content::NamedObserver { subject } }]
-    }
-
-    /// 6, 7 and 0 lie between 5 and 1. 7 becomes the emitter for W, and A, naming it, goes to 5 before B goes to the
-    /// first, second and fourth of 2, 4, 5 and 7. Nothing that the heartbeat carries is listed, and no node is counted
-    /// as passed. 6 and then 0 return likewise: 6 lies no longer between, 0 still does.
-    #[test]
-    fn a_listed_sender_in_between_becomes_the_emitter() {
-        for list in [0, 0b0010_0000, 0b1111_1111] {
-            let mut node = gone_back();
-            let effect = node.deliver(&EIGHT, 12, 7, Content::Heartbeat { list });
-            let after = Node { emitter: 7, watch: Some(22), dead_list: 0b0100_1001, mark: 0b0000_1001, ..gone_back() };
-            assert_eq!((node, effect.passed), (after, None));
-            assert_eq!(effect.sends.as_slice(), [named_observer(7, 5), returned(7, &[2, 4, 7])].concat());
-            let effect = node.deliver(&EIGHT, 13, 6, Content::Heartbeat { list });
-            let after = Node { dead_list: 0b0000_1001, ..after };
-            assert_eq!((node, effect.passed), (after, None));
-            assert_eq!(effect.sends.as_slice(), returned(6, &[2, 4, 6]));
-            let effect = node.deliver(&EIGHT, 14, 0, Content::Heartbeat { list });
-            assert_eq!(
-                (node, effect.passed),
-                (Node { emitter: 0, watch: Some(24), dead_list: 0b1000, mark: 0b1000, ..after }, None)
-            );
-            assert_eq!(effect.sends.as_slice(), [named_observer(0, 7), returned(0, &[2, 4, 6])].concat());
-        }
-    }
-
-    /// 3 does not lie between 5 and 1: emitter and watch stay, and B goes to 3 too, the second of 2, 3, 4 and 5. Once
-    /// it is back, its next heartbeat does nothing.
-    #[test]
-    fn a_listed_sender_elsewhere_leaves_the_emitter() {
-        let mut node = gone_back();
-        let effect = node.deliver(&EIGHT, 12, 3, Content::Heartbeat { list: 0b1111_1111 });
-        let after = Node { dead_list: 0b1100_0001, mark: 0b1000_0001, ..gone_back() };
-        assert_eq!((node, effect.passed), (after, None));
-        assert_eq!(effect.sends.as_slice(), returned(3, &[2, 3, 5]));
-        assert!(node.deliver(&EIGHT, 13, 3, Content::Heartbeat { list: 0b1111_1111 }).sends.as_slice().is_empty());
-        assert_eq!(node, after);
-    }
-
-    /// Node 1 is its own emitter, whoever observes it. All others lie between: 4 becomes emitter and observer, and no A
-    /// is sent. With all others listed B goes to 4 alone, with 4 alone listed to 2, 3 and 5.
-    #[test]
-    fn a_listed_sender_joins_a_node_alone() {
-        for (dead_list, targets) in [(0b1111_1101, &[4][..]), (0b0001_0000, &[2, 3, 5])] {
-            for (observer, heartbeat) in [(1, None), (6, Some(12)), (4, Some(13))] {
-                let before =
-                    Node { emitter: 1, observer, watch: None, heartbeat, dead_list, mark: dead_list, ..gone_back() };
-                let mut node = before;
-                let effect = node.deliver(&EIGHT, 12, 4, Content::Heartbeat { list: 0b1111_1111 });
-                let left = dead_list & !0b0001_0000;
-                let fields = Node {
-                    emitter: 4,
-                    observer: 4,
-                    watch: Some(22),
-                    heartbeat: Some(12),
-                    dead_list: left,
-                    mark: left,
-                    ..before
-                };
-                assert_eq!((node, effect.passed), (fields, None));
-                assert_eq!(effect.sends.as_slice(), returned(4, targets));
-            }
-        }
-        let alone = Node {
-            emitter: 1,
-            observer: 1,
-            watch: None,
-            heartbeat: None,
-            dead_list: 0b0001_0000,
-            mark: 0,
-            ..gone_back()
-        };
-        let mut node = alone;
-        assert!(node.deliver(&EIGHT, 12, 6, Content::Heartbeat { list: 0 }).sends.as_slice().is_empty());
-        assert_eq!(node, alone);
-    }
-
-    /// 2 → 0 → 3 → 1 → 2. Node 3 has gone back to 1 over 2 and 0: of these 2 lies between 1 and 3. Then 0 lies between
-    /// 2 and 3. But where it observes 0, nobody lies in between.
-    #[test]
-    fn a_return_goes_by_the_order_of_the_ring() {
-        let settings = Settings { ring: Ring::in_order(&[2, 0, 3, 1]), ..EIGHT };
-        let before = Node { emitter: 1, dead_list: 0b0101, mark: 0b0101, ..Node::open(&settings, 3) };
-        let mut node = before;
-        let effect = node.deliver(&settings, 12, 2, Content::Heartbeat { list: 0 });
-        assert_eq!(node, Node { emitter: 2, watch: Some(22), dead_list: 0b0001, mark: 0b0001, ..before });
-        assert_eq!(effect.sends.as_slice(), [named_observer(2, 1), returned(2, &[1, 2])].concat());
-        let effect = node.deliver(&settings, 13, 0, Content::Heartbeat { list: 0 });
-        assert_eq!(node, Node { emitter: 0, watch: Some(23), dead_list: 0, mark: 0, ..before });
-        assert_eq!(effect.sends.as_slice(), [named_observer(0, 2), returned(0, &[1, 2])].concat());
-        let before = Node { emitter: 0, dead_list: 0b0110, mark: 0b0010, ..before };
-        for (sender, left) in [(1, 0b0100), (2, 0b0010)] {
-            let mut node = before;
-            let effect = node.deliver(&settings, 12, sender, Content::Heartbeat { list: 0 });
-            assert_eq!(node, Node { dead_list: left, mark: left & 0b0010, ..before });
-            assert_eq!(effect.sends.as_slice().len(), 2);
-        }
-    }
-
-    /// A return, then a report of the node that is back: it is left by a search, which passes it and 6. It is marked
-    /// once more.
-    #[test]
-    fn a_report_after_a_return_moves_again() {
-        let mut node = gone_back();
-        node.deliver(&EIGHT, 12, 7, Content::Heartbeat { list: 0 });
-        let effect = node.deliver(&EIGHT, 13, 4, Content::Report { subject: 7 });
-        assert_eq!((node, effect.passed), (Node { watch: Some(33), ..gone_back() }, Some(2)));
-        let observer = vec![Sent { receiver: 5, content: Content::NewObserver }];
-        assert_eq!(effect.sends.as_slice(), [observer, reports(7, &[2, 4])].concat());
-    }
-
-    /// The named node is the observer, listed or not, also of a node alone; and it gets a heartbeat at this tick. One
-    /// that names its receiver does nothing.
-    #[test]
-    fn a_named_observer_gets_a_heartbeat_at_this_tick() {
-        let alone = Node { emitter: 1, observer: 1, watch: None, heartbeat: None, ..gone_back() };
-        for before in [Node::open(&EIGHT, 1), gone_back(), alone] {
-            for subject in [0, 3, 5, 7] {
-                let mut node = before;
-                let effect = node.deliver(&EIGHT, 12, 2, Content::NamedObserver { subject });
-                assert!(effect.sends.as_slice().is_empty() && effect.passed.is_none());
-                assert_eq!(node, Node { observer: subject, heartbeat: Some(12), ..before });
-            }
-            let mut node = before;
-            let effect = node.deliver(&EIGHT, 12, 2, Content::NamedObserver { subject: 1 });
-            assert!(effect.sends.as_slice().is_empty() && effect.passed.is_none());
-            assert_eq!(node, before);
-        }
-    }
-
-    /// 7 lies between 5 and 1, but B moves no emitter. 6 was named by a heartbeat and never marked. A node alone stays
-    /// so.
-    #[test]
-    fn a_listed_node_that_returned_is_cleared_and_passed_on() {
-        for (subject, dead_list, mark, targets) in
-            [(7, 0b0100_1001, 0b0000_1001, [2, 4, 7]), (6, 0b1000_1001, 0b1000_1001, [2, 4, 6])]
-        {
-            for emitter in [5, 1] {
-                let watch = (emitter == 5).then_some(30);
-                let before = Node { emitter, watch, ..gone_back() };
-                let mut node = before;
-                let effect = node.deliver(&EIGHT, 12, 2, Content::Returned { subject });
-                assert_eq!((node, effect.passed), (Node { dead_list, mark, ..before }, None));
-                assert_eq!(effect.sends.as_slice(), returned(subject, &targets));
-                assert!(node.deliver(&EIGHT, 12, 3, Content::Returned { subject }).sends.as_slice().is_empty());
-                assert_eq!(node, Node { dead_list, mark, ..before });
-            }
-        }
-    }
-
-    /// Of the nodes that it does not list, of itself and of its emitter, a B does nothing.
-    #[test]
-    fn a_node_that_is_not_listed_is_not_passed_on() {
-        for subject in [1, 2, 4, 5] {
-            let mut node = gone_back();
-            let effect = node.deliver(&EIGHT, 12, 2, Content::Returned { subject });
-            assert!(effect.sends.as_slice().is_empty() && effect.passed.is_none());
-            assert_eq!(node, gone_back());
-        }
-    }
-
-    /// After B the next report of the node is a first one, and is passed on again.
-    #[test]
-    fn a_node_that_returned_is_reported_again() {
-        let mut node = gone_back();
-        assert!(node.deliver(&EIGHT, 12, 2, Content::Report { subject: 3 }).sends.as_slice().is_empty());
-        node.deliver(&EIGHT, 12, 2, Content::Returned { subject: 3 });
-        assert_eq!(node.deliver(&EIGHT, 13, 2, Content::Report { subject: 3 }).sends.as_slice(), reports(3, &[2, 4]));
-        assert_eq!(node, gone_back());
     }
 
     #[test]
@@ -790,8 +541,6 @@ mod tests {
         let mut node = Node::open(&Settings { ring: Ring::of(64), ..EIGHT }, 0);
         let effect = node.expire_watch(&Settings { ring: Ring::of(64), ..EIGHT }, 10);
         assert_eq!(effect.sends.as_slice().len(), 1 + 5 + 1);
-        let effect = node.deliver(&Settings { ring: Ring::of(64), ..EIGHT }, 11, 63, Content::Heartbeat { list: 0 });
-        assert_eq!(effect.sends.as_slice(), [named_observer(63, 62), returned(63, &[1, 2, 4, 8, 16, 32])].concat());
     }
 
     #[test]

@@ -66,10 +66,8 @@ impl Record {
         range.contains(&tick).then_some(tick as u32).ok_or(REFUSED_TICK)
     }
 
-    /// Nothing for an "unknown kind; sender not below N or the node itself; on R, subject not below N or the node
-    /// itself", for "a subject of A or B not below N", and for "a list with a bit from N on", whatever the kind. On H
-    /// and O the subject is not looked at, and only on H a list in range is. An A or B that names the node itself is
-    /// taken.
+    /// Nothing for an "unknown kind; sender not below N or the node itself; on R, subject not below N or the node itself", and for "a list
+    /// with a bit from N on", whatever the kind. On H and O the subject is not looked at, on O and R a list in range is not.
     fn check_message(&self, kind: u64, sender: u64, subject: u64, list: u64) -> Option<Content> {
         let nodes = u64::from(self.settings.ring.nodes());
         let is_other = |node: u64| node < nodes && node != u64::from(self.node.number);
@@ -77,8 +75,6 @@ impl Record {
             b'H' => Content::Heartbeat { list },
             b'O' => Content::NewObserver,
             b'R' if is_other(subject) => Content::Report { subject: subject as u8 },
-            b'A' if subject < nodes => Content::NamedObserver { subject: subject as u8 },
-            b'B' if subject < nodes => Content::Returned { subject: subject as u8 },
             _ => return None,
         };
         (is_other(sender) && ring::below(list, nodes)).then_some(content)
@@ -95,15 +91,12 @@ fn check_part(length: usize) -> Result<(), u8> {
 
 #[cfg(test)]
 mod tests {
-    use super::super::generator::{self, Call};
     use super::super::random::Random;
     use super::*;
 
     const H: u64 = b'H' as u64;
     const O: u64 = b'O' as u64;
     const R: u64 = b'R' as u64;
-    const A: u64 = b'A' as u64;
-    const B: u64 = b'B' as u64;
 
     fn record() -> Record {
         Record::open(1, 8, 2, 10).unwrap()
@@ -139,21 +132,6 @@ mod tests {
             (5, R, 0, 1, 0, 112, 11),
             (5, R, 0, 8, 0, 112, 11),
             (5, R, 1, 2, 0, 112, 11),
-            (5, A, 0, 8, 0, 112, 11),
-            (5, A, 0, 255, 0, 112, 11),
-            (5, A, 1, 2, 0, 112, 11),
-            (5, A, 8, 2, 0, 112, 11),
-            (5, A + 256, 0, 2, 0, 112, 11),
-            (5, A, 0, 2, 256, 112, 11),
-            (5, B, 0, 8, 0, 112, 11),
-            (5, B, 0, 256, 0, 112, 11),
-            (5, B, 0, u64::MAX, 0, 112, 11),
-            (5, B, 1, 2, 0, 112, 11),
-            (5, B, 0, 2, 511, 112, 11),
-            (5, u64::from(b'C'), 0, 2, 0, 112, 11),
-            (5, u64::from(b'a'), 0, 2, 0, 112, 11),
-            (5, A, 0, 1, 0, 111, 9),
-            (5, B, 0, 1, 255, 0, 9),
             (5, H, 0, 0, 256, 0, 11),
             (5, H, 3, 0, 1 << 63, 112, 11),
             (5, O, 0, 0, 256, 112, 11),
@@ -174,7 +152,7 @@ mod tests {
     fn lists_have_no_bit_from_n_on() {
         for nodes in [2, 8, 63, 64] {
             for bit in 0..64 {
-                for kind in [H, O, R, A, B] {
+                for kind in [H, O, R] {
                     let mut record = Record::open(1, nodes, 2, 10).unwrap();
                     let answer = record.deliver(3, kind, 0, 0, 1 << bit, 112).map(|_| ());
                     assert_eq!(answer, if bit < nodes { Ok(()) } else { Err(11) }, "{nodes} nodes, kind {kind}, bit {bit}");
@@ -183,56 +161,11 @@ mod tests {
         }
     }
 
-    /// Every subject of an A or B below N is taken, the node itself too; of an R every other one.
+    /// On O and R a list in range is not looked at: the call does the same with any.
     #[test]
-    fn subjects_are_below_n() {
-        for (nodes, node) in [(2, 0), (8, 1), (8, 7), (63, 62), (64, 0), (64, 63)] {
-            for subject in (0..=256).chain([1 << 32, u64::MAX]) {
-                for kind in [A, B, R] {
-                    let mut record = Record::open(node, nodes, 2, 10).unwrap();
-                    let taken = subject < nodes && (kind != R || subject != node);
-                    let answer = record.deliver(3, kind, u64::from(node == 0), subject, 0, 112).map(|_| ());
-                    assert_eq!(
-                        answer,
-                        if taken { Ok(()) } else { Err(11) },
-                        "node {node} of {nodes}, kind {kind}, subject {subject}"
-                    );
-                }
-            }
-        }
-    }
-
-    /// Node 1 of eight has left 0 for 7. The heartbeat of 0 makes it the emitter, though it carries a list of all: A to
-    /// 7, then B to 2, 3 and 5. Then A makes 4 the observer; one that names 1 does nothing, nor does a B of 1 or of 0,
-    /// which is no longer listed.
-    #[test]
-    fn a_listed_sender_returns() {
-        let mut record = record();
-        record.do_timer(10, 112).unwrap();
-        assert_eq!((record.node.emitter, record.node.dead_list), (7, 1));
-        let sent = record.deliver(12, H, 0, 0, 255, 112).unwrap();
-        let contents: Vec<(u8, Content)> = sent.as_slice().iter().map(|sent| (sent.receiver, sent.content)).collect();
-        let back = Content::Returned { subject: 0 };
-        assert_eq!(contents, [(7, Content::NamedObserver { subject: 0 }), (2, back), (3, back), (5, back)]);
-        assert_eq!(
-            (record.node.emitter, record.node.dead_list, record.node.mark, record.node.watch),
-            (0, 0, 0, Some(22))
-        );
-        assert!(record.deliver(13, A, 6, 4, 255, 112).unwrap().as_slice().is_empty());
-        assert_eq!((record.node.observer, record.node.heartbeat, record.last_tick), (4, Some(13), 13));
-        let before = record;
-        for (kind, subject) in [(A, 1), (B, 1), (B, 0)] {
-            assert!(record.deliver(13, kind, 6, subject, 0, 112).unwrap().as_slice().is_empty());
-            assert_eq!(record, before);
-        }
-    }
-
-    /// On any other kind than H a list in range is not looked at: the call does the same with any.
-    #[test]
-    fn a_list_on_another_kind_than_h_plays_no_part() {
-        for (kind, subject) in [(O, 0), (R, 0), (R, 3), (A, 0), (A, 1), (B, 7), (B, 4), (B, 1)] {
-            let lists = Node { dead_list: 1 << 7 | 1 << 6, mark: 1 << 7, ..record().node };
-            let (mut without, mut with) = (Record { node: lists, ..record() }, Record { node: lists, ..record() });
+    fn a_list_on_o_or_r_plays_no_part() {
+        for (kind, subject) in [(O, 0), (R, 0), (R, 3)] {
+            let (mut without, mut with) = (record(), record());
             let sent = without.deliver(3, kind, 5, subject, 0, 112).unwrap();
             assert_eq!(with.deliver(3, kind, 5, subject, 0b1111_1111, 112).unwrap().as_slice(), sent.as_slice());
             assert_eq!(with, without);
@@ -276,52 +209,32 @@ mod tests {
         assert_eq!(record.deliver(32, R, 0, 1, 0, 112).map(|_| ()), Err(11));
     }
 
-    /// Whatever the calls, no accepted one leaves a record whose emitter is listed, that lists itself or marks a node
-    /// that it does not list, that observes itself with the watch on or sends to itself with the heartbeat on; and what
-    /// it sends is in range. Some leave the node alone, and in some a listed sender returns, also to a node alone.
+    /// Whatever the calls, no accepted one leaves a record whose emitter is listed, that lists itself or marks a node that it does not list.
+    /// Some leave the node alone.
     #[test]
     fn no_call_leaves_a_list_or_mark_out_of_range() {
         let mut random = Random::seeded(102);
         let (mut reported, mut alone, mut named) = (0, 0, 0);
-        let (mut back, mut back_alone, mut cleared) = (0, 0, 0);
         for _ in 0..400 {
             let nodes = random.range(1, 9);
             let mut record = Record::open(random.below(nodes), nodes, 3, random.range(1, 20)).unwrap();
             for _ in 0..40 {
                 let (before, tick) = (record.node, u64::from(record.last_tick) + random.below(8));
-                let sends = if random.chance(3) {
-                    record.do_timer(tick, 112).unwrap()
+                if random.chance(3) {
+                    record.do_timer(tick, 112).unwrap();
                 } else {
-                    let Call { kind, sender, subject, list } =
-                        generator::some_call(&mut random, nodes, u64::from(before.number));
-                    let sends = record.deliver(tick, kind, sender, subject, list, 112);
-                    let moved = sends.is_ok() && kind == R && record.node.emitter != before.emitter;
+                    let (kind, sender) = (random.pick(&[H, O, R, R]), random.below(nodes));
+                    let (subject, list) = (random.below(nodes), random.draw() & random.draw() & ((1 << nodes) - 1));
+                    let moved = record.deliver(tick, kind, sender, subject, list, 112).is_ok() && record.node.emitter != before.emitter;
                     reported += u64::from(moved);
                     alone += u64::from(moved && record.node.emitter == record.node.number);
-                    let returned = sends.is_ok() && kind == H && ring::listed(before.dead_list, sender as u8);
-                    back += u64::from(returned);
-                    back_alone += u64::from(returned && before.emitter == before.number);
-                    cleared += u64::from(kind == B && before.dead_list != record.node.dead_list);
-                    sends.unwrap_or(Sends::none())
-                };
-                let Node { number, emitter, observer, watch, heartbeat, dead_list, mark, .. } = record.node;
+                }
+                let Node { number, emitter, dead_list, mark, .. } = record.node;
                 assert!(!ring::listed(dead_list, emitter) && !ring::listed(dead_list, number), "{record:?}");
                 assert!(mark & !dead_list == 0 && dead_list < 1 << nodes, "{record:?}");
-                assert!(
-                    (watch.is_none() || emitter != number) && (heartbeat.is_none() || observer != number),
-                    "{record:?}"
-                );
-                assert!(
-                    sends.as_slice().iter().all(|sent| sent.receiver != number && u64::from(sent.receiver) < nodes),
-                    "{record:?}"
-                );
                 named += u64::from(mark != dead_list);
             }
         }
-        assert!(
-            back > 200 && back_alone > 50 && cleared > 50,
-            "{back} heartbeats of listed senders, {back_alone} to a node alone; {cleared} cleared by B"
-        );
         assert!(reported > 200 && alone > 50 && named > 200, "{reported} moves by report, {alone} of them to be alone; {named} with a node named only");
     }
 

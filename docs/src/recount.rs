@@ -1,11 +1,10 @@
-//! The lines K of a log, counted once more from the lines alone. Whom each node observes is kept by the lines W and R,
-//! and by those lines H whose sender was listed; what a move passes is counted over all nodes by their places in the
-//! ring. What a line takes off a list is asked too. No rule of a node is used, and no walk around the ring.
+//! The lines K of a log, counted once more from the lines alone. Whom each node observes is kept by the lines W and R; what a move passes
+//! is counted over all nodes by their places in the ring. No rule of a node is used, and no walk around the ring.
 
 use super::log::Line;
 use super::plan::Plan;
 use super::platform::Platform;
-use super::ring::{listed, without};
+use super::ring::listed;
 
 /// What came up of moves.
 #[derive(Clone, Copy, PartialEq, Eq, Debug)]
@@ -16,45 +15,16 @@ pub struct Moves {
     pub by_report: u64,
     pub alone: u64,
     pub alone_by_report: u64,
-    /// Heartbeats of listed senders, which are no moves: all, those that made the sender the emitter, and of these
-    /// those to a node alone.
-    pub returns: u64,
-    pub taken_back: u64,
-    pub taken_back_alone: u64,
-    /// Lines A, those of them that name their receiver, lines B, and those of them that take a node off a list.
-    pub named_observers: u64,
-    pub named_itself: u64,
-    pub told_returns: u64,
-    pub cleared: u64,
 }
 
 impl Moves {
-    pub const NONE: Moves = Moves {
-        passed: [0; 64],
-        by_report: 0,
-        alone: 0,
-        alone_by_report: 0,
-        returns: 0,
-        taken_back: 0,
-        taken_back_alone: 0,
-        named_observers: 0,
-        named_itself: 0,
-        told_returns: 0,
-        cleared: 0,
-    };
+    pub const NONE: Moves = Moves { passed: [0; 64], by_report: 0, alone: 0, alone_by_report: 0 };
 
     pub fn add(&mut self, other: &Moves) {
         self.passed.iter_mut().zip(other.passed).for_each(|(sum, count)| *sum += count);
         self.by_report += other.by_report;
         self.alone += other.alone;
         self.alone_by_report += other.alone_by_report;
-        self.returns += other.returns;
-        self.taken_back += other.taken_back;
-        self.taken_back_alone += other.taken_back_alone;
-        self.named_observers += other.named_observers;
-        self.named_itself += other.named_itself;
-        self.told_returns += other.told_returns;
-        self.cleared += other.cleared;
     }
 
     pub fn all(&self) -> u64 {
@@ -79,8 +49,6 @@ pub struct Recount {
     places: Vec<usize>,
     /// For each node whom it observes.
     emitters: Vec<u64>,
-    /// For each node its list.
-    lists: Vec<u64>,
     /// The line K that has to come next.
     due: Option<Line>,
     pub moves: Moves,
@@ -91,8 +59,7 @@ impl Recount {
     pub fn opened(plan: &Plan) -> Recount {
         let order = in_order(plan);
         let before = |place: usize| u64::from(order[(place + order.len() - 1) % order.len()]);
-        let (places, emitters, lists) = (vec![0; order.len()], vec![0; order.len()], vec![0; order.len()]);
-        let mut recount = Recount { places, emitters, lists, due: None, moves: Moves::NONE };
+        let mut recount = Recount { places: vec![0; order.len()], emitters: vec![0; order.len()], due: None, moves: Moves::NONE };
         for (place, node) in order.iter().enumerate() {
             recount.places[usize::from(*node)] = place;
             recount.emitters[usize::from(*node)] = before(place);
@@ -103,68 +70,21 @@ impl Recount {
     /// The ring in the midst of a run, or on a lent store.
     pub fn standing(platform: &Platform) -> Recount {
         let emitters = platform.nodes().iter().map(|node| u64::from(node.emitter)).collect();
-        let lists = platform.nodes().iter().map(|node| node.dead_list).collect();
-        Recount { emitters, lists, ..Recount::opened(platform.plan()) }
+        Recount { emitters, ..Recount::opened(platform.plan()) }
     }
 
-    /// The next line, which is K exactly where the one before searched for a new emitter, and then has its tick, node
-    /// and list and the number passed.
+    /// The next line, which is K exactly where the one before moved an emitter, and then has its tick, node and list and the number passed.
     pub fn take(&mut self, line: Line) -> Result<(), String> {
         if let Some(due) = self.due.take() {
             return if line == due { Ok(()) } else { Err(format!("{line:?} stands where {due:?} is due")) };
         }
         let observes = self.emitters.get(line.node as usize).copied();
-        self.take_list(line)?;
         match line.letter {
             b'K' => Err(format!("nothing moved before {line:?}")),
             b'W' if observes != Some(line.other) => Err(format!("the node observes {observes:?} at {line:?}")),
             b'W' => self.leave(line),
             b'R' if observes == Some(line.other) && line.other != line.node => self.leave(line),
             _ => Ok(()),
-        }
-    }
-
-    /// The line's list beside the node's before. A heartbeat takes its sender off, where that is listed, and B the node
-    /// that it names; neither then changes more. No other line takes anything off. A, like O, leaves the list.
-    fn take_list(&mut self, line: Line) -> Result<(), String> {
-        if matches!(line.letter, b'E' | b'F') {
-            return Ok(());
-        }
-        let list = self.lists.get_mut(line.node as usize).ok_or(format!("there is no such node at {line:?}"))?;
-        let before = std::mem::replace(list, line.list);
-        let was_listed = listed(before, line.other as u8);
-        let right = match line.letter {
-            b'H' if was_listed => line.list == without(before, line.other as u8),
-            b'B' => line.list == without(before, line.other as u8),
-            b'A' | b'O' => line.list == before,
-            _ => before & !line.list == 0,
-        };
-        match line.letter {
-            b'H' if was_listed => self.take_back(line),
-            b'A' => {
-                self.moves.named_observers += 1;
-                self.moves.named_itself += u64::from(line.other == line.node);
-            }
-            b'B' => {
-                self.moves.told_returns += 1;
-                self.moves.cleared += u64::from(was_listed);
-            }
-            _ => {}
-        }
-        if right { Ok(()) } else { Err(format!("the list was {before:016x} before {line:?}")) }
-    }
-
-    /// The line's sender is back: it is the emitter from now on if it comes sooner than the node, in steps ahead of the
-    /// emitter so far. A node that is its own emitter comes after a whole round.
-    fn take_back(&mut self, line: Line) {
-        let (nodes, emitter) = (self.places.len(), self.emitters[line.node as usize]);
-        let ahead = |node: u64| (self.places[node as usize] + nodes - self.places[emitter as usize]) % nodes;
-        let alone = emitter == line.node;
-        self.moves.returns += 1;
-        if alone || ahead(line.other) < ahead(line.node) {
-            self.emitters[line.node as usize] = line.other;
-            self.moves.taken_back += 1;
-            self.moves.taken_back_alone += u64::from(alone);
         }
     }
 
@@ -234,49 +154,6 @@ mod tests {
         assert_eq!(moves_of("P,4,2,3,1,12\nQ,1,2,3,0\n", LOG), Ok(moves));
         assert!(moves_of("P,4,2,3,1,12\nQ,2,1,3,0\n", LOG).is_err());
         assert_eq!(moves_of("P,4,2,3,1,12\n", "8,0\n"), Ok(Moves::NONE));
-    }
-
-    /// Four nodes: 3 left 2, which returns and is its emitter again; so it leaves that once more. 0 hears of it, and
-    /// then of its return.
-    const RETURN: &str = "W,6,3,2,0000000000000004\nK,6,3,1,0000000000000004\nR,7,0,2,0000000000000004\n\
-        H,8,3,2,0000000000000000\n\
-        A,9,1,2,0000000000000000\nB,9,0,2,0000000000000000\nB,9,2,2,0000000000000000\nA,9,2,2,0000000000000000\n\
-        W,12,3,2,0000000000000004\nK,12,3,1,0000000000000004\nF,12,4,0,0000000000000000\n";
-
-    #[test]
-    fn returns_are_counted() {
-        let moves = moves_of("P,4,2,2,1,12\n", RETURN).unwrap();
-        assert_eq!((moves.all(), moves.returns, moves.taken_back, moves.taken_back_alone), (2, 1, 1, 0));
-        assert_eq!((moves.named_observers, moves.named_itself, moves.told_returns, moves.cleared), (2, 1, 2, 1));
-        let alone = "W,3,0,1,0000000000000002\nK,3,0,1,0000000000000002\nH,4,0,1,0000000000000000\n\
-            W,9,0,1,0000000000000002\nK,9,0,1,0000000000000002\n";
-        let moves = moves_of("P,2,2,2,1,12\n", alone).unwrap();
-        assert_eq!((moves.all(), moves.alone, moves.taken_back, moves.taken_back_alone), (2, 2, 1, 1));
-    }
-
-    /// A return that is no return, writes K, clears nothing or too much; a node that leaves another than its emitter
-    /// after one; lists that shrink by other lines.
-    #[test]
-    fn mistakes_about_returns_are_found() {
-        for (old, new) in [
-            ("H,8,3,2,0000000000000000", "H,8,3,2,0000000000000004"),
-            ("H,8,3,2,0000000000000000", "H,8,3,2,0000000000000001"),
-            ("H,8,3,2,0000000000000000\n", "H,8,3,2,0000000000000000\nK,8,3,0,0000000000000000\n"),
-            ("H,8,3,2,0000000000000000\n", ""),
-            ("H,8,3,2,0000000000000000", "H,8,3,1,0000000000000000"),
-            ("B,9,0,2,0000000000000000", "B,9,0,2,0000000000000004"),
-            ("B,9,0,2,0000000000000000", "B,9,0,2,0000000000000008"),
-            ("B,9,0,2,0000000000000000", "B,9,0,1,0000000000000000"),
-            ("A,9,1,2,0000000000000000", "A,9,1,2,0000000000000004"),
-            ("B,9,0,2,", "A,9,0,2,"),
-            (
-                "W,12,3,2,0000000000000004\nK,12,3,1,0000000000000004",
-                "W,12,3,1,0000000000000002\nK,12,3,1,0000000000000002",
-            ),
-        ] {
-            assert!(RETURN.contains(old));
-            assert!(moves_of("P,4,2,2,1,12\n", &RETURN.replacen(old, new, 1)).is_err(), "{old:?} for {new:?}");
-        }
     }
 
     /// Each of these, put in place of a part of the log, is found.

@@ -138,12 +138,6 @@ impl Ring {
         self.ahead(from).find(|node| !listed(list, *node)).unwrap_or(from)
     }
 
-    /// Whether `node` lies between `from` and `to`, going ahead from the one to the other, neither of them included.
-    /// Where both are one node, all others lie there.
-    pub fn lies_between(&self, from: u8, node: u8, to: u8) -> bool {
-        self.ahead(from).take_while(|ahead| *ahead != to).any(|ahead| ahead == node)
-    }
-
     /// "For each power of two below m, smallest first, the target is that many unlisted nodes ahead."
     /// m counts the unlisted nodes, the node itself included.
     pub fn forward_targets(&self, list: u64, node: u8) -> Targets {
@@ -296,46 +290,6 @@ mod tests {
                 let (back, ahead) = (plain.first_unlisted_back(places, from), plain.first_unlisted_ahead(places, from));
                 assert_eq!(ring.first_unlisted_back(list, named(from)), Back { node: named(back.node), ..back });
                 assert_eq!(ring.first_unlisted_ahead(list, named(from)), named(ahead));
-            }
-        });
-    }
-
-    /// Going ahead from 6 of eight nodes, 7, 0 and 1 lie between it and 2. Between neighbours nobody lies, between a
-    /// node and itself all others.
-    #[test]
-    fn nodes_between_two_others() {
-        let between = |ring: &Ring, from, to| {
-            (0..ring.nodes()).filter(|node| ring.lies_between(from, *node, to)).collect::<Vec<u8>>()
-        };
-        let eight = Ring::of(8);
-        assert_eq!(between(&eight, 6, 2), [0, 1, 7]);
-        assert_eq!(between(&eight, 2, 6), [3, 4, 5]);
-        assert_eq!([between(&eight, 7, 0), between(&eight, 3, 4)], [[0u8; 0]; 2]);
-        assert_eq!(between(&eight, 4, 3), [0, 1, 2, 5, 6, 7]);
-        assert_eq!(between(&eight, 3, 3), [0, 1, 2, 4, 5, 6, 7]);
-        assert_eq!(between(&Ring::of(1), 0, 0), [0u8; 0]);
-        let ring = Ring::in_order(&[2, 0, 3, 1]);
-        assert_eq!([between(&ring, 3, 0), between(&ring, 0, 1), between(&ring, 1, 0)], [vec![1, 2], vec![3], vec![2]]);
-        assert_eq!(between(&ring, 1, 1), [0, 2, 3]);
-    }
-
-    /// The same by steps: of fewer steps ahead of the first node than the second is, or than a whole round where both
-    /// are one.
-    #[test]
-    fn lying_between_agrees_with_steps() {
-        for_some_rings(|order, _, node| {
-            let (ring, round) = (Ring::in_order(order), order.len());
-            let place = |node: u8| order.iter().position(|other| *other == node).unwrap();
-            let steps = |from, to| (place(to) + round - place(from)) % round;
-            for (from, to) in order.iter().flat_map(|from| [(*from, node), (node, *from)]) {
-                let until = if from == to { round } else { steps(from, to) };
-                for other in order {
-                    assert_eq!(
-                        ring.lies_between(from, *other, to),
-                        (1..until).contains(&steps(from, *other)),
-                        "{order:?} {from} {other} {to}"
-                    );
-                }
             }
         });
     }

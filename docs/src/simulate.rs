@@ -6,11 +6,9 @@
 //! - `simulate time FILE..`: does the events of each file without a log and prints the time.
 //! - `simulate moves FILE..`: prints how many moves by report the files lead to, all together.
 //! - `simulate recount FILE..`: counts the lines K of the log that stands beside each file once more.
-//! - `simulate joined FILE..`: asks requests 106 and 107 after each event of the files and prints how late survivors
-//!   were not joined, and their lists not full.
+//! - `simulate joined FILE..`: asks requests 106 and 107 after each event of the files and prints how late survivors were not joined, and
+//!   their lists not full.
 //! - `simulate false FILE..`: prints of each file how many live nodes get listed, and since when.
-//! - `simulate returns FILE..`: prints how often listed senders return in the files, all together, and how that is
-//!   told.
 
 use simulator::falsely::{self, Falsely};
 use simulator::fields;
@@ -39,10 +37,8 @@ fn main() -> ExitCode {
         (Some("recount"), _) => recount(&mut out, &arguments[1..]),
         (Some("joined"), _) => joined(&mut out, &arguments[1..]),
         (Some("false"), _) => arguments[1..].iter().try_for_each(|path| falsely(&mut out, path)),
-        (Some("returns"), _) => returns(&mut out, &arguments[1..]),
         _ => Err(io::Error::other(
-            "usage: simulate [table | lines | time FILE.. | moves FILE.. | recount FILE.. | joined FILE.. \
-            | false FILE.. | returns FILE..]",
+            "usage: simulate [table | lines | time FILE.. | moves FILE.. | recount FILE.. | joined FILE.. | false FILE..]",
         )),
     };
     match answer.and_then(|()| out.flush()) {
@@ -150,26 +146,6 @@ fn moves(out: &mut impl Write, paths: &[std::ffi::OsString]) -> io::Result<()> {
         }
     }
     writeln!(out, "{moves}")
-}
-
-/// Prints, over the logs of all the files, the heartbeats of listed senders, those that made the sender the emitter,
-/// and of these those to a node alone; then the lines A, the lines B, and those of them that take a node off a list.
-/// Fails where W is at least H + D and one comes up. A refused file has none.
-fn returns(out: &mut impl Write, paths: &[std::ffi::OsString]) -> io::Result<()> {
-    let mut all = Moves::NONE;
-    for path in paths {
-        let told = |error: String| io::Error::other(format!("{}: {error}", path.to_string_lossy()));
-        let Ok(plan) = plan::read(&read_run_file(std::fs::File::open(path)?)?) else { continue };
-        let mut log = Vec::new();
-        platform::rehearse(plan.clone(), &mut log)?;
-        let moves = recount::of_log(&plan, &log).map_err(told)?;
-        if !plan.short_timeout() && moves.returns + moves.named_observers + moves.told_returns > 0 {
-            return Err(told("a node returns though W is at least H + D".to_string()));
-        }
-        all.add(&moves);
-    }
-    let Moves { returns, taken_back, taken_back_alone, named_observers, told_returns, cleared, .. } = all;
-    writeln!(out, "{returns} {taken_back} {taken_back_alone} {named_observers} {told_returns} {cleared}")
 }
 
 /// Prints how many files have a crash. Then, for request 106 and for request 107, after how many events it is owed, and the tick at whose end

@@ -1,5 +1,5 @@
-//! A simulator of document 01, with requests 101 to 104, 106, 107, 109 and 110 of document 02: the ring failure
-//! detector, in any order of the ring, and its rehearsal platform.
+//! A simulator of document 01, with requests 101 to 104, 106, 107 and 109 of document 02: the ring failure detector, in any order of the
+//! ring, and its rehearsal platform.
 //!
 //! It is a second opinion on the proved platform, written from the papers alone.
 //!
@@ -18,11 +18,11 @@
 //! - `exhaust`: all runs of a small ring.
 //! - `ages`: how long ago the last crash can be in each state of that search.
 //! - `log`: log lines, written, read and cut into columns.
-//! - `recount`: the lines K of a log, counted once more from the log alone, and what its lines take off lists.
+//! - `recount`: the lines K of a log, counted once more from the log alone.
 //! - `joining`: requests 106 and 107 over whole runs.
 //! - `falsely`: how many live nodes get listed in a run, as a short time-out may do.
 //! - `random`: seeded numbers.
-//! - `generator`: run files of a seed, good and damaged; messages and platforms that no file leads to.
+//! - `generator`: run files of a seed, good and damaged.
 
 pub mod ages;
 pub mod dispatch;

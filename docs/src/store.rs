@@ -1,6 +1,5 @@
-//! The store: "65,536 lent bytes, opened from an accepted run file, its unused part zero". Its fields and their ranges
-//! are those of docs/LAYOUTS.md, of document 01 and of requests 102, 107, 109 and 110: W is 1 to 65,535, whatever H and
-//! D, and the kinds of messages are H, O, R, A and B.
+//! The store: "65,536 lent bytes, opened from an accepted run file, its unused part zero". Its fields
+//! and their ranges are those of docs/LAYOUTS.md, of document 01 and of requests 102, 107 and 109: W is 1 to 65,535, whatever H and D.
 //!
 //! `check` is number 7: "other length, a field out of range, or an unused byte not zero".
 
@@ -21,7 +20,7 @@ fn timer(number: u64) -> Option<u32> {
 }
 
 /// A message of a store with its due tick. No rule looks at the subject of an H or O, and a lent store
-/// may hold any node there. The list of any other message than H has to be empty.
+/// may hold any node there. The list of an O or R has to be empty.
 struct Flight {
     due: u32,
     message: Message,
@@ -162,8 +161,6 @@ fn read_flight(bytes: &[u8], place: usize) -> Option<Flight> {
         b'H' => Content::Heartbeat { list },
         b'O' => Content::NewObserver,
         b'R' => Content::Report { subject },
-        b'A' => Content::NamedObserver { subject },
-        b'B' => Content::Returned { subject },
         _ => return None,
     };
     let message = Message {
@@ -276,19 +273,19 @@ fn put_node(bytes: &mut [u8], node: &Node) {
     put(bytes, MARK, place, node.mark);
 }
 
-/// The subject of an R, A or B, 0 for H and O.
+/// The subject of an R, 0 for H and O.
 fn subject_of(content: Content) -> u8 {
     match content {
-        Content::Report { subject } | Content::NamedObserver { subject } | Content::Returned { subject } => subject,
+        Content::Report { subject } => subject,
         Content::Heartbeat { .. } | Content::NewObserver => 0,
     }
 }
 
-/// What an H carries, 0 for all others.
+/// What an H carries, 0 for O and R.
 fn list_of(content: Content) -> u64 {
     match content {
         Content::Heartbeat { list } => list,
-        _ => 0,
+        Content::NewObserver | Content::Report { .. } => 0,
     }
 }
 
@@ -297,8 +294,6 @@ fn put_message(bytes: &mut [u8], place: usize, due: u32, message: &Message) {
         Content::Heartbeat { .. } => b'H',
         Content::NewObserver => b'O',
         Content::Report { .. } => b'R',
-        Content::NamedObserver { .. } => b'A',
-        Content::Returned { .. } => b'B',
     };
     put(bytes, MESSAGE_NUMBER, place, message.number);
     put(bytes, MESSAGE_DUE, place, u64::from(due));
@@ -585,9 +580,6 @@ mod tests {
             (MESSAGE_LIST, 0, 0b100000, false),
             (MESSAGE_LIST, 0, 1 << 63, false),
             (MESSAGE_KIND, 0, u64::from(b'R'), true),
-            (MESSAGE_KIND, 0, u64::from(b'A'), true),
-            (MESSAGE_KIND, 0, u64::from(b'B'), true),
-            (MESSAGE_KIND, 0, u64::from(b'C'), false),
             (MESSAGE_KIND, 0, u64::from(b'X'), false),
             (MESSAGE_SENDER, 0, 5, false),
             (MESSAGE_RECEIVER, 0, 5, false),
@@ -598,31 +590,6 @@ mod tests {
         for (field, place, number, passes) in cases {
             assert_eq!(check(&changed(field, place, number)), passes, "{field:?} place {place}: {number}");
         }
-    }
-
-    /// Of all bytes the five letters are kinds. Of R, A and B every subject below N is in range, its receiver too, and
-    /// comes back as it is.
-    #[test]
-    fn kinds_and_their_subjects() {
-        let receiver = in_midst().messages()[0].1.receiver;
-        for kind in 0..=255 {
-            let bytes = changed(MESSAGE_KIND, 0, kind);
-            assert_eq!(check(&bytes), b"HORAB".contains(&(kind as u8)), "kind {kind}");
-        }
-        for kind in [b'R', b'A', b'B'] {
-            for subject in 0..=255 {
-                let mut bytes = changed(MESSAGE_KIND, 0, u64::from(kind));
-                put(&mut bytes, MESSAGE_SUBJECT, 0, subject);
-                let held = decode(&bytes);
-                assert_eq!(
-                    (check(&bytes), held.is_some()),
-                    (subject < 5, subject < 5),
-                    "kind {kind}, subject {subject}"
-                );
-                assert!(held.is_none_or(|held| held.encode() == bytes && encode(&held.platform) == bytes));
-            }
-        }
-        assert!(receiver < 5);
     }
 
     /// No node lists its emitter: neither a live one, 4, which has left 3 for 2, nor a crashed one, 3, which observes 2,
@@ -646,8 +613,7 @@ mod tests {
         assert!(!check(&changed(EMITTER, 4, 3)), "node 4 lists 3");
     }
 
-    /// An H may carry any list below 2^N, also one with its sender's or receiver's bit; all others carry none. Of 64
-    /// nodes every bit will do.
+    /// An H may carry any list below 2^N, also one with its sender's or receiver's bit; an O and an R carry none. Of 64 nodes every bit will do.
     #[test]
     fn only_heartbeats_carry_a_list() {
         let mut kinds = [0; 3];
@@ -655,7 +621,7 @@ mod tests {
             let kind = match message.content {
                 Content::Heartbeat { .. } => 0,
                 Content::NewObserver => 1,
-                _ => 2,
+                Content::Report { .. } => 2,
             };
             kinds[kind] += 1;
             for bit in 0..64 {
@@ -663,15 +629,12 @@ mod tests {
             }
             let mut bytes = changed(MESSAGE_LIST, place, 0b11111);
             assert_eq!(decode(&bytes).map(|held| held.encode() == bytes), (kind == 0).then_some(true));
-            for letter in [b'O', b'R', b'A', b'B'] {
+            for letter in [b'O', b'R'] {
                 put(&mut bytes, MESSAGE_KIND, place, u64::from(letter));
                 assert!(!check(&bytes), "place {place}");
             }
             put(&mut bytes, MESSAGE_LIST, place, 0);
-            for letter in [b'O', b'R', b'A', b'B'] {
-                put(&mut bytes, MESSAGE_KIND, place, u64::from(letter));
-                assert!(check(&bytes), "place {place}");
-            }
+            assert!(check(&bytes), "place {place}");
         }
         assert!(kinds.iter().all(|count| *count > 0), "H, O and R: {kinds:?}");
         let mut full = open("P,64,1,2,1,5\n");

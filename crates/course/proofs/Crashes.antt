@@ -123,12 +123,12 @@ module _ (b q : List ℕ) (c : Progress) (whole : List ℕ) (k : Underway b q c 
         (held-sized b' (apart-held left-apart), (ap plan_test p ∙ k.ready.plan, omega (arith, d, ap (λ (z : Plan). length z.crashes) p, more)))
 
     pub crash-stepped : (dead : ℕ) → dead ≡ crashed_list (plan_in b') (state_in b').done → (l : Deed)
-        → l ≡ deed letter_c t n n (node_of (state_in b) n).list 0
+        → l ≡ deed letter_c t n n (node_of (state_in b) n).list false 0
         → SteppedAs whole c (Did (record { start = c.start; end = c.end; dead = dead; bound = c.bound; x = 0 }) l) b' q
     unfolding SteppedAs
     crash-stepped dead de l le =
-        let le' : l ≡ deed letter_c t n n (node_of (state_in whole) n).list 0 =
-        le ∙ ap (λ (m : Node). deed letter_c t n n m.list 0) (apart-node k.apart n) in (
+        let le' : l ≡ deed letter_c t n n (node_of (state_in whole) n).list false 0 =
+        le ∙ ap (λ (m : Node). deed letter_c t n n m.list false 0) (apart-node k.apart n) in (
           (crash-done whole k.ready t n next (store_left whole) l le' (sym left_is)).0,
           record {
             ready = left-ready whole (store_left whole) k.ready refl;

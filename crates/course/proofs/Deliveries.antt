@@ -9,10 +9,11 @@ use Rattle.limits.specs.Limits.{most_nodes, most_tick, most_in_flight, most_sent
 use Rattle.ring.specs.Ring.{listed}
 use Rattle.model.specs.declared.Deed.{Deed}
 use Rattle.model.specs.Lines.{message_deed}
+use Rattle.node.specs.declared.Node.{Node}
 use Rattle.node.specs.declared.Turned.{Turned}
 use Rattle.node.specs.Node.{turned}
 use Rattle.plans.specs.Plan.{Plan}
-use Rattle.model.specs.Platform.{InFlight, State, message, message_at, without, received, apply}
+use Rattle.model.specs.Platform.{InFlight, State, message, message_at, node_of, without, received, apply}
 use Rattle.model.specs.Range.{FlightRange}
 use Rattle.model.proofs.RangesKept.{at_mem}
 use Rattle.store.specs.Store.{encode, plan_in, state_in}
@@ -37,7 +38,7 @@ use Rattle.course.specs.Act.{Delivers}
 use Rattle.course.specs.Carry.{unpacked}
 use Rattle.course.proofs.Carrying.{unpacked-row}
 use Rattle.course.proofs.Looking.{passed-less}
-use Rattle.course.proofs.Parting.{apart-plan, apart-state}
+use Rattle.course.proofs.Parting.{apart-plan, apart-state, apart-node}
 use Rattle.course.proofs.Events.{Given, turn-stepped}
 
 module _ (b q : List ℕ) (c : Progress) (t : ℕ) (whole : List ℕ) (k : Underway b q c whole) (dv : Delivers q c t whole) where
@@ -131,7 +132,10 @@ module _ (b q : List ℕ) (c : Progress) (t : ℕ) (whole : List ℕ) (k : Under
       }
 
       module _ (ls : Bool) (lse : ls ≡ listed c.dead f.to) (l : Deed)
-          (le : l ≡ message_deed t (message_of f) (not ls) u.node u.passed) where
+          (le : l ≡ message_deed t (message_of f) (not ls) (node_of (state_in b) f.to) u.node u.passed) where
+        deed-is : l ≡ message_deed t (message_of f) (not ls) (node_of (state_in whole) f.to) u.node u.passed
+        deed-is = le ∙ ap (λ (n : Node). message_deed t (message_of f) (not ls) n u.node u.passed) (apart-node k.apart f.to)
+
         delivery-given : Given whole mid (without i (state_in whole).flight) t (message_at (state_in whole) i).to u l
         unfolding apply
         delivery-given = record {
@@ -142,7 +146,7 @@ module _ (b q : List ℕ) (c : Progress) (t : ℕ) (whole : List ℕ) (k : Under
           outcome =
               turn-did (plan_in whole) (state_in whole) t (message i) next (message_at (state_in whole) i).to (without i (state_in whole).flight) u _ is
               refl;
-          answer = λ room. (message-done whole k.ready t i next f is-flight u is c.dead ls k.dead lse l le room).0;
+          answer = λ room. (message-done whole k.ready t i next f is-flight u is c.dead ls k.dead lse l deed-is room).0;
           full = λ h.
               message-refused whole k.ready t i next f is-flight u is
               (omega (arith, h, length-less i (state_in whole).flight (message-here whole k.ready t i next)));

@@ -64,7 +64,7 @@ pub fn do_message(b: &mut [u8], q: &mut [u64], c: Progress, t: u32) -> Step
     let row = queue::row_at(q, start);
     let f = carry::unpack(row, t);
     let u = turn::message_turn(b, c.dead, t, f);
-    let deed = turn::message_deed(t, f, ring::is_listed(c.dead, f.to), u);
+    let deed = turn::message_deed(b, t, f, ring::is_listed(c.dead, f.to), u);
     let d = Progress {
         start: start + 1,
         end: c.end,

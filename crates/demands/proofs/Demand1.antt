@@ -31,7 +31,6 @@ use Rattle.host.specs.Call.{answer, record_after, part_after, open_answer, open_
 use Rattle.host.specs.Call.{deliver_answer, deliver_leaves, deliver_sends, timers_answer, timers_leaves, timers_sends}
 use Rattle.host.specs.Record.{openable, sound}
 use Rattle.host.proofs.Range.{opened-in-range, deliver-stays, timers-stay}
-use Rattle.node.specs.declared.Incoming.{Incoming}
 use Rattle.node.specs.Node.{Turn}
 use Rattle.store.specs.Store.{encode, plan_in, state_in, store_in_range}
 use Rattle.platform.specs.declared.Opened.{Opened}
@@ -346,11 +345,11 @@ open-record-down s number nodes h w = record {
     by true false = refl
     by true true = refl
 
-pub deliver-down : (s : List ℕ) (tick : ℕ) (m : Incoming) (part : List ℕ)
-    → TurnsDown (deliver_answer s tick m part) (deliver_places s tick m part)
-    ((deliver_leaves s tick m part ≡ s) × (deliver_sends s tick m part ≡ part))
+pub deliver-down : (s : List ℕ) (tick kind sender subject list : ℕ) (part : List ℕ)
+    → TurnsDown (deliver_answer s tick kind sender subject list part) (deliver_places s tick kind sender subject list part)
+    ((deliver_leaves s tick kind sender subject list part ≡ s) × (deliver_sends s tick kind sender subject list part ≡ part))
 unfolding deliver_answer deliver_leaves deliver_sends deliver_places
-deliver-down s tick m part = record {
+deliver-down s tick kind sender subject list part = record {
   first = rw (below (length part) 112) (answer-down _ _ _ _);
   untouched = λ h. call-left _ s part tick _ h;
 }
@@ -366,7 +365,7 @@ fire-down s tick part = record {
 -- an accepted call leaves a record in range, a refused one leaves it as it was
 leaves-sound : (c : NodeCall) (tick : ℕ) (s part : List ℕ) → sound s ≡ true → sound (leaves c tick s part) ≡ true
 unfolding leaves
-leaves-sound (deliver m) tick s part e = deliver-stays s tick m part e
+leaves-sound (deliver kind sender subject list) tick s part e = deliver-stays s tick kind sender subject list part e
 leaves-sound timers tick s part e = timers-stay s tick part e
 
 all_sound : (cs : List RecordCall) (s : List ℕ) → sound s ≡ true → sound (record_after_all cs s) ≡ true
@@ -488,7 +487,7 @@ never-four = record {
   writing = λ store out. not-four (write-down store out) refl;
   dispatching = λ part turn_length turns. not-four (dispatch-down part turn_length turns) refl;
   node_open = λ s number nodes h w. not-four (open-record-down s number nodes h w) refl;
-  node_deliver = λ s tick m part. not-four (deliver-down s tick m part) refl;
+  node_deliver = λ s tick kind sender subject list part. not-four (deliver-down s tick kind sender subject list part) refl;
   node_timers = λ s tick part. not-four (fire-down s tick part) refl;
   line_reading = read-not-four;
   line_writing = λ l out. not-four (line-down l out) refl;

@@ -127,7 +127,7 @@ deed-list p pl s s' r t (message i) = go (alive p s.done (message_at s i).to)
     to : ℕ
     to = (message_at s i).to
 
-    go : (live : Bool) → (message_deed t (message_at s i) live (node_of s' to) (received p s t (message_at s i)).passed).list < 2 ^ 64
+    go : (live : Bool) → (message_deed t (message_at s i) live (node_of s to) (node_of s' to) (received p s t (message_at s i)).passed).list < 2 ^ 64
     go true = list-small p pl s' r to
     go false = list-small p pl s' r to
 deed-list p pl s s' r t (watch x) = list-small p pl s' r x

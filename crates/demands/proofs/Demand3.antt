@@ -14,8 +14,7 @@ use Rattle.model.specs.Platform.{State, start, first_events, after}
 use Rattle.model.specs.Range.{EndsInE}
 use Rattle.model.specs.Claims.{CrashedAre}
 use Rattle.plans.proofs.Facts.{plan-plain}
-use Rattle.model.proofs.Theorems.{crashed, logarithm, safety, settling, joining, completing, neither}
-use Rattle.model.proofs.RangesKept.{after-range}
+use Rattle.model.proofs.Theorems.{crashed, logarithm, safety, settling, joining, completing}
 use Rattle.limits.specs.Limits.{store_size}
 use Rattle.store.specs.Store.{encode, plan_in, state_in, store_in_range}
 use Rattle.platform.specs.declared.Opened.TheVariants.{Ready}
@@ -26,7 +25,6 @@ use Rattle.platform.proofs.CallLists.{after_small, after_holds, none-seven, open
 use Rattle.dispatcher.specs.PartCalls.{PartCall, stores_after_all, calls_on, NoCallAnswers, LentCall, AllAround, store_after_all_lent, lent_calls}
 use Rattle.dispatcher.proofs.PartCalls.{Led, AllLed, calls_at, calls-not-seven}
 use Rattle.dispatcher.proofs.Among.{all-lent-leave}
-use Rattle.demands.proofs.Unnamed.{event-unnamed}
 use Rattle.demands.specs.Demands.{store_of, AfterCallsE, AfterCalls, JustOpened, AllOpened, Demand3}
 
 -- an accepted file, and a lent store of its length
@@ -51,8 +49,6 @@ module _ (file store : List ℕ) (p : Plan) (ok : file_of file ≡ accepted p) (
         settles = settling p ac e;
         joins = joining p ac e;
         completes = completing p ac e;
-        neither = neither p ac e;
-        unwritten = event-unnamed p ac.plain (after p e) (after-range p ac.plain e) (neither p ac e);
       }
 
   pub left_after : (cs : List Call) → AfterCalls p cs (store_of file store cs)

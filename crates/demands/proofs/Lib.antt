@@ -1,6 +1,5 @@
 -- In reading order.
 pub mod Demand1
-pub mod Unnamed
 pub mod Demand3
 pub mod Demand2
 pub mod OneEvent

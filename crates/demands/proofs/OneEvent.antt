@@ -21,7 +21,7 @@ use Rattle.ring.specs.Ring.{numbers}
 use Rattle.plans.specs.Plan.{Plan, order_of, plan_test}
 use Rattle.plans.proofs.Facts.{plan-plain}
 use Rattle.model.specs.Platform.{InFlight, State, Event, crash, message, watch, heartbeat, alive, next_event, node_of, message_at}
-use Rattle.model.specs.Platform.{taken, without, arriving, received, apply}
+use Rattle.model.specs.Platform.{taken, without, received, apply}
 use Rattle.plans.specs.Plain.{Plain}
 use Rattle.model.specs.Range.{FlightRange, Sound}
 use Rattle.model.proofs.NextEvent.{Chosen}
@@ -106,7 +106,7 @@ module _ (p : Plan) (good : plan_test p ≡ true) (s : State) (r : Sound p s) (t
   module _ (order : order_of p ≡ numbers 0 p.n) (last : ℕ) (l : last ≤ t) (b : List ℕ) (ok : sound b ≡ true) (part : List ℕ)
       (long : part_size ≤ length part) where
     abbrev delivery : ℕ → NodeCall
-    delivery i = deliver (arriving (message_at s i))
+    delivery i = deliver (message_at s i).kind (message_at s i).from (message_at s i).subject (message_at s i).list
 
     message-same : (i : ℕ) → Chosen p pl s t (message i) → OfOthers s → alive p s.done (message_at s i).to ≡ true
         → decode b ≡ record_of p (message_at s i).to last (node_of s (message_at s i).to)
@@ -117,17 +117,12 @@ module _ (p : Plan) (good : plan_test p ≡ true) (s : State) (r : Sound p s) (t
         let has : Memᴰ m s.flight = at_mem s.flight i ch.0 in
         let f : FlightRange p s.last m = r.flying m has in
         let k : Record = record_of p m.to last (node_of s m.to) in
-        let u : delivered k t (arriving m) ≡ received p s t m = rw (a, order) in
+        let u : delivered k t m.kind m.from m.subject m.list ≡ received p s t m = rw (a, order) in
         let after : Turn → State = taken p s t m.to (without i s.flight) in
         subst (λ (v : Turn). SameEvent p s (record { tick = t; event = message i }) (after v) m.to (delivery i) b part)
-        u (same m.to f.to last (message i) (delivered k t (arriving m)) (delivery i) b part
-        (deliver-accepted b k ok d t l ends part long (arriving m) (record {
-          known = f.kind;
-          from = (f.from, f.apart);
-          about = λ q. f.subject;
-          apart = others m has;
-          within = f.list.below;
-        })))
+        u (same m.to f.to last (message i) (delivered k t m.kind m.from m.subject m.list) (delivery i) b part
+        (deliver-accepted b k ok d t l ends part long m.kind m.from m.subject m.list f.kind f.from f.apart
+        (λ q. (f.subject, others m has q)) f.list.below))
 
     watch-same : (x : ℕ) → Chosen p pl s t (watch x) → decode b ≡ record_of p x last (node_of s x)
         → SameEvent p s (record { tick = t; event = watch x }) (apply p s t (watch x)) x timers b part

@@ -12,7 +12,7 @@ use Rattle.fields.specs.Fields.{bytes, value, field_at, zeros}
 use Rattle.ring.specs.Ring.{keep, numbers, among, each_once, listed, listing, unlisting, merging, part_of, unlisted, passing, round, place, ahead}
 use Rattle.ring.specs.Ring.{first_unlisted, back, next, count, powers, jumps, targets}
 use Rattle.node.specs.declared.Node.{Node}
-use Rattle.node.specs.Node.{naming, opening, learnt, on_heartbeat, on_observer, on_report, on_heartbeat_due, on_message, leaving}
+use Rattle.node.specs.Node.{reports, opening, learnt, on_heartbeat, on_observer, on_report, on_heartbeat_due, on_message, leaving}
 use Rattle.node.specs.Range.{node_test, apart, live_test}
 use Rattle.host.specs.Record.{numbers_bytes, neighbours_bytes, ticks_bytes, mark_bytes, encode, decode, openable, in_range, sound}
 use Rattle.limits.specs.Limits.{record_size, part_size, store_size}
@@ -53,7 +53,7 @@ pub ninth : (node_of (after two 8) 0 ≡ node)
     × (next_event two (after two 8) ≡ some (record { tick = 3; event = heartbeat 0 }))
     × (last_tick two 0 8 ≡ 3)
 unfolding two node keep numbers listed listing unlisting merging unlisted passing round place ahead first_unlisted back next count powers jumps targets
-    naming opening learnt on_heartbeat on_observer on_report on_heartbeat_due leaving on_message ring_order order_of hits among alive start crash_entries
+    reports opening learnt on_heartbeat on_observer on_report on_heartbeat_due leaving on_message ring_order order_of hits among alive start crash_entries
     message_entries timer_entry timer_entries pending earlier first up_to next_event delay_in delay_of numbered turned without received apply fits tried try
     left steps after call_to tick_or ticked last_tick
 ninth = (refl, refl, refl)

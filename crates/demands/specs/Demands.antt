@@ -1,5 +1,5 @@
 -- THE THREE DEMANDS of the customer's terms, and what request 104 of document 02 claims, each as a record of what holds of the calls' definitions,
--- which the calls' contracts promise for every input; what requests 106, 107, 109 and 110 claim are parts of these. proofs/Theorems.antt proves them.
+-- which the calls' contracts promise for every input; what requests 106, 107 and 109 claim are parts of these. proofs/Theorems.antt proves them.
 -- Assumes nothing.
 use Rattle.std.specs.Prelude.{◌≡◌, ◌≢◌, ◌⊎◌, Bool, true, false, cond, not, ◌&&◌, ℕ, ◌+◌}
 use Rattle.std.specs.Prelude.{◌/◌, ◌%◌, ◌^◌, ◌≤◌, ◌<◌, eqb, leb, ltb, length, get_or, take}
@@ -17,12 +17,10 @@ use Rattle.logline.specs.declared.Line.{Line}
 use Rattle.logline.specs.declared.Read.TheVariants.{Accepted as LineRead, Refused as LineUnread}
 use Rattle.logline.specs.declared.Written.{Written}
 use Rattle.logline.specs.declared.Written.TheVariants.{Bytes as LineBytes, Refused as LineRefused}
-use Rattle.logline.specs.Line.{letter_a, letter_b, letter_e, letter_f, Ranges, up_to, unknown, ranges, within, read_of, fields as columns_of, line_text}
-use Rattle.logline.specs.Line.{written_of, out_of}
+use Rattle.logline.specs.Line.{letter_e, letter_f, Ranges, up_to, unknown, ranges, within, read_of, fields as columns_of, line_text, written_of, out_of}
 use Rattle.model.specs.Platform.{State, Entry, next_event, apply, Outcome, did, ended, refused, try, steps, event_count, run_answer, first_events, after}
 use Rattle.model.specs.Lines.{line_of, event_lines, last_line, lines_text, lines_from}
-use Rattle.model.specs.Claims.{CrashedAre, Safe, LogRoundedUp, K, Settles, Joins, Completes, SeesNeither}
-use Rattle.node.specs.declared.Incoming.{Incoming}
+use Rattle.model.specs.Claims.{CrashedAre, Safe, LogRoundedUp, K, Settles, Joins, Completes}
 use Rattle.host.specs.Record.{decode, openable, sound}
 use Rattle.host.specs.Call.{tick_taken, message_taken, open_answer, open_leaves, deliver_answer, deliver_leaves, deliver_sends}
 use Rattle.host.specs.Call.{timers_answer, timers_leaves, timers_sends}
@@ -113,10 +111,10 @@ dispatch_places part turn_length =
 unfoldable pub record_places : List ℕ → ℕ → ℕ → ℕ → ℕ → List Place
 record_places s number nodes h w = place (not (eqb (length s) record_size)) 10 ∷ place (not (openable number nodes h w)) 3 ∷ []
 
-unfoldable pub deliver_places : List ℕ → ℕ → Incoming → List ℕ → List Place
-deliver_places s tick m part =
+unfoldable pub deliver_places : List ℕ → ℕ → ℕ → ℕ → ℕ → ℕ → List ℕ → List Place
+deliver_places s tick kind sender subject list part =
     place (not (sound s)) 10 ∷ place (not (tick_taken (decode s) tick)) 12
-    ∷ place (not (message_taken (decode s) m)) 11 ∷ place (ltb (length part) 112) 9 ∷ []
+    ∷ place (not (message_taken (decode s) kind sender subject list)) 11 ∷ place (ltb (length part) 112) 9 ∷ []
 
 unfoldable pub timers_places : List ℕ → ℕ → List ℕ → List Place
 timers_places s tick part = place (not (sound s)) 10 ∷ place (not (tick_taken (decode s) tick)) 12 ∷ place (ltb (length part) 112) 9 ∷ []
@@ -163,7 +161,7 @@ pub record NeverFour : Type 0 where
   pub writing : (store out : List ℕ) → write_refusal (write_file store out).answer ≢ 4
   pub dispatching : (part : List ℕ) (turn_length turns : ℕ) → (dispatch part turn_length turns).answer.number ≢ 4
   pub node_open : (s : List ℕ) (number nodes h w : ℕ) → open_answer s number nodes h w ≢ 4
-  pub node_deliver : (s : List ℕ) (tick : ℕ) (m : Incoming) (part : List ℕ) → deliver_answer s tick m part ≢ 4
+  pub node_deliver : (s : List ℕ) (tick kind sender subject list : ℕ) (part : List ℕ) → deliver_answer s tick kind sender subject list part ≢ 4
   pub node_timers : (s : List ℕ) (tick : ℕ) (part : List ℕ) → timers_answer s tick part ≢ 4
   pub line_reading : (text : List ℕ) → read_of text ≢ LineUnread 4
   pub line_writing : (l : Line) (out : List ℕ) → line_refusal (written_of l (length out)) ≢ 4
@@ -209,9 +207,9 @@ pub record Demand1 : Type 0 where
   -- a host's calls
   pub node_open : (s : List ℕ) (number nodes h w : ℕ)
       → TurnsDown (open_answer s number nodes h w) (record_places s number nodes h w) (open_leaves s number nodes h w ≡ s)
-  pub node_deliver : (s : List ℕ) (tick : ℕ) (m : Incoming) (part : List ℕ)
-      → TurnsDown (deliver_answer s tick m part) (deliver_places s tick m part)
-      ((deliver_leaves s tick m part ≡ s) × (deliver_sends s tick m part ≡ part))
+  pub node_deliver : (s : List ℕ) (tick kind sender subject list : ℕ) (part : List ℕ)
+      → TurnsDown (deliver_answer s tick kind sender subject list part) (deliver_places s tick kind sender subject list part)
+      ((deliver_leaves s tick kind sender subject list part ≡ s) × (deliver_sends s tick kind sender subject list part ≡ part))
   pub node_timers : (s : List ℕ) (tick : ℕ) (part : List ℕ)
       → TurnsDown (timers_answer s tick part) (timers_places s tick part) ((timers_leaves s tick part ≡ s) × (timers_sends s tick part ≡ part))
   -- 'as is an opened record and every one that accepted calls then leave': no record that the rules lead to is refused by 10
@@ -313,11 +311,6 @@ pub record AfterCallsE (p : Plan) (s : State) : Type 0 where
   -- REQUEST 107: with m survivors, at least one, and no event left that is due by (m − 1) × (H + D) ticks after that, every survivor lists exactly
   -- the crashed nodes
   pub completes : Completes p s
-  -- REQUEST 110: no A and no B is in flight, and no heartbeat of a node that its receiver lists: the file 'sees neither'
-  pub neither : SeesNeither s
-  -- and the next event writes no line A and no line B
-  pub unwritten : (e : Entry) (s' : State) → try p s ≡ did e s' → (l : Line) → Memᴰ l (event_lines p s s' e)
-      → (l.letter ≢ letter_a) × (l.letter ≢ letter_b)
 
 -- `store` is what any list of steps and runs, refused ones included, leaves of a store just opened from a file whose plan is p
 pub record AfterCalls (p : Plan) (cs : List Call) (store : List ℕ) : Type 0 where

@@ -6,7 +6,6 @@
 use Rattle.std.specs.Prelude.{◌≡◌, true, cond, ◌&&◌, List, ◌++◌, ℕ, zero, suc, ◌≤◌, ◌<◌, eqb, length}
 use Rattle.std.proofs.Math.Option.{Option, none, some}
 use Rattle.node.specs.declared.Message.{Message}
-use Rattle.node.specs.declared.Incoming.{Incoming}
 use Rattle.node.specs.declared.Node.{Node}
 use Rattle.limits.specs.Limits.{most_sent, record_size, part_size}
 use Rattle.host.specs.declared.Record.{Record}
@@ -16,7 +15,7 @@ use Rattle.host.specs.Call.{put_messages, open_answer, open_leaves}
 use Rattle.host.specs.Call.{deliver_answer, deliver_leaves, deliver_sends, timers_answer, timers_leaves, timers_sends}
 use Rattle.plans.specs.Plan.{Plan}
 use Rattle.model.specs.Platform.{InFlight, State, Event, Entry, Outcome, crash, message, watch, heartbeat, did, ended, refused}
-use Rattle.model.specs.Platform.{alive, start, node_of, message_at, arriving, numbered, without, try, after}
+use Rattle.model.specs.Platform.{alive, start, node_of, message_at, numbered, without, try, after}
 
 -- ---- a node's record
 
@@ -26,9 +25,9 @@ record_of p x last n = record { number = x; nodes = p.n; h = p.h; w = p.w; last 
 
 -- ---- the call of an event
 
--- a message delivered, or the timers
+-- a message delivered, by its kind, its sender, its subject and the list that it carries; or the timers
 pub data NodeCall : Type 0 where
-  deliver : Incoming → NodeCall
+  deliver : ℕ → ℕ → ℕ → ℕ → NodeCall
   timers : NodeCall
 
 -- the call that an event of state s is to node x: a message that x gets while it is live, its watch, its heartbeat. Another
@@ -37,23 +36,23 @@ unfoldable pub call_to : Plan → State → ℕ → Event → Option NodeCall
 call_to p s x (crash k) = none
 call_to p s x (message i) =
     let m : InFlight = message_at s i in
-    cond (eqb m.to x && alive p s.done x) (some (deliver (arriving m))) none
+    cond (eqb m.to x && alive p s.done x) (some (deliver m.kind m.from m.subject m.list)) none
 call_to p s x (watch y) = cond (eqb y x) (some timers) none
 call_to p s x (heartbeat y) = cond (eqb y x) (some timers) none
 
 -- what `kelbraut_node_deliver` or `kelbraut_node_timers` answers at a tick, where the record b and a message part are lent to it
 unfoldable pub answers : NodeCall → ℕ → List ℕ → List ℕ → ℕ
-answers (deliver m) tick b part = deliver_answer b tick m part
+answers (deliver kind sender subject list) tick b part = deliver_answer b tick kind sender subject list part
 answers timers tick b part = timers_answer b tick part
 
 -- the record that it leaves
 unfoldable pub leaves : NodeCall → ℕ → List ℕ → List ℕ → List ℕ
-leaves (deliver m) tick b part = deliver_leaves b tick m part
+leaves (deliver kind sender subject list) tick b part = deliver_leaves b tick kind sender subject list part
 leaves timers tick b part = timers_leaves b tick part
 
 -- the message part that it leaves
 unfoldable pub sends : NodeCall → ℕ → List ℕ → List ℕ → List ℕ
-sends (deliver m) tick b part = deliver_sends b tick m part
+sends (deliver kind sender subject list) tick b part = deliver_sends b tick kind sender subject list part
 sends timers tick b part = timers_sends b tick part
 
 -- ---- one event

@@ -1,19 +1,19 @@
 -- The table of document 01's starred edges, an entry each with 01's words above it: what a definition gives there; and those of document
--- 02's line Q, of its reported emitter, of its line K, of its heartbeats with a list, of its last line F and of its returning nodes. To add one,
--- write its line here and `refl` for it in proofs/Starred.antt. Assumes nothing.
+-- 02's line Q, of its reported emitter, of its line K, of its heartbeats with a list and of its last line F. To add one, write its line here and
+-- `refl` for it in proofs/Starred.antt. Assumes nothing.
 use Rattle.std.specs.Prelude.{◌≡◌, List, [], ◌∷◌, ◌++◌, ℕ}
 use Prim.Native.Char.{code}
 use Prim.Native.String.{String, [] as empty, ◌∷◌ as before}
 use Rattle.ring.specs.declared.NodeBefore.{NodeBefore}
 use Rattle.ring.specs.Ring.{numbers, listing, node_before, place, back, back_from, powers, targets}
 use Rattle.node.specs.declared.Node.{Node}
-use Rattle.node.specs.Node.{Turn, turn, due, H, O, R, A, B, message, incoming, beat, silent, sending, alone, on_message, on_heartbeat_due}
+use Rattle.node.specs.Node.{Turn, turn, due, H, O, R, message, beat, silent, sending, alone, on_message, on_heartbeat_due}
 use Rattle.runfile.specs.File.{FileAnswer, accepted, turned_down, file_of}
 use Rattle.plans.specs.Plan.{start_plan, with_ring, with_delay}
 use Rattle.logline.specs.declared.Line.{Line}
 use Rattle.logline.specs.declared.Read.TheVariants.{Accepted, Refused}
 use Rattle.logline.specs.declared.Written.TheVariants.{Bytes, Refused as Unwritten}
-use Rattle.logline.specs.Line.{letter_a, letter_f, letter_k, read_of, line_text, written_of as line_written}
+use Rattle.logline.specs.Line.{letter_f, letter_k, read_of, line_text, written_of as line_written}
 use Rattle.model.specs.Lines.{line, log}
 
 -- the dead list with these nodes listed
@@ -34,25 +34,11 @@ five nodes marked = record { emitter = 4; observer = 6; watch = due 24; heartbea
 
 -- what it does at tick 20 with a report of a subject from node 7, W being 10
 unfoldable pub report_to5 : ℕ → List ℕ → List ℕ → Turn
-report_to5 subject nodes marked = on_message (numbers 0 8) 10 20 5 (incoming R 7 subject 0) (five nodes marked)
+report_to5 subject nodes marked = on_message (numbers 0 8) 10 20 5 R 7 subject 0 (five nodes marked)
 
 -- and with a heartbeat that carries the list of these nodes
 unfoldable pub beat_to5 : ℕ → List ℕ → List ℕ → List ℕ → Turn
-beat_to5 from carried nodes marked = on_message (numbers 0 8) 10 20 5 (incoming H from 0 (dead carried)) (five nodes marked)
-
--- node 5 that left 4 and 3: its emitter is 2; and one that is alone
-unfoldable pub past : List ℕ → List ℕ → Node
-past nodes marked = record { emitter = 2; observer = 6; watch = due 24; heartbeat = due 21; list = dead nodes; mark = dead marked }
-
-unfoldable pub lone : List ℕ → Node
-lone nodes = alone 5 (dead nodes) (dead nodes)
-
--- what such a node does at tick 20 with a heartbeat that carries the list of node 7, and with a message A or B of a subject from node 7
-unfoldable pub beat_from : ℕ → Node → Turn
-beat_from from n = on_message (numbers 0 8) 10 20 5 (incoming H from 0 (dead (7 ∷ []))) n
-
-unfoldable pub named : ℕ → ℕ → Node → Turn
-named kind subject n = on_message (numbers 0 8) 10 20 5 (incoming kind 7 subject 0) n
+beat_to5 from carried nodes marked = on_message (numbers 0 8) 10 20 5 H from 0 (dead carried) (five nodes marked)
 
 -- the bytes of a text
 unfoldable pub bytes : String → List ℕ
@@ -191,33 +177,3 @@ pub record Edges : Type 0 where
   pub last-read : read_of (bytes "F,6,64,2048,0000000000000002\n") ≡ Accepted (line letter_f 6 64 2048 2)
   pub last-65-refused : read_of (bytes "F,6,65,0,0000000000000002\n") ≡ Refused 3
   pub last-2049-refused : read_of (bytes "F,6,64,2049,0000000000000002\n") ≡ Refused 3
-  -- the returning nodes of document 02, #110: node 5 of eight
-  -- "if the sender lies between emitter and receiver .. it becomes the emitter, watch due tick + W .. and the receiver sends A naming it to the old
-  -- emitter"; "the receiver then sends B naming the returned node to its forward targets"
-  pub returned-between : beat_from 3 (past (3 ∷ 4 ∷ []) (3 ∷ 4 ∷ []))
-      ≡ sending (record { emitter = 3; observer = 6; watch = due 30; heartbeat = due 21; list = dead (4 ∷ []); mark = dead (4 ∷ []) })
-      (message A 2 3 ∷ message B 6 3 ∷ message B 7 3 ∷ message B 1 3 ∷ [])
-  -- "wherever the sender lies"
-  pub returned-beyond : beat_from 7 (past (3 ∷ 4 ∷ 7 ∷ []) (3 ∷ []))
-      ≡ sending (past (3 ∷ 4 ∷ []) (3 ∷ [])) (message B 6 7 ∷ message B 7 7 ∷ message B 1 7 ∷ [])
-  -- "a receiver that was alone sends no A; the sender also becomes its observer, heartbeat due that tick"
-  pub returned-to-lone : beat_from 1 (lone (0 ∷ 1 ∷ 2 ∷ 3 ∷ 4 ∷ 6 ∷ 7 ∷ []))
-      ≡ sending (record {
-        emitter = 1;
-        observer = 1;
-        watch = due 30;
-        heartbeat = due 20;
-        list = dead (0 ∷ 2 ∷ 3 ∷ 4 ∷ 6 ∷ 7 ∷ []);
-        mark = dead (0 ∷ 2 ∷ 3 ∷ 4 ∷ 6 ∷ 7 ∷ []);
-      })
-      (message B 1 1 ∷ [])
-  -- "whose observer becomes the named node, heartbeat due that tick"; "an A naming its receiver does nothing"
-  pub observer-named : named A 3 (five [] [])
-      ≡ silent (record { emitter = 4; observer = 3; watch = due 24; heartbeat = due 20; list = dead []; mark = dead [] })
-  pub itself-named : named A 5 (five [] []) ≡ silent (five [] [])
-  -- "a node that gets B and lists the named node clears list and mark and passes B on; otherwise it does nothing"
-  pub return-passed : named B 3 (five (2 ∷ 3 ∷ []) (2 ∷ 3 ∷ []))
-      ≡ sending (five (2 ∷ []) (2 ∷ [])) (message B 6 3 ∷ message B 7 3 ∷ message B 1 3 ∷ [])
-  pub return-unlisted : named B 3 (five (2 ∷ []) (2 ∷ [])) ≡ silent (five (2 ∷ []) (2 ∷ []))
-  -- "A and B get log lines"
-  pub named-read : read_of (bytes "A,6,0,63,0000000000000002\n") ≡ Accepted (line letter_a 6 0 63 2)

@@ -2,12 +2,14 @@
 -- nothing.
 use Prim.Native.Nat.{ℕ, zero, suc, ◌+◌, ◌-◌, ◌≤◌, ◌<◌}
 use mathlib.Core.Path.{◌≡◌, refl, sym, ap, ap₂, subst, ◌∙◌}
+use mathlib.Core.Logic.{◌≢◌}
 use mathlib.Core.Bool.{Bool, true, false, cond, not}
 use mathlib.Core.List.Memᴰ
 use mathlib.Core.List.{List, [], ◌∷◌, ◌++◌, Memᴰ}
 use mathlib.Core.Option.{Option, none, some}
 use native.Mathlib.Omega.{arith}
-use borrow.Author.Tests.{ne_eqb}
+use borrow.Author.Tests.{eq-eqb, ne_eqb}
+use lib.Dec.{eqb}
 use lib.ListN.{length, get_or, length-append, length-replicate}
 use Rattle.ring.specs.Ring.{listed}
 use Rattle.ring.proofs.Lists.{part-le}
@@ -15,19 +17,19 @@ use Rattle.node.specs.declared.Node.{Node}
 use Rattle.node.specs.declared.Message.{Message}
 use Rattle.node.specs.declared.Turned.{Turned}
 use Rattle.limits.specs.Limits.{most_nodes, most_tick, most_in_flight, most_sent}
-use Rattle.node.specs.Node.{Turn, R, A, B, silent, places, turned, on_message, on_watch_due, on_heartbeat_due}
+use Rattle.node.specs.Node.{Turn, R, silent, places, turned, on_message, on_watch_due, on_heartbeat_due}
 use Rattle.model.specs.declared.Deed.{Deed}
 use Rattle.plans.specs.Plan.{Plan, plan_test, order_of}
 use Rattle.model.specs.Platform.{InFlight, State, Event, Entry, crash, message, watch, heartbeat, alive, crashed_list, next_event, node_of, message_at, taken}
-use Rattle.model.specs.Platform.{without, arriving, received, apply, tried, try, left, Outcome, did, ended, refused}
-use Rattle.node.specs.Range.{NodeRange, naming_test}
+use Rattle.model.specs.Platform.{without, received, apply, tried, try, left, Outcome, did, ended, refused}
+use Rattle.node.specs.Range.{NodeRange}
 use Rattle.node.proofs.Tests.{kind_fits}
 use Rattle.node.proofs.Sends.{Sendable}
 use Rattle.node.proofs.Ranges.{Took}
 use Rattle.model.specs.Range.{FlightRange, Sound}
 use Rattle.plans.specs.Plain.{Plain}
 use Rattle.logline.specs.Line.{letter_c as C, letter_x as X}
-use Rattle.model.specs.Lines.{other_of, deed, crash_deed, message_deed, watch_deed, heartbeat_deed, deed_of}
+use Rattle.model.specs.Lines.{other_of, deed, moves, crash_deed, message_deed, watch_deed, heartbeat_deed, deed_of}
 use Rattle.model.proofs.NextEvent.{Chosen}
 use Rattle.model.proofs.SettledNode.{crashed-listed}
 use Rattle.model.proofs.RangesKept.{node-taken, at_mem, received-took, watch-taken, beat-taken, not-early}
@@ -218,12 +220,15 @@ module _ (b : List ℕ) (r : Ready b) (t k : ℕ) (next : NextIs b t (crash k)) 
   unfolding Chosen
   crash-place = let ch = chosen b r t (crash k) next in rw (← ch.2) ((ready-plain b r).node (state_in b).done ch.0)
 
-  pub crash-done : (b' : List ℕ) (a : Deed) → a ≡ deed C t k k (node_of (state_in b) k).list 0
+  pub crash-done : (b' : List ℕ) (a : Deed) → a ≡ deed C t k k (node_of (state_in b) k).list false 0
       → b' ≡ encode (plan_in b) (crashed (with_tick (state_in b) t))
       → (Did a ≡ next_answer b) × (b' ≡ store_left b)
-  unfolding deed_of crash_deed apply with_tick crashed
+  unfolding deed_of crash_deed moves apply with_tick crashed
   crash-done b' a ae q =
-      did-answer (plan_in b) (state_in b) b' a _ _ (try-did (plan_in b) (state_in b) t (crash k) next (ready-sound b r).few) q ae
+      let e : ℕ = (node_of (state_in b) k).emitter in
+      let stays : eqb e e ≡ true = eq-eqb e e refl in
+      did-answer (plan_in b) (state_in b) b' a _ _ (try-did (plan_in b) (state_in b) t (crash k) next (ready-sound b r).few) q
+      (ae ∙ ap (λ (c : Bool). deed C t k k (node_of (state_in b) k).list (not c) 0) (sym stays))
 
 -- ---- a message
 
@@ -286,7 +291,7 @@ module _ (b : List ℕ) (r : Ready b) (t i : ℕ) (next : NextIs b t (message i)
 
         turn : Bool → Turn
         turn c =
-            cond c (on_message (order_of (plan_in b)) (plan_in b).w t M.to (arriving M) (node_of (state_in b) M.to))
+            cond c (on_message (order_of (plan_in b)) (plan_in b).w t M.to M.kind M.from M.subject M.list (node_of (state_in b) M.to))
             (silent (node_of (state_in b) M.to))
 
         go : (c : Bool) → alive (plan_in b) (state_in b).done M.to ≡ c
@@ -295,7 +300,7 @@ module _ (b : List ℕ) (r : Ready b) (t i : ℕ) (next : NextIs b t (message i)
             let f = flight-range in
             let k =
             received-took (plan_in b) q (state_in b) (ready-sound b r) t (not-past b r t (message i) next) (at-end b r t (message i) next) M.to f.to e
-            M f refl in
+            M.kind M.from M.subject M.list f.kind f.from f.apart f.subject f.list.below in
             (took-node b r t (message i) next M.to _ k, took-message b r t (message i) next M.to _ k)
         go false e = (
           small-node (plan_in b) r.plan (state_in b).last (omega (arith, not-past b r t (message i) next, event-tick b r t (message i) next))
@@ -350,7 +355,7 @@ module _ (b : List ℕ) (r : Ready b) (t i : ℕ) (next : NextIs b t (message i)
 
       -- what it did; its receiver is dead where the list of crashed nodes has it
       pub message-done : (dead : ℕ) (l : Bool) → dead ≡ crashed_list (plan_in b) (state_in b).done → l ≡ listed dead f.to
-          → (a : Deed) → a ≡ message_deed t (message_of f) (not l) u.node u.passed
+          → (a : Deed) → a ≡ message_deed t (message_of f) (not l) (node_of (state_in b) f.to) u.node u.passed
           → length (without i (state_in b).flight) + u.count ≤ most_in_flight
           → (Did a ≡ next_answer b)
           × (encode (plan_in b) (taken (plan_in b) (state_in b) t M.to (without i (state_in b).flight) (turn_of u)) ≡ store_left b)
@@ -360,9 +365,9 @@ module _ (b : List ℕ) (r : Ready b) (t i : ℕ) (next : NextIs b t (message i)
           did-answer (plan_in b) (state_in b) _ a _ _
           (turn-did (plan_in b) (state_in b) t (message i) next M.to (without i (state_in b).flight) u _ is message-by room) refl
           (ae
-          ∙ (ap₂ (λ (g : InFlight) (y : Bool). message_deed t g y u.node u.passed) (ap message_of fe)
+          ∙ (ap₂ (λ (g : InFlight) (y : Bool). message_deed t g y (node_of (state_in b) g.to) u.node u.passed) (ap message_of fe)
           (not-dropped dead l de le)
-          ∙ ap₂ (message_deed t M (alive (plan_in b) (state_in b).done M.to)) (sym after) message-passed))
+          ∙ ap₂ (message_deed t M (alive (plan_in b) (state_in b).done M.to) (node_of (state_in b) M.to)) (sym after) message-passed))
 
       -- the store after it, where the message was taken out before
       module _ (room : length (state_in b).flight - 1 + u.count ≤ most_in_flight) (c : List ℕ)
@@ -385,33 +390,26 @@ pub full_left : (b : List ℕ) (t i : ℕ) (f : Flight) (u : Turned) → Ready b
     → b ≡ store_left b
 full_left b t i f u r next fe ue h = (message-refused b r t i next f fe u (ue ∙ turn-of b r t i next f fe) h).1
 
--- ---- what a message did to its receiver, which is a' after it, as the code tells it
+-- ---- what a message did to its receiver, which was n, as the code tells it: it read n as a
 
-module _ (t : ℕ) (m : Flight) (dropped : Bool) (a' : Node) (k : ℕ) (d : Deed) where
+module _ (t : ℕ) (m : Flight) (dropped : Bool) (a a' n : Node) (k : ℕ) (same : a ≡ n) (d : Deed) where
   abbrev Of : ℕ → ℕ → Type 0
-  Of letter other = d ≡ deed letter t m.to other a'.list k
+  Of letter other = d ≡ deed letter t m.to other a'.list (moves a a') k
 
   abbrev Told : Type 0
-  Told = d ≡ message_deed t (message_of m) (not dropped) a' k
+  Told = d ≡ message_deed t (message_of m) (not dropped) n a' k
 
   pub deed-dropped : dropped ≡ true → Of X m.from → Told
   unfolding message_deed
-  deed-dropped e q = rw e q
+  deed-dropped e q = rw (e, ← same) q
 
-  -- o is the column `other` of a message delivered
-  pub deed-delivered : dropped ≡ false → (o : ℕ) → o ≡ other_of (message_of m) → Of m.kind o → Told
-  unfolding message_deed
-  deed-delivered live o other q = q ∙ rw (live, other)
+  pub deed-report : dropped ≡ false → m.kind ≡ R → Of R m.subject → Told
+  unfolding message_deed other_of
+  deed-report e h q = rw (e, h, ← same) q
 
--- the column `other`, as the code finds it
-module _ (m : Flight) where
-  pub other-named : naming_test m.kind ≡ true → m.subject ≡ other_of (message_of m)
-  unfolding other_of
-  other-named h = rw h
-
-  pub other-sender : (m.kind ≡ R → ⊥) → (m.kind ≡ A → ⊥) → (m.kind ≡ B → ⊥) → m.from ≡ other_of (message_of m)
-  unfolding other_of naming_test
-  other-sender r a b = rw (ne_eqb m.kind R r, ne_eqb m.kind A a, ne_eqb m.kind B b)
+  pub deed-other : dropped ≡ false → m.kind ≢ R → Of m.kind m.from → Told
+  unfolding message_deed other_of
+  deed-other e h q = rw (e, ne_eqb m.kind R h, ← same) q
 
 -- ---- the event that the search answers
 

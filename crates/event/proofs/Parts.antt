@@ -11,7 +11,7 @@ use Rattle.ring.specs.Ring.{listed}
 use Rattle.node.specs.declared.Node.{Node}
 use Rattle.node.specs.Node.{Turn, silent, turned, on_message}
 use Rattle.plans.specs.Plan.{Plan, plan_test, order_of}
-use Rattle.model.specs.Platform.{InFlight, State, crashed_list, delay_of, node_of, arriving, received}
+use Rattle.model.specs.Platform.{InFlight, State, crashed_list, delay_of, node_of, received}
 use Rattle.plans.specs.Plain.{Plain}
 use Rattle.plans.proofs.Facts.{plan-plain}
 use Rattle.model.proofs.RangesKept.{delay-ok}
@@ -70,7 +70,7 @@ module _
     (le : l ≡ listed dead m.to) where
   abbrev turn_where : Bool → Turn
   turn_where c =
-      cond c (on_message (order_of (plan_in b)) (plan_in b).w t m.to (arriving m) (node_of (state_in b) m.to))
+      cond c (on_message (order_of (plan_in b)) (plan_in b).w t m.to m.kind m.from m.subject m.list (node_of (state_in b) m.to))
       (silent (node_of (state_in b) m.to))
 
   listed-is : listed (crashed_list (plan_in b) (state_in b).done) m.to ≡ l
@@ -83,10 +83,10 @@ module _
 
   pub turn-delivered : l ≡ false → (n : Node) → n ≡ node_of (state_in b) m.to → (order : List ℕ) → order ≡ order_of (plan_in b) → (w : ℕ)
       → w ≡ (plan_in b).w
-      → turned (on_message order w t m.to (arriving m) n) ≡ turned (received (plan_in b) (state_in b) t m)
+      → turned (on_message order w t m.to m.kind m.from m.subject m.list n) ≡ turned (received (plan_in b) (state_in b) t m)
   unfolding received
   turn-delivered h n ne order oe w we =
       ap turned
-      (ap₂ (λ (o : List ℕ) (v : ℕ). on_message o v t m.to (arriving m) n) oe we
-      ∙ (ap (on_message (order_of (plan_in b)) (plan_in b).w t m.to (arriving m)) ne
+      (ap₂ (λ (o : List ℕ) (v : ℕ). on_message o v t m.to m.kind m.from m.subject m.list n) oe we
+      ∙ (ap (on_message (order_of (plan_in b)) (plan_in b).w t m.to m.kind m.from m.subject m.list) ne
       ∙ sym (ap turn_where (live_of (plan_in b) (acting-plain b a) (state_in b).done m.to (listed-is ∙ h)))))

@@ -16,7 +16,7 @@ use Rattle.node.proofs.Sends.{message-few}
 use Rattle.limits.specs.Limits.{most_sent, most_nodes, most_in_flight}
 use Rattle.plans.specs.Plan.{Plan, plan_test, order_of}
 use Rattle.model.specs.Platform.{InFlight, State, Event, Entry, alive, delay_of, next_event, numbered, node_of, taken, received, apply, fits, did, refused}
-use Rattle.model.specs.Platform.{arriving, tried, try, left}
+use Rattle.model.specs.Platform.{tried, try, left}
 use Rattle.plans.specs.Plain.{Plain}
 use Rattle.model.proofs.NextEvent.{Chosen, Best, best}
 use Rattle.model.specs.declared.Deed.{Deed}
@@ -129,8 +129,8 @@ pub received-few : (p : Plan) → length (order_of p) ≤ most_nodes → (s : St
     → length (received p s t m).sends ≤ most_sent
 unfolding received
 received-few p few s t m =
-    go (alive p s.done m.to) (on_message (order_of p) p.w t m.to (arriving m) (node_of s m.to))
-    (message-few (order_of p) few p.w t m.to (arriving m) (node_of s m.to))
+    go (alive p s.done m.to) (on_message (order_of p) p.w t m.to m.kind m.from m.subject m.list (node_of s m.to))
+    (message-few (order_of p) few p.w t m.to m.kind m.from m.subject m.list (node_of s m.to))
   where
     go : (c : Bool) (u : Turn) → length u.sends ≤ most_sent → length (cond c u (silent (node_of s m.to))).sends ≤ most_sent
     go true u h = h

@@ -54,7 +54,7 @@ pub fn do_message(s: &mut [u8], t: u32, i: usize) -> Happened
     if layout::MOST_IN_FLIGHT < messages::message_count(s) - 1 + u.count {
         return Happened::Refused;
     }
-    let deed = turn::message_deed(t, m, ring::is_listed(dead, m.to), u);
+    let deed = turn::message_deed(s, t, m, ring::is_listed(dead, m.to), u);
     messages::take_message(s, i);
     take_turn(s, t, m.to, u);
     Happened::Did(deed)

@@ -3,15 +3,15 @@
 use mathlib.Core.Path.{◌≡◌, refl, ◌∙◌}
 use mathlib.Core.Bool.{true, false}
 use mathlib.Core.List.{List}
-use Prim.Native.Nat.{ℕ, ◌+◌, ◌≤◌, ◌<◌}
+use Prim.Native.Nat.{ℕ, ◌+◌, ◌^◌, ◌≤◌, ◌<◌}
 use native.Mathlib.Omega.{arith}
 use native.Mathlib.Decide.{ℕ_discrete}
 use borrow.Author.Tests.{eq-eqb, lt-ltb, le-leb, lt-leb}
 use lib.ListN.{length}
 use Rattle.limits.specs.Limits.{most_tick, most_sent, record_size, part_size}
 use Rattle.ring.specs.Ring.{numbers}
-use Rattle.node.specs.declared.Incoming.{Incoming}
-use Rattle.node.specs.Node.{Turn, due, on_watch_due, on_heartbeat_due}
+use Rattle.node.specs.Node.{Turn, R, due, on_watch_due, on_heartbeat_due}
+use Rattle.node.specs.Range.{Known}
 use Rattle.host.specs.declared.Record.{Record}
 use Rattle.host.specs.Record.{encode, decode, sound}
 use Rattle.limits.specs.Refusals.{accepted}
@@ -57,14 +57,17 @@ module _ (s : List ℕ) (r : Record) (ok : sound s ≡ true) (d : decode s ≡ r
   taken_at : tick_taken (decode s) tick ≡ true
   taken_at = rw d (tick-taken r tick from to)
 
-  pub deliver-accepted : (m : Incoming) → MessageTaken r m
-      → Accepted r tick (delivered r tick m) part (deliver_answer s tick m part) (deliver_leaves s tick m part) (deliver_sends s tick m part)
+  pub deliver-accepted : (kind sender subject list : ℕ) → Known kind → sender < r.nodes → (sender ≡ r.number → ⊥)
+      → (kind ≡ R → (subject < r.nodes) × (subject ≡ r.number → ⊥)) → list < 2 ^ r.nodes
+      → Accepted r tick (delivered r tick kind sender subject list) part (deliver_answer s tick kind sender subject list part)
+      (deliver_leaves s tick kind sender subject list part) (deliver_sends s tick kind sender subject list part)
   unfolding deliver_leaves deliver_sends deliver_answer
-  deliver-accepted m f =
-      let t : message_taken (decode s) m ≡ true = rw d (facts-message r m f) in
-      rw (← d) (turned_so s (decode s) tick (delivered (decode s) tick m) part _ refl
+  deliver-accepted kind sender subject list k below other about within =
+      let m : MessageTaken r kind sender subject list = record { known = k; from = (below, other); about = about; within = within } in
+      let t : message_taken (decode s) kind sender subject list ≡ true = rw d (facts-message r kind sender subject list m) in
+      rw (← d) (turned_so s (decode s) tick (delivered (decode s) tick kind sender subject list) part _ refl
       (answer-accepted _ _ _ _ ok taken_at t (le-leb part_size (length part) long))
-      (rw d (delivered-takes r range tick m f).few))
+      (rw d (delivered-takes r range tick kind sender subject list m).few))
 
   pub timers-accepted : Accepted r tick (fired r tick) part (timers_answer s tick part) (timers_leaves s tick part) (timers_sends s tick part)
   unfolding timers_leaves timers_sends timers_answer

@@ -4,23 +4,21 @@ use mathlib.Core.Bool.{Bool, true, false, cond}
 use mathlib.Core.List.{List}
 use Prim.Native.Nat.{ℕ, ◌≤◌, ◌<◌}
 use native.Mathlib.Omega.{arith}
+use borrow.Author.Tests.{eq-eqb, ne_eqb, le-leb, lt-leb, eqb-true}
 use lib.Dec.{eqb}
-use borrow.Author.Tests.{eq-eqb, ne_eqb, le-leb, lt-leb}
 use lib.ListN.{length, take}
 use Rattle.limits.specs.Limits.{most_nodes, most_h, most_w, most_tick, most_sent, record_size, part_size}
 use Rattle.limits.specs.Refusals.{out_of_range, accepted, bad_record, bad_tick, bad_message, short_part}
-use Rattle.node.specs.declared.Incoming.{Incoming}
 use Rattle.node.specs.declared.Turned.{Turned}
-use Rattle.node.specs.Node.{Turn, turned}
-use Rattle.node.specs.Range.{Known, naming_test}
-use Rattle.node.proofs.Tests.{kind_fits, naming-facts}
+use Rattle.node.specs.Node.{Turn, R, turned}
+use Rattle.node.specs.Range.{Known}
 use Rattle.node.proofs.Messages.{turned-count, turned-sends}
 use Rattle.host.specs.declared.Record.{Record}
 use Rattle.host.specs.Record.{encode, decode, openable, sound}
 use Rattle.host.specs.Call.{answer, tick_taken, message_taken, put_messages, record_after, part_after, open_answer, opened_record, open_leaves, delivered}
-use Rattle.host.specs.Call.{counted, deliver_answer, deliver_leaves, deliver_sends, fired, timers_answer, timers_leaves, timers_sends, with_turn}
+use Rattle.host.specs.Call.{deliver_answer, deliver_leaves, deliver_sends, fired, timers_answer, timers_leaves, timers_sends, with_turn}
 use Rattle.host.proofs.Facts.{InRange, MessageTaken, sound-facts, tick-facts, message-facts}
-use Rattle.host.proofs.Tests.{delivered-counted}
+use Rattle.host.proofs.Tests.{delivered-subject}
 use Rattle.host.proofs.Turns.{delivered-takes, fired-takes}
 
 -- ---- answers
@@ -89,47 +87,47 @@ module _ (s : List ℕ) (number nodes h w : ℕ) where
 
 -- ---- delivery
 
-module _ (s : List ℕ) (tick : ℕ) (m : Incoming) (part : List ℕ) (r : Record) (rq : r ≡ decode s) where
+module _ (s : List ℕ) (tick kind sender subject list : ℕ) (part : List ℕ) (r : Record) (rq : r ≡ decode s) where
   abbrev pub Delivered : ℕ → List ℕ → List ℕ → Type 0
   Delivered a s' part' =
-      (a ≡ deliver_answer s tick m part) × (s' ≡ deliver_leaves s tick m part)
-      × (part' ≡ deliver_sends s tick m part)
+      (a ≡ deliver_answer s tick kind sender subject list part) × (s' ≡ deliver_leaves s tick kind sender subject list part)
+      × (part' ≡ deliver_sends s tick kind sender subject list part)
 
   d-tick : (v : Bool) → tick_taken r tick ≡ v → tick_taken (decode s) tick ≡ v
   d-tick v e = rw (← rq) e
 
-  d-message : (v : Bool) → message_taken r m ≡ v → message_taken (decode s) m ≡ v
+  d-message : (v : Bool) → message_taken r kind sender subject list ≡ v → message_taken (decode s) kind sender subject list ≡ v
   d-message v e = rw (← rq) e
 
   pub deliver-tick : sound s ≡ true → tick_taken r tick ≡ false → Delivered bad_tick s part
   unfolding deliver_leaves deliver_sends deliver_answer
   deliver-tick e f = refused _ s part tick _ bad_tick (answer-tick _ _ _ _ e (d-tick false f)) refl
 
-  pub deliver-message : sound s ≡ true → tick_taken r tick ≡ true → message_taken r m ≡ false → Delivered bad_message s part
+  pub deliver-message : sound s ≡ true → tick_taken r tick ≡ true → message_taken r kind sender subject list ≡ false → Delivered bad_message s part
   unfolding deliver_leaves deliver_sends deliver_answer
   deliver-message e f g = refused _ s part tick _ bad_message (answer-message _ _ _ _ e (d-tick true f) (d-message false g)) refl
 
-  pub deliver-part : sound s ≡ true → tick_taken r tick ≡ true → message_taken r m ≡ true → length part < part_size
+  pub deliver-part : sound s ≡ true → tick_taken r tick ≡ true → message_taken r kind sender subject list ≡ true → length part < part_size
       → Delivered short_part s part
   unfolding deliver_leaves deliver_sends deliver_answer
   deliver-part e f g h =
       refused _ s part tick _ short_part (answer-part _ _ _ _ e (d-tick true f) (d-message true g) (lt-leb part_size (length part) h)) refl
 
-  pub deliver-taken : (given : Incoming) (t : Turned) (s' part' : List ℕ) → sound s ≡ true → tick_taken r tick ≡ true
-      → message_taken r m ≡ true
-      → part_size ≤ length part → Known m.kind → given ≡ counted m → t ≡ turned (delivered r tick given)
+  pub deliver-taken : (about : ℕ) (t : Turned) (s' part' : List ℕ) → sound s ≡ true → tick_taken r tick ≡ true
+      → message_taken r kind sender subject list ≡ true
+      → part_size ≤ length part → Known kind → about ≡ cond (eqb kind R) subject 0 → t ≡ turned (delivered r tick kind sender about list)
       → s' ≡ encode (with_turn r tick t.node) → part' ≡ put_messages part r.number (take t.count t.sent)
       → Delivered accepted s' part'
   unfolding deliver_leaves deliver_sends deliver_answer
-  deliver-taken given t s' part' e f g h k aq tq sq pq =
+  deliver-taken about t s' part' e f g h k aq tq sq pq =
       taken _ s part tick _ t r s' part' (answer-accepted _ _ _ _ e (d-tick true f) (d-message true g) (le-leb part_size (length part) h)) rq
-      (tq ∙ ap turned (ap (delivered r tick) aq ∙ delivered-counted r tick m k ∙ rw rq)) sq pq
+      (tq ∙ ap turned (ap (λ (x : ℕ). delivered r tick kind sender x list) aq ∙ delivered-subject r tick kind sender subject list k ∙ rw rq)) sq pq
 
-pub deliver-record : (s : List ℕ) (tick : ℕ) (m : Incoming) (part : List ℕ) → sound s ≡ false
-    → (bad_record ≡ deliver_answer s tick m part) × (s ≡ deliver_leaves s tick m part)
-    × (part ≡ deliver_sends s tick m part)
+pub deliver-record : (s : List ℕ) (tick kind sender subject list : ℕ) (part : List ℕ) → sound s ≡ false
+    → (bad_record ≡ deliver_answer s tick kind sender subject list part) × (s ≡ deliver_leaves s tick kind sender subject list part)
+    × (part ≡ deliver_sends s tick kind sender subject list part)
 unfolding deliver_leaves deliver_sends deliver_answer
-deliver-record s tick m part e = refused _ s part tick _ bad_record (answer-record _ _ _ _ e) refl
+deliver-record s tick kind sender subject list part e = refused _ s part tick _ bad_record (answer-record _ _ _ _ e) refl
 
 -- ---- timers
 
@@ -163,8 +161,8 @@ timers-record s tick part e = refused _ s part tick _ bad_record (answer-record 
 
 -- ---- what the calls below a record that is taken ask for
 
-pub kind-taken : (r : Record) (m : Incoming) → message_taken r m ≡ true → Known m.kind
-kind-taken r m g = (message-facts r m g).known
+pub kind-taken : (r : Record) (kind sender subject list : ℕ) → message_taken r kind sender subject list ≡ true → Known kind
+kind-taken r kind sender subject list g = (message-facts r kind sender subject list g).known
 
 pub sound-size : (s : List ℕ) → sound s ≡ true → length s ≡ record_size
 sound-size s e = (sound-facts s e).size
@@ -192,33 +190,34 @@ module _ (s : List ℕ) (r : Record) (tick : ℕ) (e : sound s ≡ true) (rq : r
   pub timer-few : (t : Turned) → t ≡ turned (fired r tick) → t.count ≤ most_sent
   timer-few t q = few t (fired r tick) q (fired-takes r range tick).few
 
-  module _ (m : Incoming) (g : message_taken r m ≡ true) where
-    facts : MessageTaken r m
-    facts = message-facts r m g
+  module _ (kind sender subject list : ℕ) (g : message_taken r kind sender subject list ≡ true) where
+    facts : MessageTaken r kind sender subject list
+    facts = message-facts r kind sender subject list g
 
-    sender-below : m.from < most_nodes
+    sender-below : sender < most_nodes
     sender-below = omega (arith, range.openable.most, facts.from.0)
 
-    about-fits : naming_test m.kind ≡ true → m.subject < most_nodes
-    about-fits q = omega (arith, range.openable.most, facts.about (naming-facts m.kind q))
+    pub sender-fits : sender < 256
+    sender-fits = omega (arith, sender-below)
 
-    pub message-fits : (m.kind < 256) × (m.from < most_nodes) × (naming_test m.kind ≡ true → m.subject < most_nodes)
-    message-fits = (kind_fits m.kind facts.known, sender-below, about-fits)
+    pub about-fits : kind ≡ R → subject < most_nodes
+    about-fits q = omega (arith, range.openable.most, (facts.about q).0)
 
-    -- the message as the code has it
-    module _ (given : Incoming) (gq : given ≡ counted m) where
-      subject-below : (counted m).subject < most_nodes
-      subject-below = go (naming_test m.kind) refl
+    -- the subject as the code has it
+    module _ (about : ℕ) (aq : about ≡ cond (eqb kind R) subject 0) where
+      about-below : about < most_nodes
+      about-below = rw aq (go (eqb kind R) refl)
         where
-          go : (b : Bool) → naming_test m.kind ≡ b → cond b m.subject 0 < most_nodes
-          go true q = about-fits q
+          go : (b : Bool) → eqb kind R ≡ b → cond b subject 0 < most_nodes
+          go true q = about-fits (eqb-true kind R q)
           go false q = omega arith
 
       pub message-asks : (1 ≤ r.nodes) × (r.nodes ≤ most_nodes) × (r.number < r.nodes) × (r.w ≤ most_w) × (tick ≤ most_tick)
-          × (given.from < most_nodes) × (given.subject < most_nodes)
-      message-asks = let o = range.openable in rw gq (o.some, o.most, o.below, o.w-most, tick-fits, sender-below, subject-below)
+          × (sender < most_nodes) × (about < most_nodes)
+      message-asks = let o = range.openable in (o.some, o.most, o.below, o.w-most, tick-fits, sender-below, about-below)
 
-      pub message-few : (t : Turned) → t ≡ turned (delivered r tick given) → t.count ≤ most_sent
+      pub message-few : (t : Turned) → t ≡ turned (delivered r tick kind sender about list) → t.count ≤ most_sent
       message-few t q =
-          let same : delivered r tick given ≡ delivered r tick m = rw gq (delivered-counted r tick m facts.known) in
-          few t (delivered r tick m) (q ∙ ap turned same) (delivered-takes r range tick m facts).few
+          let same : delivered r tick kind sender about list ≡ delivered r tick kind sender subject list =
+          rw aq (delivered-subject r tick kind sender subject list facts.known) in
+          few t (delivered r tick kind sender subject list) (q ∙ ap turned same) (delivered-takes r range tick kind sender subject list facts).few

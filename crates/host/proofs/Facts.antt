@@ -1,23 +1,22 @@
 -- What the tests of a record, a tick and a message tell, as facts with names. Assumes nothing.
-use mathlib.Core.Path.{◌≡◌, refl}
-use mathlib.Core.Logic.{inl, inr}
-use mathlib.Core.Bool.{Bool, true, false, and-eq-true_iff}
+use mathlib.Core.Path.{◌≡◌, refl, sym, ap, ◌∙◌}
+use mathlib.Core.Bool.{Bool, true, false, not, ◌||◌, and-eq-true_iff}
 use mathlib.Core.List.{List}
 use Prim.Native.Nat.{ℕ, ◌^◌, ◌≤◌, ◌<◌}
 use native.Mathlib.Omega.{arith}
-use borrow.Author.Tests.{ltb-true, leb-true, eqb-true, eqb-false, lt-ltb, le-leb, ne_eqb, not-true}
+use native.Mathlib.Decide.{ℕ_discrete}
+use borrow.Author.Tests.{ltb-true, leb-true, eqb-true, eqb-false, lt-ltb, le-leb, eq-eqb, ne_eqb, not-true}
 use lib.Dec.{eqb, leb, ltb}
 use lib.ListN.{length}
 use lib.Seq.{slice}
 use Rattle.fields.specs.Fields.{zeros}
 use Rattle.limits.specs.Limits.{most_nodes, most_h, most_w, most_tick, record_size}
-use Rattle.node.specs.declared.Incoming.{Incoming}
 use Rattle.node.specs.Node.{R}
-use Rattle.node.specs.Range.{NodeRange, LiveRange, Known, Naming, node_test, kind_test, naming_test}
+use Rattle.node.specs.Range.{NodeRange, LiveRange, Known, node_test, kind_test}
 use Rattle.node.proofs.Tests.{node-facts, facts-node, live_facts, facts-live, kind-facts, facts-kind}
 use Rattle.host.specs.declared.Record.{Record}
 use Rattle.host.specs.Record.{gap_from, mark_at, spare_from, decode, openable, in_range, sound}
-use Rattle.host.specs.Call.{tick_taken, other_node, subject_taken, message_taken, answer}
+use Rattle.host.specs.Call.{tick_taken, other_node, message_taken, answer}
 use Rattle.limits.specs.Refusals.{accepted}
 
 -- ---- the numbers of a record
@@ -127,44 +126,33 @@ pub facts-other : (r : Record) (i : ℕ) → (i < r.nodes) × (i ≡ r.number �
 unfolding other_node
 facts-other r i f = rw (lt-ltb i r.nodes f.0, ne_eqb i r.number f.1)
 
-pub record MessageTaken (r : Record) (m : Incoming) : Type 0 where
-  pub known : Known m.kind
-  pub from : (m.from < r.nodes) × (m.from ≡ r.number → ⊥)
-  pub about : Naming m.kind → m.subject < r.nodes
-  pub apart : m.kind ≡ R → m.subject ≡ r.number → ⊥
-  pub within : m.list < 2 ^ r.nodes
+pub record MessageTaken (r : Record) (kind sender subject list : ℕ) : Type 0 where
+  pub known : Known kind
+  pub from : (sender < r.nodes) × (sender ≡ r.number → ⊥)
+  pub about : kind ≡ R → (subject < r.nodes) × (subject ≡ r.number → ⊥)
+  pub within : list < 2 ^ r.nodes
 
-module _ (r : Record) (m : Incoming) where
-  pub message-facts : message_taken r m ≡ true → MessageTaken r m
-  unfolding message_taken subject_taken naming_test
+module _ (r : Record) (kind sender subject list : ℕ) where
+  pub message-facts : message_taken r kind sender subject list ≡ true → MessageTaken r kind sender subject list
+  unfolding message_taken
   message-facts e =
-      let a = (and-eq-true_iff (kind_test m.kind) _).0 e in
-      let b = (and-eq-true_iff (other_node r m.from) _).0 a.1 in
-      let c = (and-eq-true_iff (subject_taken r m) _).0 b.1 in
+      let a = (and-eq-true_iff (kind_test kind) _).0 e in
+      let b = (and-eq-true_iff (other_node r sender) _).0 a.1 in
+      let c = (and-eq-true_iff (not (eqb kind R) || other_node r subject) _).0 b.1 in
       record {
-        known = kind-facts m.kind a.0;
-        from = other-facts r m.from b.0;
-        about = λ n. below n c.0;
-        apart = λ q. (other-facts r m.subject (rw q at c.0)).1;
-        within = ltb-true m.list (2 ^ r.nodes) c.1;
+        known = kind-facts kind a.0;
+        from = other-facts r sender b.0;
+        about = λ q. other-facts r subject (ap (λ (k : ℕ). not (eqb k R) || other_node r subject) (sym q) ∙ c.0);
+        within = ltb-true list (2 ^ r.nodes) c.1;
       }
-    where
-      below : Naming m.kind → subject_taken r m ≡ true → m.subject < r.nodes
-      below (inl q) t = (other-facts r m.subject (rw q at t)).0
-      below (inr (inl q)) t = ltb-true m.subject r.nodes (rw q at t)
-      below (inr (inr q)) t = ltb-true m.subject r.nodes (rw q at t)
 
-  pub facts-message : MessageTaken r m → message_taken r m ≡ true
-  unfolding message_taken subject_taken naming_test
-  facts-message f =
-      rw (facts-kind m.kind f.known, facts-other r m.from f.from, go f.known, lt-ltb m.list (2 ^ r.nodes) f.within)
+  pub facts-message : MessageTaken r kind sender subject list → message_taken r kind sender subject list ≡ true
+  unfolding message_taken
+  facts-message m = rw (facts-kind kind m.known, facts-other r sender m.from, go (ℕ_discrete kind R), lt-ltb list (2 ^ r.nodes) m.within)
     where
-      go : Known m.kind → subject_taken r m ≡ true
-      go (inl q) = rw q
-      go (inr (inl q)) = rw q
-      go (inr (inr (inl q))) = rw q (facts-other r m.subject (f.about (inl q), f.apart q))
-      go (inr (inr (inr (inl q)))) = rw q (lt-ltb m.subject r.nodes (f.about (inr (inl q))))
-      go (inr (inr (inr (inr q)))) = rw q (lt-ltb m.subject r.nodes (f.about (inr (inr q))))
+      go : Dec (kind ≡ R) → (not (eqb kind R) || other_node r subject) ≡ true
+      go (yes q) = rw (eq-eqb kind R q) (facts-other r subject (m.about q))
+      go (no q) = rw (ne_eqb kind R q)
 
 -- ---- an accepted call
 

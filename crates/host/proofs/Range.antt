@@ -9,7 +9,6 @@ use borrow.Author.Tests.{eqb-true}
 use lib.Dec.{eqb, leb}
 use lib.ListN.{length}
 use Rattle.limits.specs.Refusals.{out_of_range, accepted, bad_record}
-use Rattle.node.specs.declared.Incoming.{Incoming}
 use Rattle.node.specs.Node.{Turn}
 use Rattle.limits.specs.Limits.{record_size, part_size}
 use Rattle.host.specs.Record.{encode, decode, openable, sound}
@@ -42,14 +41,14 @@ module _ (s : List ℕ) (tick : ℕ) (part : List ℕ) where
       let at = tick-facts (decode s) tick t in
       encode-sound (with_turn (decode s) tick u.node) (takes-in-range (decode s) f tick at.0 at.1 u (takes f))
 
-  pub deliver-keeps-range : (m : Incoming) → deliver_answer s tick m part ≡ accepted
-      → sound (deliver_leaves s tick m part) ≡ true
+  pub deliver-keeps-range : (kind sender subject list : ℕ) → deliver_answer s tick kind sender subject list part ≡ accepted
+      → sound (deliver_leaves s tick kind sender subject list part) ≡ true
   unfolding deliver_leaves record_after deliver_answer
-  deliver-keeps-range m e =
-      let a = accepted-facts (sound s) (tick_taken (decode s) tick) (message_taken (decode s) m) (leb part_size (length part)) e in
+  deliver-keeps-range kind sender subject list e =
+      let a = accepted-facts (sound s) (tick_taken (decode s) tick) (message_taken (decode s) kind sender subject list) (leb part_size (length part)) e in
       rw e
-      (turn-sound a.0 a.1 (delivered (decode s) tick m)
-      (λ f. delivered-takes (decode s) f tick m (message-facts (decode s) m a.2)))
+      (turn-sound a.0 a.1 (delivered (decode s) tick kind sender subject list)
+      (λ f. delivered-takes (decode s) f tick kind sender subject list (message-facts (decode s) kind sender subject list a.2)))
 
   pub timers-keep-range : timers_answer s tick part ≡ accepted → sound (timers_leaves s tick part) ≡ true
   unfolding timers_leaves record_after timers_answer
@@ -69,12 +68,12 @@ kept a s tick u h e = go (eqb a accepted) refl
     go true q = h (eqb-true a accepted q)
     go false q = rw q e
 
-pub deliver-stays : (s : List ℕ) (tick : ℕ) (m : Incoming) (part : List ℕ) → sound s ≡ true
-    → sound (deliver_leaves s tick m part) ≡ true
+pub deliver-stays : (s : List ℕ) (tick kind sender subject list : ℕ) (part : List ℕ) → sound s ≡ true
+    → sound (deliver_leaves s tick kind sender subject list part) ≡ true
 unfolding deliver_leaves
-deliver-stays s tick m part e =
-    kept (deliver_answer s tick m part) s tick (delivered (decode s) tick m)
-    (deliver-keeps-range s tick part m) e
+deliver-stays s tick kind sender subject list part e =
+    kept (deliver_answer s tick kind sender subject list part) s tick (delivered (decode s) tick kind sender subject list)
+    (deliver-keeps-range s tick part kind sender subject list) e
 
 pub timers-stay : (s : List ℕ) (tick : ℕ) (part : List ℕ) → sound s ≡ true → sound (timers_leaves s tick part) ≡ true
 unfolding timers_leaves

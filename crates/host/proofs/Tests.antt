@@ -1,24 +1,23 @@
 -- What the code's tests answer is what the definitions say. Assumes nothing.
 use mathlib.Core.Path.{◌≡◌, refl, sym, ap, ◌∙◌}
-use mathlib.Core.Bool.{Bool, true, false, ◌&&◌}
+use mathlib.Core.Bool.{Bool, true, false, cond, not, ◌&&◌, ◌||◌}
 use mathlib.Core.List.{List}
 use Prim.Native.Nat.{ℕ, ◌+◌, ◌-◌, ◌^◌, ◌≤◌, ◌<◌}
 use native.Mathlib.Numerals.{add-one}
 use native.Mathlib.Omega.{arith}
 use borrow.Author.Tests.{ne_eqb, lt-ltb, le-ltb, le-leb, lt-leb}
-use lib.Dec.{leb, ltb}
+use lib.Dec.{eqb, leb, ltb}
 use lib.ListN.{length, take}
 use lib.Pow.{pow_pos}
 use Rattle.ring.proofs.Rows.{length-numbers, take-numbers}
 use Rattle.limits.specs.Limits.{most_h, most_w, most_tick, most_nodes}
 use Rattle.ring.specs.Ring.{numbers}
-use Rattle.node.specs.declared.Incoming.{Incoming}
-use Rattle.node.specs.Node.{H, O, R, A, B}
-use Rattle.node.specs.Range.{Known, node_test, live_test, kind_test, naming_test}
+use Rattle.node.specs.Node.{H, O, R}
+use Rattle.node.specs.Range.{Known, node_test, live_test, kind_test}
 use Rattle.node.proofs.Moves.{subject-counts}
 use Rattle.host.specs.declared.Record.{Record}
 use Rattle.host.specs.Record.{openable, in_range}
-use Rattle.host.specs.Call.{other_node, subject_taken, message_taken, delivered, counted, due_by}
+use Rattle.host.specs.Call.{other_node, message_taken, delivered, due_by}
 use Rattle.host.proofs.Facts.{openable-facts}
 
 -- ---- the ranges of a record, test by test
@@ -76,54 +75,41 @@ never : (b : Bool) → (b && false) ≡ false
 never true = refl
 never false = refl
 
-module _ (r : Record) (m : Incoming) where
-  pub message-from : other_node r m.from ≡ false → message_taken r m ≡ false
+module _ (r : Record) (kind sender subject list : ℕ) where
+  pub message-from : other_node r sender ≡ false → message_taken r kind sender subject list ≡ false
   unfolding message_taken
-  message-from e = rw e (never (kind_test m.kind))
+  message-from e = rw e (never (kind_test kind))
 
   -- the set of all nodes of the ring, with which a list is compared
-  module _ (e : other_node r m.from ≡ true) (all : ℕ) (set : all ≡ 2 ^ r.nodes - 1) where
-    pub message-beyond : all < m.list → message_taken r m ≡ false
+  module _ (e : other_node r sender ≡ true) (all : ℕ) (set : all ≡ 2 ^ r.nodes - 1) where
+    pub message-beyond : all < list → message_taken r kind sender subject list ≡ false
     unfolding message_taken
     message-beyond h =
-        rw (e, le-ltb m.list (2 ^ r.nodes) (omega arith), never (subject_taken r m)) (never (kind_test m.kind))
+        rw (e, le-ltb list (2 ^ r.nodes) (omega arith), never (not (eqb kind R) || other_node r subject)) (never (kind_test kind))
 
-    module _ (h : m.list ≤ all) where
-      within : ltb m.list (2 ^ r.nodes) ≡ true
-      within = lt-ltb m.list (2 ^ r.nodes) (omega (arith, pow_pos r.nodes))
+    module _ (h : list ≤ all) where
+      within : ltb list (2 ^ r.nodes) ≡ true
+      within = lt-ltb list (2 ^ r.nodes) (omega (arith, pow_pos r.nodes))
 
-      pub message-heartbeat : m.kind ≡ H → message_taken r m ≡ true
-      unfolding message_taken kind_test subject_taken naming_test
+      pub message-heartbeat : kind ≡ H → message_taken r kind sender subject list ≡ true
+      unfolding message_taken kind_test
       message-heartbeat q = rw (q, e, within)
 
-      pub message-observer : m.kind ≡ O → message_taken r m ≡ true
-      unfolding message_taken kind_test subject_taken naming_test
+      pub message-observer : kind ≡ O → message_taken r kind sender subject list ≡ true
+      unfolding message_taken kind_test
       message-observer q = rw (q, e, within)
 
-      pub message-report : m.kind ≡ R → message_taken r m ≡ other_node r m.subject
-      unfolding message_taken kind_test subject_taken naming_test
-      message-report q = rw (q, e, within) (always (other_node r m.subject))
+      pub message-report : kind ≡ R → message_taken r kind sender subject list ≡ other_node r subject
+      unfolding message_taken kind_test
+      message-report q = rw (q, e, within) (always (other_node r subject))
 
-      pub message-named : m.kind ≡ A → message_taken r m ≡ ltb m.subject r.nodes
-      unfolding message_taken kind_test subject_taken naming_test
-      message-named q = rw (q, e, within) (always (ltb m.subject r.nodes))
+  pub message-unknown : (kind ≡ H → ⊥) → (kind ≡ O → ⊥) → (kind ≡ R → ⊥) → message_taken r kind sender subject list ≡ false
+  unfolding message_taken kind_test
+  message-unknown h o p = rw (ne_eqb kind H h, ne_eqb kind O o, ne_eqb kind R p)
 
-      pub message-return : m.kind ≡ B → message_taken r m ≡ ltb m.subject r.nodes
-      unfolding message_taken kind_test subject_taken naming_test
-      message-return q = rw (q, e, within) (always (ltb m.subject r.nodes))
-
-  pub message-unknown : (m.kind ≡ H → ⊥) → (m.kind ≡ O → ⊥) → (m.kind ≡ R → ⊥) → (m.kind ≡ A → ⊥) → (m.kind ≡ B → ⊥)
-      → message_taken r m ≡ false
-  unfolding message_taken kind_test naming_test
-  message-unknown h o p a b = rw (ne_eqb m.kind H h, ne_eqb m.kind O o, ne_eqb m.kind R p, ne_eqb m.kind A a, ne_eqb m.kind B b)
-
--- a kind that has a subject, and one that has none
-pub names-none : (kind : ℕ) → (kind ≡ R → ⊥) → (kind ≡ A → ⊥) → (kind ≡ B → ⊥) → false ≡ naming_test kind
-unfolding naming_test
-names-none kind r a b = rw (ne_eqb kind R r, ne_eqb kind A a, ne_eqb kind B b)
-
--- only the subjects of R, A and B count
-pub delivered-counted : (r : Record) (tick : ℕ) (m : Incoming) → Known m.kind → delivered r tick (counted m) ≡ delivered r tick m
+-- only a report's subject counts
+pub delivered-subject : (r : Record) (tick kind sender subject list : ℕ) → Known kind
+    → delivered r tick kind sender (cond (eqb kind R) subject 0) list ≡ delivered r tick kind sender subject list
 unfolding delivered
-delivered-counted r tick m k =
-    subject-counts (numbers 0 r.nodes) r.w tick r.number m.kind m.from m.subject m.list r.node k
+delivered-subject r tick kind sender subject list k =
+    subject-counts (numbers 0 r.nodes) r.w tick r.number kind sender subject list r.node k

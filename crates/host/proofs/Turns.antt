@@ -10,7 +10,6 @@ use lib.Dec.{ltb}
 use Rattle.ring.specs.Ring.{numbers, InOrder}
 use Rattle.ring.proofs.Orders.{numbers-in}
 use Rattle.limits.specs.Limits.{most_tick}
-use Rattle.node.specs.declared.Incoming.{Incoming}
 use Rattle.node.specs.Node.{silent, on_heartbeat_due, on_watch_due, Turn}
 use Rattle.node.proofs.Ranges.{Took, opening-range, silent-took, message-took, beat-took, watch-took}
 use Rattle.host.specs.declared.Record.{Record}
@@ -43,11 +42,11 @@ module _ (r : Record) (f : InRange r) (tick : ℕ) where
   abbrev pub Takes : Turn → Type 0
   Takes u = Took r.nodes r.h r.w r.last tick r.number r.node u
 
-  pub delivered-takes : (m : Incoming) → MessageTaken r m → Takes (delivered r tick m)
+  pub delivered-takes : (kind sender subject list : ℕ) → MessageTaken r kind sender subject list → Takes (delivered r tick kind sender subject list)
   unfolding delivered
-  delivered-takes m t =
+  delivered-takes kind sender subject list m =
       message-took r.nodes order ring r.number f.openable.below f.openable.most r.h r.w r.last tick r.node f.fields f.live
-      m t.known t.from.0 t.from.1 t.about t.within
+      kind sender subject list m.known m.from.0 m.from.1 (λ q. (m.about q).0) m.within
 
   pub fired-takes : Takes (fired r tick)
   unfolding fired

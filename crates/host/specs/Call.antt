@@ -7,10 +7,9 @@ use Rattle.limits.specs.Limits.{most_tick, record_size, message_size, part_size}
 use Rattle.limits.specs.Refusals.{accepted, out_of_range, short_part, bad_record, bad_message, bad_tick}
 use Rattle.ring.specs.Ring.{numbers}
 use Rattle.node.specs.declared.Message.{Message}
-use Rattle.node.specs.declared.Incoming.{Incoming}
 use Rattle.node.specs.declared.Node.{Node}
-use Rattle.node.specs.Node.{Turn, off, due, R, incoming, silent, opening, on_message, on_heartbeat_due, on_watch_due}
-use Rattle.node.specs.Range.{kind_test, naming_test}
+use Rattle.node.specs.Node.{Turn, off, due, R, silent, opening, on_message, on_heartbeat_due, on_watch_due}
+use Rattle.node.specs.Range.{kind_test}
 use Rattle.host.specs.declared.Record.{Record}
 use Rattle.host.specs.Record.{encode, decode, openable, sound}
 
@@ -29,14 +28,11 @@ tick_taken r tick = leb r.last tick && leb tick most_tick
 unfoldable pub other_node : Record → ℕ → Bool
 other_node r i = ltb i r.nodes && not (eqb i r.number)
 
--- its subject is not, "on R, .. not below N or the node itself", nor "a subject of A or B not below N"
-unfoldable pub subject_taken : Record → Incoming → Bool
-subject_taken r m = cond (eqb m.kind R) (other_node r m.subject) (not (naming_test m.kind) || ltb m.subject r.nodes)
-
--- a message that is not of "unknown kind; sender not below N or the node itself", of such a subject, nor with "a list with a bit from N on",
--- whatever its kind
-unfoldable pub message_taken : Record → Incoming → Bool
-message_taken r m = kind_test m.kind && (other_node r m.from && (subject_taken r m && ltb m.list (2 ^ r.nodes)))
+-- a message that is not of "unknown kind; sender not below N or the node itself; on R, subject not below N or the node itself", nor with
+-- "a list with a bit from N on", whatever its kind
+unfoldable pub message_taken : Record → ℕ → ℕ → ℕ → ℕ → Bool
+message_taken r kind sender subject list =
+    kind_test kind && (other_node r sender && ((not (eqb kind R) || other_node r subject) && ltb list (2 ^ r.nodes)))
 
 -- ---- messages: "at most seven .. are put into the first .. bytes of a lent part, unused ones zero", by 02, #107, of 16 and 112 bytes
 
@@ -79,21 +75,21 @@ open_leaves s number nodes h w = cond (eqb (open_answer s number nodes h w) acce
 
 -- ---- "one delivers a message"
 
-unfoldable pub delivered : Record → ℕ → Incoming → Turn
-delivered r tick m = on_message (numbers 0 r.nodes) r.w tick r.number m r.node
+unfoldable pub delivered : Record → ℕ → ℕ → ℕ → ℕ → ℕ → Turn
+delivered r tick kind sender subject list =
+    on_message (numbers 0 r.nodes) r.w tick r.number kind sender subject list r.node
 
-unfoldable pub deliver_answer : List ℕ → ℕ → Incoming → List ℕ → ℕ
-deliver_answer s tick m part = answer (sound s) (tick_taken (decode s) tick) (message_taken (decode s) m) (leb part_size (length part))
+unfoldable pub deliver_answer : List ℕ → ℕ → ℕ → ℕ → ℕ → ℕ → List ℕ → ℕ
+deliver_answer s tick kind sender subject list part =
+    answer (sound s) (tick_taken (decode s) tick) (message_taken (decode s) kind sender subject list) (leb part_size (length part))
 
-unfoldable pub deliver_leaves : List ℕ → ℕ → Incoming → List ℕ → List ℕ
-deliver_leaves s tick m part = record_after (deliver_answer s tick m part) s tick (delivered (decode s) tick m)
+unfoldable pub deliver_leaves : List ℕ → ℕ → ℕ → ℕ → ℕ → ℕ → List ℕ → List ℕ
+deliver_leaves s tick kind sender subject list part =
+    record_after (deliver_answer s tick kind sender subject list part) s tick (delivered (decode s) tick kind sender subject list)
 
-unfoldable pub deliver_sends : List ℕ → ℕ → Incoming → List ℕ → List ℕ
-deliver_sends s tick m part = part_after (deliver_answer s tick m part) s part (delivered (decode s) tick m)
-
--- a message without what its kind does not use: only R, A and B have a subject
-abbrev pub counted : Incoming → Incoming
-counted m = incoming m.kind m.from (cond (naming_test m.kind) m.subject 0) m.list
+unfoldable pub deliver_sends : List ℕ → ℕ → ℕ → ℕ → ℕ → ℕ → List ℕ → List ℕ
+deliver_sends s tick kind sender subject list part =
+    part_after (deliver_answer s tick kind sender subject list part) s part (delivered (decode s) tick kind sender subject list)
 
 -- ---- "one does the watch if due by this tick, else the heartbeat if due, else nothing"
 

@@ -2,21 +2,19 @@
 // docs/LAYOUTS.md has the bytes.
 #![tactic(auto)]
 
-ghost use Rattle.std.specs.Prelude.{◌≡◌, true, cond, ◌+◌, ◌≤◌, ◌<◌, length, take, ltb};
+ghost use Rattle.std.specs.Prelude.{◌≡◌, cond, ◌+◌, ◌≤◌, ◌<◌, eqb, length, take};
 ghost use Rattle.std.proofs.lemmas.List.Edits.{sets};
 ghost use Rattle.limits.specs.Limits.{most_nodes, most_h, most_w, most_tick, most_sent, record_size, message_size, part_size};
-ghost use Rattle.node.specs.Node.{incoming, turned};
-ghost use Rattle.node.specs.Range.{naming_test};
+ghost use Rattle.node.specs.Node.{turned, R};
 ghost use Rattle.host.specs.Record.{encode, numbers_bytes, neighbours_bytes, ticks_bytes, mark_bytes, decode, openable, in_range, sound};
-ghost use Rattle.host.specs.Call.{tick_taken, other_node, message_taken, message_bytes, put_messages, open_answer, opened_record, open_leaves, counted};
-ghost use Rattle.host.specs.Call.{delivered, deliver_answer, deliver_leaves, deliver_sends, due_by, fired, timers_answer, timers_leaves, timers_sends};
-ghost use Rattle.host.specs.Call.{with_turn};
+ghost use Rattle.host.specs.Call.{tick_taken, other_node, message_taken, message_bytes, put_messages, open_answer, opened_record, open_leaves, delivered};
+ghost use Rattle.host.specs.Call.{deliver_answer, deliver_leaves, deliver_sends, due_by, fired, timers_answer, timers_leaves, timers_sends, with_turn};
 
 use limits::{
     BAD_MESSAGE, BAD_RECORD, BAD_TICK, MESSAGE_SIZE, MOST_H, MOST_NODES, MOST_W, OUT_OF_RANGE,
     PART_SIZE, RECORD_SIZE, SHORT_PART,
 };
-use node::{Incoming, Message, Node, Turned};
+use node::{Message, Node, Turned};
 
 // A record: its node's number, N, H, W, the last tick and the node.
 #[derive(Clone, Copy)]
@@ -205,13 +203,6 @@ fn takes_tick(r: Record, tick: u64) -> bool
     tick <= MOST_TICK as u64
 }
 
-// Whether i is a node of the ring.
-fn is_node(r: Record, i: u64) -> bool
-    ensures { result ≡ ltb i r.nodes }
-{
-    i < r.nodes as u64
-}
-
 // Whether i is a node of the ring other than the record's own.
 fn is_other(r: Record, i: u64) -> bool
     ensures { result ≡ other_node r i }
@@ -222,11 +213,10 @@ fn is_other(r: Record, i: u64) -> bool
     i != r.number as u64
 }
 
-// Whether a message is of a known kind, H (72), O (79), R (82), A (65) or B (66), from another node and, on R, of another, on A and B of any,
-// with a list of the ring's nodes.
+// Whether a message is of a known kind, H (72), O (79) or R (82), from another node and, on R, of another, with a list of the ring's nodes.
 fn takes_message(r: Record, kind: u64, sender: u64, subject: u64, list: u64) -> bool
     requires { (1 ≤ r.nodes) × (r.nodes ≤ most_nodes) }
-    ensures { result ≡ message_taken r (incoming kind sender subject list) }
+    ensures { result ≡ message_taken r kind sender subject list }
 {
     if !is_other(r, sender) {
         return false;
@@ -238,8 +228,6 @@ fn takes_message(r: Record, kind: u64, sender: u64, subject: u64, list: u64) -> 
         72 => true,
         79 => true,
         82 => is_other(r, subject),
-        65 => is_node(r, subject),
-        66 => is_node(r, subject),
         _ => false,
     }
 }
@@ -276,51 +264,35 @@ fn put_messages(sent: [Message; 7], count: usize, sender: u8, part: &mut [u8])
 // ---- what the rules give
 
 // The record's node after a message, with what it sends.
-fn message_turn(r: Record, tick: u32, m: Incoming) -> Turned
+fn message_turn(r: Record, tick: u32, kind: u8, sender: u8, subject: u8, list: u64) -> Turned
     requires { (1 ≤ r.nodes) × (r.nodes ≤ most_nodes) × (r.number < r.nodes) × (r.w ≤ most_w) × (tick ≤ most_tick)
-        × (m.from < most_nodes) × (m.subject < most_nodes) }
-    ensures { result ≡ turned (delivered r tick m) }
+        × (sender < most_nodes) × (subject < most_nodes) }
+    ensures { result ≡ turned (delivered r tick kind sender subject list) }
 {
     let all = ring::number_order();
     let n = r.nodes as usize;
-    node::on_message(&all[..n], r.w, tick, r.number, m, r.node)
+    node::on_message(
+        &all[..n],
+        r.w,
+        tick,
+        r.number,
+        kind,
+        sender,
+        subject,
+        list,
+        r.node,
+    )
 }
 
-// Whether a message of this kind has a subject: R (82), A (65) or B (66).
-fn has_subject(kind: u64) -> bool
-    ensures { result ≡ naming_test kind }
-{
-    match kind {
-        82 => true,
-        65 => true,
-        66 => true,
-        _ => false,
-    }
-}
-
-// The subject of a message, which only R, A and B have.
+// The subject of a message, which only R has.
 fn subject_of(kind: u64, subject: u64) -> u8
-    requires { naming_test kind ≡ true → subject < most_nodes }
-    ensures { result ≡ cond (naming_test kind) subject 0 }
+    requires { kind ≡ R → subject < most_nodes }
+    ensures { result ≡ cond (eqb kind R) subject 0 }
 {
-    if !has_subject(kind) {
+    if kind != 82 {
         return 0;
     }
     subject as u8
-}
-
-// A message that is taken, as the rules have it.
-fn counted_of(kind: u64, sender: u64, subject: u64, list: u64) -> Incoming
-    requires { (kind < 256) × (sender < most_nodes) × (naming_test kind ≡ true → subject < most_nodes) }
-    ensures { result ≡ counted (incoming kind sender subject list) }
-{
-    let about = subject_of(kind, subject);
-    Incoming {
-        kind: kind as u8,
-        from: sender as u8,
-        subject: about,
-        list,
-    }
 }
 
 // Whether a timer is on and due by this tick.
@@ -420,9 +392,9 @@ pub extern "C" fn kelbraut_node_deliver(
     list: u64,
     messages: &mut [u8],
 ) -> u64
-    ensures { (result ≡ deliver_answer bytes.old tick (incoming kind sender subject list) messages.old)
-        × (bytes.new ≡ deliver_leaves bytes.old tick (incoming kind sender subject list) messages.old)
-        × (messages.new ≡ deliver_sends bytes.old tick (incoming kind sender subject list) messages.old) }
+    ensures { (result ≡ deliver_answer bytes.old tick kind sender subject list messages.old)
+        × (bytes.new ≡ deliver_leaves bytes.old tick kind sender subject list messages.old)
+        × (messages.new ≡ deliver_sends bytes.old tick kind sender subject list messages.old) }
 {
     if !is_sound(bytes) {
         return BAD_RECORD;
@@ -437,8 +409,14 @@ pub extern "C" fn kelbraut_node_deliver(
     if messages.len() < PART_SIZE {
         return SHORT_PART;
     }
-    let m = counted_of(kind, sender, subject, list);
-    let t = message_turn(r, tick as u32, m);
+    let t = message_turn(
+        r,
+        tick as u32,
+        kind as u8,
+        sender as u8,
+        subject_of(kind, subject),
+        list,
+    );
     leave(bytes, messages, r, tick as u32, t);
     0
 }

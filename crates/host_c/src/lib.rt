@@ -3,7 +3,6 @@
 #![tactic(auto)]
 
 ghost use Rattle.std.specs.Prelude.{◌≡◌};
-ghost use Rattle.node.specs.Node.{incoming};
 ghost use Rattle.host.specs.Call.{open_answer, open_leaves, deliver_answer, deliver_leaves, deliver_sends};
 ghost use Rattle.host.specs.Call.{timers_answer, timers_leaves, timers_sends};
 
@@ -33,9 +32,9 @@ pub extern "C" fn kelbraut_node_deliver(
     list: u64,
     messages: &mut [u8],
 ) -> u64
-    ensures { (result ≡ deliver_answer bytes.old tick (incoming kind sender subject list) messages.old)
-        × (bytes.new ≡ deliver_leaves bytes.old tick (incoming kind sender subject list) messages.old)
-        × (messages.new ≡ deliver_sends bytes.old tick (incoming kind sender subject list) messages.old) }
+    ensures { (result ≡ deliver_answer bytes.old tick kind sender subject list messages.old)
+        × (bytes.new ≡ deliver_leaves bytes.old tick kind sender subject list messages.old)
+        × (messages.new ≡ deliver_sends bytes.old tick kind sender subject list messages.old) }
 {
     host::kelbraut_node_deliver(bytes, tick, kind, sender, subject, list, messages)
 }

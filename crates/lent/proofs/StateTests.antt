@@ -13,14 +13,14 @@ use lib.Pow.{pow_pos}
 use lib.Seq.{drop-cons}
 use Rattle.ring.specs.Ring.{listed}
 use Rattle.node.specs.declared.Node.{Node}
-use Rattle.node.specs.Node.{H, O, R, A, B, alone}
+use Rattle.node.specs.Node.{H, O, R, alone}
 use Rattle.plans.specs.Plan.{Plan, Crash}
 use Rattle.plans.proofs.Bools.{and_left, and_right}
 use Rattle.limits.specs.Limits.{most_in_flight, most_next}
 use Rattle.model.specs.Platform.{State, InFlight, alive, crashed_list, no_message}
 use Rattle.plans.specs.Plain.{no_crash, Plain}
 use Rattle.model.specs.Range.{nodes_test, message_test, flight_test, undone_test, sound_test, node_here}
-use Rattle.node.specs.Range.{node_test, live_test, not_overdue, timers_test, kind_test, naming_test, carried_test}
+use Rattle.node.specs.Range.{node_test, live_test, not_overdue, timers_test, kind_test, carried_test}
 use Rattle.model.proofs.SettledNode.{crashed-listed}
 use Rattle.store.specs.declared.CrashRow.{CrashRow}
 use Rattle.store.specs.declared.Flight.{Flight}
@@ -91,20 +91,12 @@ module _ (k : ℕ) where
   kind-observer e = rw e
 
   pub kind-report : k ≡ R → true ≡ kind_test k
-  unfolding kind_test naming_test
+  unfolding kind_test
   kind-report e = rw e
 
-  pub kind-named : k ≡ A → true ≡ kind_test k
-  unfolding kind_test naming_test
-  kind-named e = rw e
-
-  pub kind-return : k ≡ B → true ≡ kind_test k
-  unfolding kind_test naming_test
-  kind-return e = rw e
-
-  pub kind-none : (k ≡ H → ⊥) → (k ≡ O → ⊥) → (k ≡ R → ⊥) → (k ≡ A → ⊥) → (k ≡ B → ⊥) → false ≡ kind_test k
-  unfolding kind_test naming_test
-  kind-none h o r a b = rw (ne_eqb k H h, ne_eqb k O o, ne_eqb k R r, ne_eqb k A a, ne_eqb k B b)
+  pub kind-none : (k ≡ H → ⊥) → (k ≡ O → ⊥) → (k ≡ R → ⊥) → false ≡ kind_test k
+  unfolding kind_test
+  kind-none h o r = rw (ne_eqb k H h, ne_eqb k O o, ne_eqb k R r)
 
 -- the list that it carries, where `all` is the set of all n nodes
 module _ (n kind list : ℕ) {all : ℕ} (is : all ≡ 2 ^ n - 1) where

@@ -93,8 +93,6 @@ fn is_kind(letter: u8) -> bool
         b'H' => true,
         b'O' => true,
         b'R' => true,
-        b'A' => true,
-        b'B' => true,
         _ => false,
     }
 }

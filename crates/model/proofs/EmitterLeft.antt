@@ -104,7 +104,6 @@ module _ (p : Params) (s s' : View) (i : Inv p s) where
 
     moves-new : (m : InFlight) → (m ≡ o) ⊎ (m ∈ out) → NewMessage p s s' t m
     moves-new m (inl q) = rw q (record {
-      kind = (λ q. omega (arith, e.o-kind), λ q. omega (arith, e.o-kind));
       due = omega (arith, e.o-after);
       from = λ pl. let pl' : p.planned x ≡ true =
           rw (sym e.o-by) pl in
@@ -117,7 +116,6 @@ module _ (p : Params) (s s' : View) (i : Inv p s) where
       carried = λ q. absurd (omega (arith, e.o-kind));
     })
     moves-new m (inr h) = record {
-      kind = (λ q. omega (arith, e.rs.kinds m h), λ q. omega (arith, e.rs.kinds m h));
       due = omega (arith, (e.rs.each m h).after);
       from = λ pl. let pl' : p.planned x ≡ true =
           rw (sym (e.rs.each m h).by) pl in

@@ -10,15 +10,16 @@ use lib.ListN.{length}
 use Rattle.ring.specs.Ring.{numbers, listed, listing, place, targets, InOrder}
 use Rattle.ring.proofs.Neighbours.{found_back}
 use Rattle.node.specs.declared.Node.{Node}
-use Rattle.node.specs.Node.{H, O, R, Turn, silent, alone, due, reports, on_message, sending, left_list, left_mark, new_emitter, moved}
-use Rattle.node.specs.Node.{with_heartbeat, observed_by, beat as beat_to}
+use Rattle.node.specs.Node.{H, O, R, Turn, silent, alone, due, reports}
+use Rattle.node.specs.Node.{on_message, sending, left_list, left_mark, new_emitter, moved, with_observer, with_watch}
+use Rattle.node.specs.Node.{with_heartbeat, with_list, beat as beat_to}
 use Rattle.node.specs.declared.Message.{Message}
-use Rattle.node.proofs.Moves.{Heard, comes_back, renews, unheard, Reported, known, own, leaves, relays, Messaged, beats, observes, names, tells-back}
-use Rattle.node.proofs.Moves.{tells, means-nothing, messaged, beaten, heard_list, heard_node, told_node, told_sends}
+use Rattle.node.proofs.Moves.{Heard, renews, unheard, Reported, known, own, leaves, relays, Messaged, beats, observes, tells, messaged, beaten}
+use Rattle.node.proofs.Moves.{other-is-report, heard_list, told_node, told_sends}
 use Rattle.node.proofs.Moves.{moved_sends, Left, stops, moves, left}
 use Rattle.plans.specs.Plan.{Plan, order_of}
 use Rattle.model.specs.Platform.{InFlight, State, Event, alive, survivors, delay_of, numbered, node_of, taken, message_at, without, received, apply}
-use Rattle.model.specs.Platform.{arriving, crash as crash_e, message as message_e, watch as watch_e, heartbeat as beat_e}
+use Rattle.model.specs.Platform.{crash as crash_e, message as message_e, watch as watch_e, heartbeat as beat_e}
 use Rattle.plans.specs.Plain.{no_crash, row_at}
 use Rattle.model.specs.Range.{EndsInE, FlightRange, NotBefore, Sound}
 use Rattle.model.specs.Claims.{S, settled_by, Spaced}
@@ -30,7 +31,6 @@ use Rattle.ring.proofs.Gaps.{gap}
 use Rattle.model.proofs.Events.{Seen, Frame, AtTimer, AtMessage, Cause, by_expiry, by_report, Leaves, Step, crash, drop, idle, beat}
 use Rattle.model.proofs.Events.{watched, report, moves as moves-on, alone as alone_s, sends}
 use Rattle.model.proofs.Invariant.{Inv}
-use Rattle.model.proofs.OneState.{gone-silent}
 use Rattle.model.proofs.EmitterLeft.{report-not-alone}
 use Rattle.model.proofs.Phases.{span, crashed_in}
 use Rattle.model.proofs.SpacedRuns.{Last, none as never, at, after, SpacedStep}
@@ -297,12 +297,10 @@ module _ (p : Plan) (ac : EndsInE p) where
       abbrev heard-list : ℕ
       heard-list = heard_list p.w m.due x m.from m.list n
 
-      heartbeat-does : alive p s.done x ≡ true → m.kind ≡ H → (u : Turn) → Heard (order_of p) p.w m.due x m.from m.list n u → Goes u
+      heartbeat-does : alive p s.done x ≡ true → m.kind ≡ H → (u : Turn) → Heard p.w m.due x m.from m.list n u → Goes u
       unfolding taken numbered
-      heartbeat-does l k0 u (comes_back e v h) =
-          absurd (gone-silent (P p ac) (view p s) i.base m.from (i.base.listed x m.from e) m has refl)
       heartbeat-does l k0 u (unheard e) = idles l (inl (k0, e))
-      heartbeat-does l k0 u (renews e) = let v : Node = heard_node p.w m.due x m.from m.list n in record {
+      heartbeat-does l k0 u (renews e) = let v : Node = with_list (with_watch n (due (m.due + p.w))) heard-list in record {
         step = beat m (listed heard-list) record {
           has = has;
           live = l;
@@ -317,9 +315,9 @@ module _ (p : Plan) (ac : EndsInE p) where
         more = omega arith;
       }
 
-      observer-does : alive p s.done x ≡ true → m.kind ≡ O → Goes (silent (observed_by m.due n m.from))
+      observer-does : alive p s.done x ≡ true → m.kind ≡ O → Goes (silent (with_heartbeat (with_observer n m.from) (due m.due)))
       unfolding taken numbered
-      observer-does l k1 = let v : Node = observed_by m.due n m.from in record {
+      observer-does l k1 = let v : Node = with_heartbeat (with_observer n m.from) (due m.due) in record {
         step = watched m record {
           has = has;
           live = l;
@@ -363,18 +361,15 @@ module _ (p : Plan) (ac : EndsInE p) where
       message-does : Does (apply p s m.due (message_e k))
       unfolding apply received
       message-does =
-          go (alive p s.done x) refl (on_message (order_of p) p.w m.due x (arriving m) n)
-          (messaged (order_of p) p.w m.due x (arriving m) n)
+          go (alive p s.done x) refl (on_message (order_of p) p.w m.due x m.kind m.from m.subject m.list n)
+          (messaged (order_of p) p.w m.due x m.kind m.from m.subject m.list n)
         where
-          go : (c : Bool) → alive p s.done x ≡ c → (u : Turn) → Messaged (order_of p) p.w m.due x (arriving m) n u
+          go : (c : Bool) → alive p s.done x ≡ c → (u : Turn) → Messaged (order_of p) p.w m.due x m.kind m.from m.subject m.list n u
               → Goes (cond c u (silent n))
           go false l u h = drops l
           go true l u (beats e v h) = heartbeat-does l e v h
           go true l u (observes e) = observer-does l e
-          go true l u (tells e v h) = report-does l e v h
-          go true l u (names e v h) = absurd ((i.base.m-kind m has).0 e)
-          go true l u (tells-back e v h) = absurd ((i.base.m-kind m has).1 e)
-          go true l u (means-nothing odd) = absurd (odd fl.kind)
+          go true l u (tells h o v g) = report-does l (other-is-report m.kind fl.kind h o) v g
 
     -- any event that is chosen
     pub event-does : (t : ℕ) (ev : Event) → Chosen p ac.plain s t ev → s.last ≤ t → t ≤ p.end → Does (apply p s t ev)

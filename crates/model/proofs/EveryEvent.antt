@@ -4,7 +4,7 @@ use mathlib.Core.Logic.{◌⊎◌, inl, inr, ◌≢◌}
 use mathlib.Core.Bool.{Bool, true, false, true≢false}
 use Prim.Native.Nat.{ℕ, ◌+◌, ◌≤◌, ◌<◌}
 use native.Mathlib.Omega.{arith}
-use Rattle.node.specs.Node.{H, O, R, A, B}
+use Rattle.node.specs.Node.{H, O, R}
 use Rattle.model.specs.Platform.{InFlight}
 use Rattle.model.proofs.Events.{View, Live, Dead, Lists, Marks, Carries, ◌∈◌, Params}
 use Rattle.model.proofs.Invariant.{Tied, Gone, Base}
@@ -28,7 +28,6 @@ module _ (p : Params) where
     pub long : p.c k + p.D ≤ t
 
   pub record NewMessage (s s' : View) (t : ℕ) (m : InFlight) : Type 0 where
-    pub kind : (m.kind ≢ A) × (m.kind ≢ B)
     pub due : t ≤ m.due
     pub from : p.planned m.from ≡ true → m.due < p.c m.from + p.D
     pub heartbeat : m.kind ≡ H → Tied p s m.to m.from
@@ -118,7 +117,6 @@ module _ (p : Params) where
           go (inr (inr g)) = g
 
       record All (m : InFlight) : Type 0 where
-        kind : (m.kind ≢ A) × (m.kind ≢ B)
         due : t ≤ m.due
         from : p.planned m.from ≡ true → m.due < p.c m.from + p.D
         heartbeat : m.kind ≡ H → Tied p s' m.to m.from
@@ -131,7 +129,6 @@ module _ (p : Params) where
       -- a message of before, or a new one
       msg : (m : InFlight) → (m ∈ s.flight) ⊎ NewMessage s s' t m → All m
       msg m (inr n) = record {
-        kind = n.kind;
         due = n.due;
         from = n.from;
         heartbeat = λ k. reached-mono m.to m.from (n.heartbeat k);
@@ -142,7 +139,6 @@ module _ (p : Params) where
         carried = λ q k c. late k (n.carried q k c);
       }
       msg m (inl o) = record {
-        kind = i.m-kind m o;
         due = f.message≥ m o;
         from = i.m-from m o;
         heartbeat = λ k. reached-mono m.to m.from (i.m-H m o k);
@@ -170,7 +166,6 @@ module _ (p : Params) where
         m-H = λ m h. (all m h).heartbeat;
         m-O = λ m h. (all m h).observer;
         m-self = λ m h. (all m h).self;
-        m-kind = λ m h. (all m h).kind;
         m-N = λ m h. (all m h).N;
         observer = observer;
         undone = λ k a pl. rw f.last' (f.crash≥ k (f.alive k a) pl);

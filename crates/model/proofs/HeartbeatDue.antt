@@ -35,7 +35,6 @@ module _ (p : Params) (s s' : View) (i : Inv p s) where
       emitter = inl refl;
       observer = inl refl;
       new = λ g h. rw (Memᴰ.eq_of_singleton h) (record {
-        kind = (λ q. omega (arith, e.kind), λ q. omega (arith, e.kind));
         due = omega (arith, e.after);
         from = λ pl. let pl' : p.planned x ≡ true = rw (sym e.by) pl in omega (arith, e.within, e.least.crash≥ x e.live pl', ap p.c e.by);
         self = λ q. (i.timers x e.live).to e.on (sym e.to ∙ sym q ∙ e.by);

@@ -4,7 +4,7 @@ use mathlib.Core.Logic.{◌⊎◌, ◌≢◌}
 use mathlib.Core.List.{List}
 use mathlib.Core.Bool.{true, false}
 use Prim.Native.Nat.{ℕ, ◌+◌, ◌≤◌, ◌<◌}
-use Rattle.node.specs.Node.{H, O, R, A, B}
+use Rattle.node.specs.Node.{H, O, R}
 use Rattle.model.specs.Platform.{InFlight}
 use Rattle.model.proofs.Events.{Seen, View, Live, Dead, Lists, Marks, Carries, ◌∈◌, Params}
 
@@ -59,8 +59,6 @@ module _ (p : Params) where
     pub m-O : (m : InFlight) → m ∈ s.flight → m.kind ≡ O → Tied s m.from m.to
     -- no message is from its receiver
     pub m-self : (m : InFlight) → m ∈ s.flight → m.from ≢ m.to
-    -- no message names a node that returned
-    pub m-kind : (m : InFlight) → m ∈ s.flight → (m.kind ≢ A) × (m.kind ≢ B)
     -- reports go from nodes of the ring to nodes of the ring
     pub m-N : (m : InFlight) → m ∈ s.flight → m.kind ≡ R → (m.from < p.N) × (m.to < p.N)
     -- a node's observer observes it, or lists it

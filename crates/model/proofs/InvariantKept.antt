@@ -61,7 +61,6 @@ module _ (p : Params) where
       m-H = λ m h. absurd (none m h);
       m-O = λ m h. absurd (none m h);
       m-self = λ m h. absurd (none m h);
-      m-kind = λ m h. absurd (none m h);
       m-N = λ m h. absurd (none m h);
       observer = λ a. inl (o.mutual-r a);
       undone = λ k l pl. omega (arith, o.last);

@@ -94,5 +94,5 @@ pub mod Lines
 pub mod Moved
 -- ---- worked instances
 
--- the starred logs, a state that settles, and a run with a short time-out in which nodes return
+-- the starred logs, and a state that settles
 pub mod Worked

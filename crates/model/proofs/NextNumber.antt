@@ -12,13 +12,11 @@ use lib.ListN.{length, get_or, set}
 use Rattle.limits.specs.Limits.{most_nodes, most_in_flight, most_next}
 use Rattle.ring.specs.Ring.{listing, place, targets}
 use Rattle.node.specs.declared.Node.{Node}
-use Rattle.node.specs.declared.Incoming.{Incoming}
 use Rattle.node.specs.declared.Message.{Message}
-use Rattle.node.specs.Node.{Turn, alone, B, R, naming, on_message, on_watch_due, on_heartbeat_due, left_list, cleared}
-use Rattle.node.proofs.Moves.{Returned, rejoins, regains, clears, Heard, comes_back, renews, unheard, Named, names-itself, names-other}
-use Rattle.node.proofs.Moves.{ToldBack, passes, unlisted, Reported, known, own, leaves, relays}
-use Rattle.node.proofs.Moves.{Messaged, beats, observes, tells, names, tells-back, means-nothing, messaged, beaten, Left, stops, moves, left as left_by}
-use Rattle.node.proofs.Sends.{naming-few}
+use Rattle.node.specs.Node.{Turn, alone, reports, on_message, on_watch_due, on_heartbeat_due, left_list}
+use Rattle.node.proofs.Moves.{Heard, renews, unheard, Reported, known, own, leaves, relays, Messaged, beats, observes, tells, messaged, beaten}
+use Rattle.node.proofs.Moves.{Left, stops, moves, left as left_by}
+use Rattle.node.proofs.Sends.{reports-few}
 use Rattle.plans.specs.Plan.{Plan, order_of}
 use Rattle.model.specs.Platform.{InFlight, State, Event, crash, message, watch, heartbeat, alive, delay_of, start, numbered, node_of, taken, no_message}
 use Rattle.model.specs.Platform.{message_at, without, received, apply, Outcome, did, ended, refused, try, left, steps, event_count, after}
@@ -36,9 +34,9 @@ due_at : ℕ → List InFlight → ℕ
 due_at t [] = 0
 due_at t (m ∷ ms) = one (eqb m.due t) + due_at t ms
 
--- what the timers of a node, and of all nodes, that are due at t pay: eight for a watch and two for a heartbeat
+-- how many timers of a node, and of all nodes, are due at t
 ring_at : ℕ → Node → ℕ
-ring_at t n = 8 * one (eqb n.watch (suc t)) + 2 * one (eqb n.heartbeat (suc t))
+ring_at t n = one (eqb n.watch (suc t)) + one (eqb n.heartbeat (suc t))
 
 timers_at : ℕ → List Node → ℕ
 timers_at t [] = 0
@@ -54,7 +52,7 @@ unfolding due_at
 due-le t [] = omega arith
 due-le t (m ∷ ms) = omega (arith, due-le t ms, one-le (eqb m.due t))
 
-timers-le : (t : ℕ) (ns : List Node) → timers_at t ns ≤ 10 * length ns
+timers-le : (t : ℕ) (ns : List Node) → timers_at t ns ≤ 2 * length ns
 unfolding timers_at ring_at
 timers-le t [] = omega arith
 timers-le t (n ∷ ns) = omega (arith, timers-le t ns, one-le (eqb n.watch (suc t)), one-le (eqb n.heartbeat (suc t)))
@@ -88,12 +86,12 @@ timers-set t (suc x) (m ∷ ns) n z h = omega (arith, timers-set t x ns n z (ome
 -- ---- what a turn costs
 
 module _ (p : Plan) (pl : Plain p) (t x : ℕ) (n : Node) where
-  -- what it sends, and what the timers of its node that are then due at t pay
+  -- what it sends, and eight for each timer of its node that is then due at t
   abbrev cost : Turn → ℕ
-  cost u = length u.sends + ring_at t u.node
+  cost u = length u.sends + 8 * ring_at t u.node
 
-  few : (kind k d : ℕ) → length (naming kind k (targets (order_of p) d (place (order_of p) x))) ≤ 6
-  few kind k d = naming-few (order_of p) (rw pl.order.size pl.n≤) kind k d (place (order_of p) x)
+  few : (k d : ℕ) → length (reports k (targets (order_of p) d (place (order_of p) x))) ≤ 6
+  few k d = reports-few (order_of p) (rw pl.order.size pl.n≤) k d (place (order_of p) x)
 
   not-now : (a : ℕ) → 1 ≤ a → eqb (suc (t + a)) (suc t) ≡ false
   not-now a h = ne_eqb (suc (t + a)) (suc t) (λ e. omega arith)
@@ -102,76 +100,54 @@ module _ (p : Plan) (pl : Plain p) (t x : ℕ) (n : Node) where
   off-not-now = ne_eqb 0 (suc t) (λ e. omega arith)
 
   -- a timer that was due pays for it, and one for the event
-  beat-cost : n.heartbeat ≡ suc t → cost (on_heartbeat_due p.h t n) < ring_at t n
+  beat-cost : n.heartbeat ≡ suc t → cost (on_heartbeat_due p.h t n) < 8 * ring_at t n
   unfolding ring_at one
   beat-cost e = rw (beaten p.h t n, not-now p.h pl.h≥, eq-eqb n.heartbeat (suc t) e) (omega arith)
 
   -- a node that leaves its emitter sends seven at most, and its watch is not due now
-  left-cost : (u : Turn) → Left (order_of p) p.w t x n u → cost u ≤ 2 * one (eqb n.heartbeat (suc t)) + 7
+  left-cost : (u : Turn) → Left (order_of p) p.w t x n u → cost u ≤ 8 * one (eqb n.heartbeat (suc t)) + 7
   unfolding ring_at one
   left-cost u (stops z) = rw off-not-now (omega arith)
-  left-cost u (moves z) = rw (not-now (2 * p.w) (double p.w pl.w≥)) (omega (arith, few R n.emitter (left_list n)))
+  left-cost u (moves z) = rw (not-now (2 * p.w) (double p.w pl.w≥)) (omega (arith, few n.emitter (left_list n)))
     where
       double : (w : ℕ) → 1 ≤ w → 1 ≤ 2 * w
       double w h = omega arith
 
-  watch-cost : n.watch ≡ suc t → cost (on_watch_due (order_of p) p.w t x n) < ring_at t n
+  watch-cost : n.watch ≡ suc t → cost (on_watch_due (order_of p) p.w t x n) < 8 * ring_at t n
   unfolding ring_at one
   watch-cost e = rw (eq-eqb n.watch (suc t) e) (omega (arith, left-cost _ (left_by (order_of p) p.w t x n)))
 
-  -- a node that another returns to: A and six B at most, or, where it was alone, six B and a heartbeat due now
-  returned-cost : (k : ℕ) (u : Turn) → Returned (order_of p) p.w t x k n u → cost u ≤ ring_at t n + 8
+  heartbeat-cost : (from list : ℕ) (u : Turn) → Heard p.w t x from list n u → cost u ≤ 8 * ring_at t n
   unfolding ring_at one
-  returned-cost k u (rejoins e) = rw (not-now p.w pl.w≥) (omega (arith, few B k (cleared n k).list, one-le (eqb (suc t) (suc t))))
-  returned-cost k u (regains e b) = rw (not-now p.w pl.w≥) (omega (arith, few B k (cleared n k).list))
-  returned-cost k u (clears e b) = omega (arith, few B k (cleared n k).list)
-
-  heartbeat-cost : (from list : ℕ) (u : Turn) → Heard (order_of p) p.w t x from list n u → cost u ≤ ring_at t n + 8
-  unfolding ring_at one
-  heartbeat-cost from list u (comes_back e v r) = returned-cost from v r
   heartbeat-cost from list u (renews e) = rw (not-now p.w pl.w≥) (omega arith)
   heartbeat-cost from list u (unheard e) = omega arith
 
-  -- a new observer is named: a heartbeat is due now
-  named-cost : (subject : ℕ) (u : Turn) → Named t x subject n u → cost u ≤ ring_at t n + 2
-  unfolding ring_at
-  named-cost subject u (names-itself e) = omega arith
-  named-cost subject u (names-other e) = omega (arith, one-le (eqb (suc t) (suc t)))
-
-  back-cost : (subject : ℕ) (u : Turn) → ToldBack (order_of p) x subject n u → cost u ≤ ring_at t n + 6
-  unfolding ring_at
-  back-cost subject u (passes e) = omega (arith, few B subject (cleared n subject).list)
-  back-cost subject u (unlisted e) = omega arith
-
-  report-cost : (subject : ℕ) (u : Turn) → Reported (order_of p) p.w t x subject n u → cost u ≤ ring_at t n + 7
+  report-cost : (subject : ℕ) (u : Turn) → Reported (order_of p) p.w t x subject n u → cost u ≤ 8 * ring_at t n + 7
   unfolding ring_at
   report-cost subject u (known e) = omega arith
   report-cost subject u (own e) = omega arith
   report-cost subject u (leaves e f g v l) = omega (arith, left-cost v l)
-  report-cost subject u (relays e f g) = omega (arith, few R subject (listing n.list subject))
+  report-cost subject u (relays e f g) = omega (arith, few subject (listing n.list subject))
 
-  -- and so does a message, with the heartbeat that it may make due
-  message-cost : (m : Incoming) → cost (on_message (order_of p) p.w t x m n) < ring_at t n + 9
+  -- and so does a message, the heartbeat that an O makes due included
+  message-cost : (kind from subject list : ℕ) → cost (on_message (order_of p) p.w t x kind from subject list n) < 8 * ring_at t n + 9
   unfolding ring_at
-  message-cost m = go _ (messaged (order_of p) p.w t x m n)
+  message-cost kind from subject list = go _ (messaged (order_of p) p.w t x kind from subject list n)
     where
-      go : (u : Turn) → Messaged (order_of p) p.w t x m n u → cost u < ring_at t n + 9
-      go u (beats e v h) = omega (arith, heartbeat-cost m.from m.list v h)
+      go : (u : Turn) → Messaged (order_of p) p.w t x kind from subject list n u → cost u < 8 * ring_at t n + 9
+      go u (beats e v h) = omega (arith, heartbeat-cost from list v h)
       go u (observes e) = omega (arith, one-le (eqb (suc t) (suc t)))
-      go u (tells e v h) = omega (arith, report-cost m.subject v h)
-      go u (names e v h) = omega (arith, named-cost m.subject v h)
-      go u (tells-back e v h) = omega (arith, back-cost m.subject v h)
-      go u (means-nothing odd) = omega arith
+      go u (tells e f v r) = omega (arith, report-cost subject v r)
 
 -- ---- the count
 
--- the next number, nine for each message and what the timers pay that are due at t
+-- the next number, nine for each message and eight for each timer due at t
 weight : State → ℕ → ℕ
-weight s t = s.next + 9 * due_at t s.flight + timers_at t s.nodes
+weight s t = s.next + 9 * due_at t s.flight + 8 * timers_at t s.nodes
 
--- what a tick may add: nine for each of 2,048 messages and ten for the two timers of each of 64 nodes
+-- what a tick may add: nine for each of 2,048 messages and eight for each of the two timers of 64 nodes
 abbrev pub per_tick : ℕ
-per_tick = 9 * most_in_flight + 10 * most_nodes
+per_tick = 9 * most_in_flight + 8 * (2 * most_nodes)
 
 -- e events lead from s to s': all but the crashes among them are paid by the weight and the ticks that pass
 record Paid (s : State) (e : ℕ) (s' : State) : Type 0 where
@@ -209,7 +185,7 @@ module _ (p : Plan) (pl : Plain p) where
     module _ (t : ℕ) (later : s.last ≤ t) where
       -- a turn that c messages and the timers of its node pay
       taken-paid : (x : ℕ) (rest : List InFlight) (u : Turn) (c : ℕ) → x < p.n → due_at t rest + c ≡ due_at t s.flight
-          → length u.sends + ring_at t u.node < ring_at t (node_of s x) + 9 * c → Paid s 1 (taken p s t x rest u)
+          → length u.sends + 8 * ring_at t u.node < 8 * ring_at t (node_of s x) + 9 * c → Paid s 1 (taken p s t x rest u)
       unfolding weight taken
       taken-paid x rest u c x_n e h =
           let out : List InFlight = numbered p t x s.next u.sends in
@@ -235,13 +211,13 @@ module _ (p : Plan) (pl : Plain p) where
           taken-paid x s.flight (on_heartbeat_due p.h t (node_of s x)) 0 (in-n p pl s r x ch.0) (omega arith)
           (omega (arith, beat-cost p pl t x (node_of s x) ch.2))
       event-paid (message i) ch =
-          go (alive p s.done (message_at s i).to) _ _ (message-cost p pl t _ (node_of s (message_at s i).to) _) (omega arith)
+          go (alive p s.done (message_at s i).to) _ _ (message-cost p pl t _ (node_of s (message_at s i).to) _ _ _ _) (omega arith)
         where
           below : (message_at s i).to < p.n
           below = (r.flying (message_at s i) (at_mem s.flight i ch.0)).to
 
-          go : (c : Bool) (u v : Turn) → length u.sends + ring_at t u.node < ring_at t (node_of s (message_at s i).to) + 9
-              → length v.sends + ring_at t v.node < ring_at t (node_of s (message_at s i).to) + 9
+          go : (c : Bool) (u v : Turn) → length u.sends + 8 * ring_at t u.node < 8 * ring_at t (node_of s (message_at s i).to) + 9
+              → length v.sends + 8 * ring_at t v.node < 8 * ring_at t (node_of s (message_at s i).to) + 9
               → Paid s 1 (taken p s t (message_at s i).to (without i s.flight) (cond c u v))
           go true u v a b = taken-paid _ (without i s.flight) u 1 below (due-without t i s.flight ch.0 ch.1) a
           go false u v a b = taken-paid _ (without i s.flight) v 1 below (due-without t i s.flight ch.0 ch.1) b

@@ -11,7 +11,7 @@ use Rattle.node.proofs.Sends.{Sendable}
 use Rattle.plans.specs.Plan.{Plan, order_of}
 use Rattle.plans.specs.Plain.{Plain}
 use Rattle.model.specs.Platform.{InFlight, State, Event, crash, message, watch, heartbeat, alive, start, numbered, node_of, taken, message_at, without}
-use Rattle.model.specs.Platform.{arriving, received, apply, Outcome, try, left, steps, after}
+use Rattle.model.specs.Platform.{received, apply, Outcome, try, left, steps, after}
 use Rattle.model.specs.Range.{FlightRange, Sound}
 use Rattle.model.proofs.NextEvent.{Chosen}
 use Rattle.model.proofs.RangesKept.{numbered-in, without_in, at_mem, in-n, received-took, watch-taken, beat-taken}
@@ -46,11 +46,13 @@ module _ (p : Plan) (pl : Plain p) where
           f = r.flying m (at_mem s.flight i ch.0)
 
           turn : Bool → Turn
-          turn c = cond c (on_message (order_of p) p.w t m.to (arriving m) (node_of s m.to)) (silent (node_of s m.to))
+          turn c = cond c (on_message (order_of p) p.w t m.to m.kind m.from m.subject m.list (node_of s m.to)) (silent (node_of s m.to))
 
           go : (c : Bool) → alive p s.done m.to ≡ c → OfOthers (taken p s t m.to (without i s.flight) (turn c))
           go true e =
-              let k = received-took p pl s r t a b m.to f.to e m f refl in
+              let k =
+              received-took p pl s r t a b m.to f.to e m.kind m.from m.subject m.list f.kind f.from f.apart f.subject
+              f.list.below in
               taken-others m.to (without i s.flight) (turn true) (without_in s.flight i) k.sends
           go false e = taken-others m.to (without i s.flight) (turn false) (without_in s.flight i) (λ v h. absurd (Memᴰ.not-nil h))
 

@@ -5,7 +5,7 @@ use mathlib.Core.Bool.{Bool, true, false, cond, true≢false}
 use mathlib.Core.List.Memᴰ
 use mathlib.Core.List.{List, [], ◌∷◌, ◌++◌, map, Memᴰ}
 use mathlib.Core.Option.{Option, none, some}
-use Prim.Native.Nat.{ℕ, zero, suc, ◌+◌, ◌≤◌, ◌<◌}
+use Prim.Native.Nat.{ℕ, zero, suc, ◌+◌, ◌^◌, ◌≤◌, ◌<◌}
 use native.Mathlib.Nat.{add-zero, zero-add}
 use native.Mathlib.Omega.{arith}
 use native.Mathlib.Decide.{ℕ_discrete, dec_lt}
@@ -19,14 +19,14 @@ use Rattle.ring.proofs.Rows.{length-numbers}
 use Rattle.node.specs.declared.Node.{Node}
 use Rattle.node.specs.declared.Message.{Message}
 use Rattle.node.specs.Node.{Turn, silent, alone, opening, on_message, on_watch_due, on_heartbeat_due, ringed}
-use Rattle.node.specs.Range.{NodeRange, LiveRange, NotOverdue}
+use Rattle.node.specs.Range.{NodeRange, LiveRange, NotOverdue, Known}
 use Rattle.node.proofs.Moves.{Opened, joins, starts-alone, opened}
 use Rattle.node.proofs.Sends.{Sendable}
 use Rattle.node.proofs.Ranges.{Took, later-range, opening-range, message-took, beat-took, watch-took}
 use Rattle.plans.specs.Plan.{Delay, Plan, order_of}
 use Rattle.model.specs.Platform.{InFlight, State, Event, Entry, crash, message, watch, heartbeat, alive, delay_in, delay_of, start, next_event, numbered}
-use Rattle.model.specs.Platform.{node_of, taken, no_message, message_at, without, arriving, received, apply, fits, Outcome, did, ended, refused, tried}
-use Rattle.model.specs.Platform.{try, left, steps, after}
+use Rattle.model.specs.Platform.{node_of, taken, no_message, message_at, without, received, apply, fits, Outcome, did, ended, refused, tried, try, left}
+use Rattle.model.specs.Platform.{steps, after}
 use Rattle.plans.specs.Plain.{row_at, Plain}
 use Rattle.model.specs.Range.{FlightRange, Rises, NotBefore, Sound}
 use Rattle.ring.proofs.Lists.{listed-none}
@@ -262,10 +262,11 @@ module _ (p : Plan) (pl : Plain p) (s : State) (r : Sound p s) where
       abbrev pub Takes : Turn → Type 0
       Takes u = Took p.n p.h p.w s.last t x (node_of s x) u
 
-      pub received-took : (m : InFlight) → FlightRange p s.last m → m.to ≡ x → Takes (on_message (order_of p) p.w t x (arriving m) (node_of s x))
-      received-took m f to =
-          message-took p.n (order_of p) io x x_n pl.n≤ p.h p.w s.last t (node_of s x) (r.fields x x_n) (r.live x a) (arriving m)
-          f.kind f.from (λ q. f.apart (q ∙ sym to)) (λ q. f.subject) f.list.below
+      pub received-took : (kind from subject list : ℕ) → Known kind → from < p.n → from ≢ x → subject < p.n → list < 2 ^ p.n
+          → Takes (on_message (order_of p) p.w t x kind from subject list (node_of s x))
+      received-took kind from subject list k f_n ne s_n l_n =
+          message-took p.n (order_of p) io x x_n pl.n≤ p.h p.w s.last t (node_of s x) (r.fields x x_n) (r.live x a) kind from subject list
+          k f_n ne (λ q. s_n) l_n
 
       pub watch-taken : (node_of s x).watch ≡ suc t → Takes (on_watch_due (order_of p) p.w t x (node_of s x))
       watch-taken e =
@@ -289,7 +290,7 @@ module _ (p : Plan) (pl : Plain p) (s : State) (r : Sound p s) where
       turned u = taken p s t m.to (without i s.flight) u
 
       abbrev turn : Bool → Turn
-      turn b = cond b (on_message (order_of p) p.w t m.to (arriving m) (node_of s m.to)) (silent (node_of s m.to))
+      turn b = cond b (on_message (order_of p) p.w t m.to m.kind m.from m.subject m.list (node_of s m.to)) (silent (node_of s m.to))
 
       f : FlightRange p s.last m
       f = r.flying m (at_mem s.flight i less)
@@ -307,7 +308,7 @@ module _ (p : Plan) (pl : Plain p) (s : State) (r : Sound p s) where
         where
           go : (b : Bool) → alive p s.done m.to ≡ b → length (turned (turn b)).flight ≤ most_in_flight → Sound p (turned (turn b))
           go true e few =
-              let k = received-took m.to f.to e m f refl in
+              let k = received-took m.to f.to e m.kind m.from m.subject m.list f.kind f.from f.apart f.subject f.list.below in
               turn-range (turn true) (k.fields now≤) (λ a. in-time m.to f.to a (suc t) t nb (turn true) k) k.sends few
           go false e few =
               turn-range (turn false) (now-fields m.to f.to) (λ a. absurd (true≢false (sym a ∙ e))) (λ v h. absurd (Memᴰ.not-nil h)) few

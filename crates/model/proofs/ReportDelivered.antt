@@ -35,7 +35,6 @@ module _ (p : Params) (s s' : View) (i : Inv p s) where
       emitter = inl refl;
       observer = inl refl;
       new = λ g h. record {
-        kind = (λ q. omega (arith, e.rs.kinds g h), λ q. omega (arith, e.rs.kinds g h));
         due = omega (arith, (e.rs.each g h).after);
         from = λ pl. let pl' : p.planned m.to ≡ true =
             rw (sym (e.rs.each g h).by) pl in

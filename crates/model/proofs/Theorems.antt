@@ -1,20 +1,16 @@
--- THE THEOREMS: what demand 3 and requests 106, 107 and 110 claim, and the ranges, of every state that a file leads to, for any ring order. All but
+-- THE THEOREMS: what demand 3 and requests 106 and 107 claim, and the ranges, of every state that a file leads to, for any ring order. All but
 -- who has crashed and the ranges are of runs that end in E. Each statement stands in specs/Claims.antt. Assumes nothing.
-use mathlib.Core.Path.{refl}
 use Prim.Native.Nat.{ℕ}
 use Rattle.ring.proofs.Counts.{jumps-covers, jumps-le}
 use Rattle.plans.specs.Plan.{Plan}
 use Rattle.model.specs.Platform.{first_events, after}
 use Rattle.plans.specs.Plain.{Plain}
 use Rattle.model.specs.Range.{EndsInE}
-use Rattle.model.specs.Claims.{CrashedAre, Safe, LogRoundedUp, K, Settles, NoneLeftBy, Joins, Completes, SeesNeither, NeverOutOfRange}
-use Rattle.model.proofs.EveryEvent.{not-true}
-use Rattle.model.proofs.OneState.{gone-silent}
+use Rattle.model.specs.Claims.{CrashedAre, Safe, LogRoundedUp, K, Settles, NoneLeftBy, Joins, Completes, NeverOutOfRange}
 use Rattle.model.proofs.NextEvent.{by_parts}
 use Rattle.model.proofs.RangesKept.{steps-range, after-range}
 use Rattle.model.proofs.NextNumber.{next_small}
 use Rattle.model.proofs.Crashed.{crashed-are}
-use Rattle.model.proofs.Viewed.{P, view}
 use Rattle.model.proofs.Reached.{after-inv, settled, joined, completed}
 use Rattle.model.proofs.SettledNode.{joined_at, settled_at}
 
@@ -55,14 +51,6 @@ completing p ac e =
       complete = λ i d nl j j_n l. (settled_at p ac (after p e) j j_n l (after-range p ac.plain e)
           (completed p ac e i d (by_parts p ac.plain (after p e) _ nl) j j_n l)).list;
     }
-
--- after any number of events no A and no B is in flight, and no heartbeat of a node that its receiver lists
-pub neither : (p : Plan) → EndsInE p → (e : ℕ) → SeesNeither (after p e)
-neither p ac e = record {
-  unnamed = λ m h. (after-inv p ac e).base.m-kind m h;
-  unlisted = λ m h k. not-true _ (λ l. gone-silent (P p ac) (view p (after p e)) (after-inv p ac e).base m.from
-      ((after-inv p ac e).base.listed m.to m.from l) m h refl);
-}
 
 -- whatever W, every state that a file leads to is in range, and events keep every range but the cap from any state
 pub ranges : (p : Plan) → Plain p → NeverOutOfRange p

@@ -17,7 +17,7 @@ use Rattle.node.specs.declared.Node.{Node}
 use Rattle.node.specs.declared.Message.{Message}
 use Rattle.node.specs.Node.{R, Turn, reports, message, learnt}
 use Rattle.node.proofs.Learning.{learnt-only, learnt-takes}
-use Rattle.node.proofs.Sends.{naming-of, naming-to, target-apart}
+use Rattle.node.proofs.Sends.{report-of, report-to, target-apart}
 use Rattle.plans.specs.Plan.{Crash, Plan, hits, order_of}
 use Rattle.model.specs.Platform.{InFlight, State, alive, numbered, node_of, taken}
 use Rattle.plans.specs.Plain.{no_crash, Plain}
@@ -188,7 +188,7 @@ module _ (p : Plan) (ac : EndsInE p) (s : State) (r : Sound p s) where
     telling : (m : InFlight) → Memᴰ m out → Telling m
     telling m h =
         let g = numbered-in p t x (reports k to) nr m h in
-        let q = naming-of R k to g.u g.has in
+        let q = report-of k to g.u g.has in
         record {
           given = g;
           target = rw (g.to ∙ ap (λ (v : Message). v.to) (sym q.2)) q.1;
@@ -217,7 +217,7 @@ module _ (p : Plan) (ac : EndsInE p) (s : State) (r : Sound p s) where
       each = λ m h. sent m (telling m h);
       kinds = λ m h. (telling m h).kind;
       subject = λ m h. (telling m h).subject;
-      complete = λ b h. numbered-has p t x (reports k to) nr (message R _ k) (naming-to R k to _ (jump-target b h));
+      complete = λ b h. numbered-has p t x (reports k to) nr (message R _ k) (report-to k to _ (jump-target b h));
     }
 
   -- a list with what a heartbeat to x carries

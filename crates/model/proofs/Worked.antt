@@ -1,7 +1,6 @@
 -- A file with a crash, in number order and shuffled, whose settled state is computed and meets every hypothesis of `settling`; one with three
 -- crashes at one tick, likewise for `joining`; one whose report dies with its relays, likewise for `completing`; one in which a node leaves its
--- emitter by report; one with W one below H + D, in which listed nodes return, and of which none of these claims holds; and the S of document 01's edge.
--- Assumes nothing.
+-- emitter by report; one with W one below H + D, of which none of these claims holds; and the S of document 01's edge. Assumes nothing.
 use mathlib.Core.Path.{◌≡◌, refl, sym, ap, subst, ◌∙◌}
 use mathlib.Core.Bool.{true, true≢false}
 use mathlib.Core.List.{List, [], ◌∷◌, map}
@@ -10,13 +9,10 @@ use Prim.Native.Nat.{ℕ, suc, ◌+◌, ◌≤◌, ◌<◌}
 use native.Mathlib.Omega.{arith}
 use lib.ListN.{get_or}
 use Rattle.ring.specs.Ring.{keep, numbers, among, each_once, listed, listing, unlisting, merging, unlisted, passing, round, place, ahead}
-use Rattle.ring.specs.Ring.{first_unlisted, back, next, count, powers, jumps, targets, listing_all, comes_before, between}
+use Rattle.ring.specs.Ring.{first_unlisted, back, next, count, powers, jumps, targets, listing_all}
 use Rattle.node.specs.declared.Node.{Node}
-use Rattle.node.specs.Node.{due, R, A, B, alone, naming, opening, learnt, on_heartbeat, on_observer, on_report, on_heartbeat_due, on_message}
-use Rattle.node.specs.Node.{leaving, returning}
-use Rattle.node.specs.Node.{on_named, on_return}
-use Rattle.node.specs.Range.{naming_test}
-use Rattle.logline.specs.Line.{letter_a, letter_b, letter_h, letter_k, letter_r}
+use Rattle.node.specs.Node.{due, R, reports, opening, learnt, on_heartbeat, on_observer, on_report, on_heartbeat_due, on_message, leaving}
+use Rattle.logline.specs.Line.{letter_r, letter_k}
 use Rattle.model.specs.Platform.{alive, survivors, start, crash_entries, message_entries, timer_entry, timer_entries, pending, earlier, first, up_to}
 use Rattle.model.specs.Platform.{InFlight, State, message, message_at, next_survivor, survivor_before, crashed_list}
 use Rattle.model.specs.Platform.{next_event, delay_in, delay_of, numbered, node_of, taken, without, received, apply, fits, tried, try, left, steps, after}
@@ -26,7 +22,7 @@ use Rattle.plans.specs.Plan.{delay_order, few_delays, every, crash_test, delay_t
 use Rattle.plans.specs.Plain.{Plain}
 use Rattle.plans.proofs.Facts.{plan-plain}
 use Rattle.model.specs.Range.{EndsInE, NotBefore}
-use Rattle.model.specs.Lines.{line, other_of, message_deed, deed_of, searched, deed_lines, event_lines}
+use Rattle.model.specs.Lines.{line, other_of, moves, message_deed, deed_of, deed_lines, event_lines}
 use Rattle.model.specs.Claims.{Safe, S, settled_by, Spaced, NoneLeftBefore, SettledAt, Settles, joined_by, NoneLeftBy, JoinedAt, Joins, complete_by}
 use Rattle.model.specs.Claims.{Completes}
 use Rattle.model.proofs.NextEvent.{Best, best}
@@ -68,7 +64,7 @@ pub record Ends (ring : List ℕ) (fields : List (List ℕ)) : Type 0 where
 pub four-ends : Ends [] ((3 ∷ 1 ∷ 4 ∷ []) ∷ (0 ∷ 3 ∷ 4 ∷ []) ∷ (1 ∷ 0 ∷ 4 ∷ []) ∷ [])
     × Ends shuffled ((1 ∷ 3 ∷ 4 ∷ []) ∷ (3 ∷ 0 ∷ 4 ∷ []) ∷ (0 ∷ 1 ∷ 4 ∷ []) ∷ [])
 unfolding four end_of keep numbers listed listing unlisting merging unlisted passing round place ahead first_unlisted back next count powers jumps
-    targets naming opening learnt on_heartbeat on_observer on_report on_heartbeat_due leaving on_message ring_order order_of hits among alive survivors start
+    targets reports opening learnt on_heartbeat on_observer on_report on_heartbeat_due leaving on_message ring_order order_of hits among alive survivors start
     crash_entries message_entries timer_entry timer_entries pending earlier first up_to next_event delay_in delay_of numbered taken without received apply
     fits tried try left steps after S settled_by
 four-ends =
@@ -138,7 +134,7 @@ rejoined = (5 ∷ 4 ∷ []) ∷ (0 ∷ 5 ∷ []) ∷ (4 ∷ 0 ∷ []) ∷ []
 pub trip-ends : Rejoins [] 81 ((5 ∷ 1 ∷ []) ∷ (0 ∷ 5 ∷ []) ∷ (4 ∷ 0 ∷ []) ∷ []) rejoined
     × Rejoins mixed 82 ((5 ∷ 4 ∷ []) ∷ (0 ∷ 1 ∷ []) ∷ (4 ∷ 0 ∷ []) ∷ []) rejoined
 unfolding trip neighbours keep numbers listed listing unlisting merging unlisted passing round place ahead first_unlisted back next count powers jumps
-    targets naming opening learnt on_heartbeat on_observer on_report on_heartbeat_due leaving on_message ring_order order_of hits among alive start
+    targets reports opening learnt on_heartbeat on_observer on_report on_heartbeat_due leaving on_message ring_order order_of hits among alive start
     crash_entries message_entries timer_entry timer_entries pending earlier first up_to next_event delay_in delay_of numbered taken without received apply
     fits tried try left steps after joined_by
 trip-ends = (
@@ -174,7 +170,7 @@ trip-joins j h =
 
 next-is-4 : next_survivor (trip []) (after (trip []) 81).done 0 ≡ 4
 unfolding trip keep numbers listed listing unlisting merging unlisted passing round place ahead first_unlisted back next count powers jumps targets
-    naming opening learnt on_heartbeat on_observer on_report on_heartbeat_due leaving on_message ring_order order_of hits among alive next_survivor start
+    reports opening learnt on_heartbeat on_observer on_report on_heartbeat_due leaving on_message ring_order order_of hits among alive next_survivor start
     crash_entries message_entries timer_entry timer_entries pending earlier first up_to next_event delay_in delay_of numbered taken without received apply
     fits tried try left steps after
 next-is-4 = refl
@@ -215,7 +211,7 @@ pub record Brought : Type 0 where
 
 pub lost-ends : Brought
 unfolding lost two_lists keep numbers listed listing unlisting merging unlisted passing round place ahead first_unlisted back next count powers jumps
-    targets naming opening learnt on_heartbeat on_observer on_report on_heartbeat_due leaving on_message ring_order order_of hits among alive survivors start
+    targets reports opening learnt on_heartbeat on_observer on_report on_heartbeat_due leaving on_message ring_order order_of hits among alive survivors start
     crash_entries message_entries timer_entry timer_entries pending earlier first up_to next_event delay_in delay_of numbered taken without received apply
     fits tried try left steps after joined_by complete_by
 lost-ends = record { short = refl; heard = refl; tick = refl; unreported = refl; full = refl; done = refl; by = refl; end = refl }
@@ -269,91 +265,45 @@ pub record SixLeaves : Type 0 where
 
 pub six-leaves : SixLeaves
 unfolding nine six first_in keep numbers listed listing unlisting merging unlisted passing round place ahead first_unlisted back next count powers jumps
-    targets naming learnt opening on_heartbeat on_observer on_report on_heartbeat_due leaving on_message ring_order order_of hits among alive survivors start
+    targets reports learnt opening on_heartbeat on_observer on_report on_heartbeat_due leaving on_message ring_order order_of hits among alive survivors start
     crash_entries message_entries timer_entry timer_entries pending earlier first up_to next_event delay_in delay_of numbered taken without received apply
-    fits tried try left steps after naming_test other_of message_deed deed_of searched deed_lines
+    fits tried try left steps after other_of moves message_deed deed_of deed_lines
 six-leaves = record { observes-2 = refl; message-next = refl; report-of-2 = refl; observes-1 = refl; lines = refl }
 
--- ---- a file with W one below H + D: P,3,4,5,2,24 and C,6,0. At tick 5 each node lists the one before it, which is live; at the end node 1 lists
--- node 2 and is alone. Nothing due by 24 is left, and none of the claims counts from a later tick
+-- ---- a file with W one below H + D: P,3,2,2,1,9 and C,1,0. At tick 2 node 2 lists node 1, which is live; at the end each of the two survivors
+-- lists the other and is alone. Nothing due by 9 is left, and none of the claims counts from a later tick
 
 unfoldable pub short : Plan
-short = record { n = 3; h = 4; w = 5; d = 2; end = 24; ring = []; crashes = record { tick = 6; node = 0 } ∷ []; delays = [] }
-
--- kind, receiver and subject of a message in flight
-unfoldable pub flight_at : State → ℕ → List ℕ
-flight_at s i = let m : InFlight = message_at s i in m.kind ∷ m.to ∷ m.subject ∷ []
-
--- nodes that a live node lists return to it
-pub record Returns : Type 0 where
-  -- after eight events node 2 lists node 1, which is live, and observes node 0
-  pub lists-1 : node_of (after short 8) 2 ≡ record { emitter = 0; observer = 0; watch = due 15; heartbeat = due 8; list = 2; mark = 2 }
-  -- the ninth is a heartbeat of node 1, which lies between: node 2 observes it again, and has W, not 2 × W, from tick 6
-  pub observes-1 : node_of (after short 9) 2 ≡ record { emitter = 1; observer = 0; watch = due 11; heartbeat = due 8; list = 0; mark = 0 }
-  -- it names node 1 to node 0, which it leaves, and tells both others that node 1 returned
-  pub names-1 : flight_at (after short 9) 10 ≡ A ∷ 0 ∷ 1 ∷ []
-  pub tells-0 : flight_at (after short 9) 11 ≡ B ∷ 0 ∷ 1 ∷ []
-  pub tells-1 : flight_at (after short 9) 12 ≡ B ∷ 1 ∷ 1 ∷ []
-  -- "without a K line"
-  pub no_move : event_lines short (after short 8) (after short 9) (record { tick = 6; event = message 0 }) ≡ line letter_h 6 2 1 0 ∷ []
-  -- the nineteenth is an A and the twentieth a B, which clears node 0; "other being the named node"
-  pub named : event_lines short (after short 18) (after short 19) (record { tick = 8; event = message 0 }) ≡ line letter_a 8 2 0 1 ∷ []
-  pub cleared : event_lines short (after short 19) (after short 20) (record { tick = 8; event = message 0 }) ≡ line letter_b 8 2 0 0 ∷ []
-  -- node 1 becomes alone by a report of its emitter, with a line K; then a heartbeat of node 2 comes, which it lists: it observes node 2 again and
-  -- sends to it at once
-  pub moves-alone : event_lines short (after short 26) (after short 27) (record { tick = 9; event = message 0 })
-      ≡ line letter_r 9 1 0 5 ∷ line letter_k 9 1 2 5 ∷ []
-  pub alone-1 : node_of (after short 28) 1 ≡ alone 1 5 5
-  pub observes-2 : node_of (after short 29) 1 ≡ record { emitter = 2; observer = 2; watch = due 14; heartbeat = due 9; list = 1; mark = 1 }
-
-pub short-returns : Returns
-unfolding short flight_at keep numbers listed listing unlisting merging unlisted passing round place ahead first_unlisted back next count powers jumps
-    targets comes_before between naming learnt opening on_heartbeat on_observer on_report on_heartbeat_due leaving returning on_named on_return on_message
-    ring_order order_of hits among alive start crash_entries message_entries timer_entry timer_entries pending earlier first up_to next_event delay_in delay_of
-    numbered taken without received apply fits tried try left steps after naming_test other_of message_deed deed_of searched deed_lines
-short-returns = record {
-  lists-1 = refl;
-  observes-1 = refl;
-  names-1 = refl;
-  tells-0 = refl;
-  tells-1 = refl;
-  no_move = refl;
-  named = refl;
-  cleared = refl;
-  moves-alone = refl;
-  alone-1 = refl;
-  observes-2 = refl;
-}
+short = record { n = 3; h = 2; w = 2; d = 1; end = 9; ring = []; crashes = record { tick = 1; node = 0 } ∷ []; delays = [] }
 
 abbrev short_end : State
-short_end = after short 52
+short_end = after short 40
 
 pub record ShortEnds : Type 0 where
   -- a run file may hold it, and one tick more would be enough
   pub taken : plan_test short ≡ true
   pub one_less : short.w + 1 ≡ short.h + short.d
   pub done : short_end.done ≡ 1
-  -- nodes 1 and 2 are live, and 1 lists 2 and observes itself
+  -- nodes 1 and 2 are live, and 1 lists 0 and 2 and observes itself
   pub live-1 : alive short short_end.done 1 ≡ true
   pub live-2 : alive short short_end.done 2 ≡ true
-  pub list : (node_of short_end 1).list ≡ 4
+  pub list : (node_of short_end 1).list ≡ 5
   pub lists-2 : listed (node_of short_end 1).list 2 ≡ true
   pub emitter : (node_of short_end 1).emitter ≡ 1
   -- where it should list 0 alone and observe 2
   pub dead : crashed_list short short_end.done ≡ 1
   pub before : survivor_before short short_end.done 1 ≡ 2
-  pub settled : settled_by short 0 ≡ 17
-  pub joined : joined_by short 0 ≡ 18
-  pub complete : complete_by short 0 ≡ 24
+  pub settled : settled_by short 0 ≡ 6
+  pub joined : joined_by short 0 ≡ 6
+  pub complete : complete_by short 0 ≡ 9
   pub end : next_event short short_end ≡ none
 
 pub short-ends : ShortEnds
 unfolding short keep numbers listed listing unlisting merging unlisted passing round place ahead first_unlisted back next count powers jumps targets
-    comes_before between naming opening learnt on_heartbeat on_observer on_report on_heartbeat_due leaving returning on_named on_return on_message ring_order
-    order_of hits among alive survivors start crash_entries message_entries timer_entry timer_entries pending earlier first up_to next_event delay_in delay_of
-    numbered taken without received apply fits tried try left steps after S settled_by joined_by complete_by survivor_before crashed_list with_crashed
-    listing_all plan_test start_ranges within ring_test crash_test every crash_range crash_order rising rising_from none_twice each_once delay_test delay_order
-    few_delays
+    reports opening learnt on_heartbeat on_observer on_report on_heartbeat_due leaving on_message ring_order order_of hits among alive survivors start
+    crash_entries message_entries timer_entry timer_entries pending earlier first up_to next_event delay_in delay_of numbered taken without received apply
+    fits tried try left steps after S settled_by joined_by complete_by survivor_before crashed_list with_crashed listing_all
+    plan_test start_ranges within ring_test crash_test every crash_range crash_order rising rising_from none_twice each_once delay_test delay_order few_delays
 short-ends = record {
   taken = refl;
   one_less = refl;
@@ -390,8 +340,8 @@ none-holds = (
     spaced-1 : Spaced short 1
     spaced-1 i l = absurd (omega arith)
 
-    over : NotBefore short short_end 25 25 25
+    over : NotBefore short short_end 10 10 10
     over = subst (Best short pl short_end) f.end (best short pl short_end)
 
-    by : {u v : ℕ} → v ≡ u → u ≤ 25 → NoneLeftBefore short short_end v
-    by e l x m = omega (arith, none-left-before short pl short_end 25 over x m)
+    by : {u v : ℕ} → v ≡ u → u ≤ 10 → NoneLeftBefore short short_end v
+    by e l x m = omega (arith, none-left-before short pl short_end 10 over x m)

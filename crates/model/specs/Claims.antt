@@ -1,12 +1,10 @@
 -- What demand 3 claims of one state, in the words of the customer's terms and of document 01's 'The platform': which nodes have crashed,
--- that no live node is listed, that every survivor is settled; what requests 106 and 107 of document 02 claim of crashes close together, and
--- request 110 of runs that end in E; and the ranges. proofs/Theorems.antt proves it of every state that a file leads to. Assumes nothing.
-use Rattle.std.specs.Prelude.{◌≡◌, ◌≢◌, true, false, ℕ, suc, ◌+◌, ◌-◌, ◌*◌, ◌^◌, ◌≤◌, ◌<◌}
+-- that no live node is listed, that every survivor is settled; what requests 106 and 107 of document 02 claim of crashes close together;
+-- and the ranges. proofs/Theorems.antt proves it of every state that a file leads to. Assumes nothing.
+use Rattle.std.specs.Prelude.{◌≡◌, true, false, ℕ, suc, ◌+◌, ◌-◌, ◌*◌, ◌^◌, ◌≤◌, ◌<◌}
 use mathlib.Core.List.{List, Memᴰ}
 use Rattle.ring.specs.Ring.{listed, jumps}
-use Rattle.node.specs.Node.{H, A, B}
-use Rattle.model.specs.Platform.{InFlight, State, Entry, crash_entry, alive, survivors, next_survivor, survivor_before, crashed_list, node_of}
-use Rattle.model.specs.Platform.{pending, steps, after}
+use Rattle.model.specs.Platform.{State, Entry, crash_entry, alive, survivors, next_survivor, survivor_before, crashed_list, node_of, pending, steps, after}
 use Rattle.plans.specs.Plain.{row_at}
 use Rattle.model.specs.Range.{Sound, InRange}
 use Rattle.plans.specs.Plan.{Crash, Plan}
@@ -101,13 +99,6 @@ complete_by p i = joined_by p i + (survivors p (suc i) - 1) * (p.h + p.d)
 pub record Completes (p : Plan) (s : State) : Type 0 where
   pub complete : (i : ℕ) → s.done ≡ suc i → NoneLeftBy p s (complete_by p i)
       → (j : ℕ) → j < p.n → alive p s.done j ≡ true → (node_of s j).list ≡ crashed_list p s.done
-
--- ---- request 110: 'a run file that would end in E sees neither' A nor B
-
--- No A and no B is in flight, so none is ever delivered; and no heartbeat in flight is from a node that its receiver lists, so none returns.
-pub record SeesNeither (s : State) : Type 0 where
-  pub unnamed : (m : InFlight) → Memᴰ m s.flight → (m.kind ≢ A) × (m.kind ≢ B)
-  pub unlisted : (m : InFlight) → Memᴰ m s.flight → m.kind ≡ H → listed (node_of s m.to).list m.from ≡ false
 
 -- ---- nothing that the rules lead to is out of range, whatever W
 

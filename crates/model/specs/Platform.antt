@@ -6,14 +6,13 @@ use Rattle.std.proofs.Math.Option.{Option, none, some}
 use Rattle.ring.specs.Ring.{keep, numbers, round, place, none as nobody}
 use Rattle.node.specs.declared.Node.{Node}
 use Rattle.node.specs.declared.Message.{Message}
-use Rattle.node.specs.declared.Incoming.{Incoming}
-use Rattle.node.specs.Node.{Turn, incoming, silent, alone, opening, on_message, on_watch_due, on_heartbeat_due}
+use Rattle.node.specs.Node.{Turn, silent, alone, opening, on_message, on_watch_due, on_heartbeat_due}
 use Rattle.plans.specs.Plan.{Crash, Delay, Plan, hits, with_crashed, order_of}
 use Rattle.limits.specs.Limits.{most_in_flight, log_room}
 
 -- ---- the state
 
--- a message in flight: its number, its kind (the letter), sender, receiver, subject (on R, A and B), the tick at which it is due and the list that it
+-- a message in flight: its number, its kind (the letter), sender, receiver, subject (on R), the tick at which it is due and the list that it
 -- carries (on H)
 pub record InFlight : Type 0 where
   pub number : ℕ
@@ -165,14 +164,10 @@ taken p s t x rest u = record {
 unfoldable pub without : {A : Type 0} → ℕ → List A → List A
 without i l = take i l ++ drop (suc i) l
 
--- what its receiver gets of a message
-abbrev pub arriving : InFlight → Incoming
-arriving m = incoming m.kind m.from m.subject m.list
-
 -- a message is delivered; to a crashed node it is dropped
 unfoldable pub received : Plan → State → ℕ → InFlight → Turn
 received p s t m =
-    cond (alive p s.done m.to) (on_message (order_of p) p.w t m.to (arriving m) (node_of s m.to))
+    cond (alive p s.done m.to) (on_message (order_of p) p.w t m.to m.kind m.from m.subject m.list (node_of s m.to))
     (silent (node_of s m.to))
 
 unfoldable pub apply : Plan → State → ℕ → Event → State

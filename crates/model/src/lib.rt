@@ -1,8 +1,8 @@
 // The platform as definitions, and demand 3 proved of them. Of code there is only what an event did, as a struct.
 #![tactic(auto)]
 
-// What an event did: its letter, its tick, its node, the other node, the node's list after it; and how many listed nodes the node's search for a new
-// emitter passed, 0 where it made none.
+// What an event did: its letter, its tick, its node, the other node, the node's list after it; and whether it moved the node's emitter, and how many
+// listed nodes the search for the new one passed.
 #[derive(Clone, Copy)]
 pub struct Deed {
     pub letter: u8,
@@ -10,5 +10,6 @@ pub struct Deed {
     pub node: u8,
     pub other: u8,
     pub list: u64,
+    pub moved: bool,
     pub passed: u8,
 }

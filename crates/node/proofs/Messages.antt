@@ -1,4 +1,4 @@
--- Messages in their seven places, and among them those of one kind that name a node. Assumes nothing.
+-- Messages in their seven places, and the reports among them. Assumes nothing.
 use mathlib.Core.Path.{◌≡◌, refl, sym, ap, ◌∙◌}
 use mathlib.Core.List.{List, ◌++◌}
 use Prim.Native.Nat.{ℕ, suc, ◌+◌, ◌-◌, ◌≤◌, ◌<◌}
@@ -11,34 +11,34 @@ use Rattle.ring.proofs.Counts.{length-targets, jumps-count-le, take_row}
 use Rattle.node.specs.declared.Message.{Message}
 use Rattle.node.specs.declared.Node.{Node}
 use Rattle.node.specs.declared.Turned.{Turned}
-use Rattle.node.specs.Node.{Turn, turn, message, naming, sending, places, turned, with_passed, relayed}
+use Rattle.node.specs.Node.{Turn, turn, R, message, reports, sending, places, turned, with_passed, relayed}
 use Rattle.limits.specs.Limits.{most_sent}
 
--- ---- a loop that puts messages of one kind and subject
+-- ---- a loop that puts reports
 
-pub length-naming : (kind subject : ℕ) (nodes : List ℕ) → length (naming kind subject nodes) ≡ length nodes
-unfolding naming
-length-naming kind subject nodes = length-map nodes _
+pub length-reports : (subject : ℕ) (nodes : List ℕ) → length (reports subject nodes) ≡ length nodes
+unfolding reports
+length-reports subject nodes = length-map nodes _
 
-module _ (kind subject : ℕ) (to : List ℕ) (from count : ℕ) where
-  -- what is still to be put once i of them stand
+module _ (subject : ℕ) (to : List ℕ) (from count : ℕ) where
+  -- what is still to be put once i of the reports stand
   unfoldable pub rest : List Message → ℕ → List Message
-  rest out i = sets out (from + i) (naming kind subject (drop i (take count to)))
+  rest out i = sets out (from + i) (reports subject (drop i (take count to)))
 
-  pub rest-start : (out : List Message) → sets out from (naming kind subject (take count to)) ≡ rest out 0
+  pub rest-start : (out : List Message) → sets out from (reports subject (take count to)) ≡ rest out 0
   unfolding rest
   rest-start out = let e : from + 0 ≡ from = omega arith in rw e
 
   pub rest-turn : (out : List Message) (i : ℕ) → i < count → count ≤ length to
-      → rest out i ≡ rest (set out (from + i) (message kind (get_or to i 0) subject)) (i + 1)
-  unfolding rest naming
+      → rest out i ≡ rest (set out (from + i) (message R (get_or to i 0) subject)) (i + 1)
+  unfolding rest reports
   rest-turn out i h l =
       let e : from + suc i ≡ suc (from + i) = omega arith in
       let n : i < length (take count to) = rw (length-take-le count to l) h in
       rw (add-one, e, drop-cons (take count to) i 0 n, get_or-take count to i 0 h)
 
   pub rest_end : (out : List Message) (i : ℕ) → count ≤ i → count ≤ length to → rest out i ≡ out
-  unfolding rest naming
+  unfolding rest reports
   rest_end out i h l =
       let n : length (take count to) ≤ i = rw (length-take-le count to l) h in
       rw (drop_of_length-le (take count to) {i = i} n)
@@ -65,34 +65,33 @@ places-more ms ns h =
     (ap (λ (l : List Message). (ms ++ ns) ++ l)
     (drop_at (replicate (length ns) none) (replicate (7 - (length ms + length ns)) none) (length ns) (length-replicate (length ns) none)))
 
--- a node that sends one message at most, with those to its forward targets after it
-pub relayed-turned : (order : List ℕ) (me kind subject : ℕ) (n : Node) (ms : List Message) (k : ℕ) → length ms ≤ 1 → length order ≤ 64
-    → relayed order me kind subject (turned (turn n ms k))
-    ≡ turned (turn n (ms ++ naming kind subject (targets order n.list (place order me))) k)
+-- a node that sends one message at most, with reports after it
+pub relayed-turned : (order : List ℕ) (me subject : ℕ) (n : Node) (ms : List Message) (k : ℕ) → length ms ≤ 1 → length order ≤ 64
+    → relayed order me subject (turned (turn n ms k)) ≡ turned (turn n (ms ++ reports subject (targets order n.list (place order me))) k)
 unfolding relayed turned
-relayed-turned order me kind subject n ms k h l =
+relayed-turned order me subject n ms k h l =
     let to : List ℕ = targets order n.list (place order me) in
-    let rs : List Message = naming kind subject to in
+    let rs : List Message = reports subject to in
     let e : length rs ≤ 6 =
-    rw (length-naming kind subject to, length-targets order n.list (place order me)) (jumps-count-le (length order) n.list l) in
+    rw (length-reports subject to, length-targets order n.list (place order me)) (jumps-count-le (length order) n.list l) in
     rw (places-more ms rs (omega arith), length-append ms rs)
 
--- how many there are
+-- how many reports there are
 pub jumps-few : (order : List ℕ) (d m k : ℕ) → length order ≤ 64 → m ≡ count (length order) d → k ≡ jumps m → k ≤ 6
 jumps-few order d m k l mq kq = rw (kq, mq) (jumps-count-le (length order) d l)
 
--- what a node sends, with those that the code puts after it
-pub relayed-put : (order : List ℕ) (me kind subject : ℕ) (t : Turned) (p m k : ℕ) (to : List ℕ) (sent : List Message)
+-- what a node sends, with the reports that the code puts after it
+pub relayed-put : (order : List ℕ) (me subject : ℕ) (t : Turned) (p m k : ℕ) (to : List ℕ) (sent : List Message)
     → p ≡ place order me → to ≡ row (targets order t.node.list p) → m ≡ count (length order) t.node.list → k ≡ jumps m
-    → sent ≡ sets t.sent t.count (naming kind subject (take k to))
-    → relayed order me kind subject t ≡ record { node = t.node; sent = sent; count = t.count + k; passed = t.passed }
+    → sent ≡ sets t.sent t.count (reports subject (take k to))
+    → relayed order me subject t ≡ record { node = t.node; sent = sent; count = t.count + k; passed = t.passed }
 unfolding relayed
-relayed-put order me kind subject t p m k to sent pq tq mq kq sq =
+relayed-put order me subject t p m k to sent pq tq mq kq sq =
     let d : ℕ = t.node.list in
     let e : take k to ≡ targets order d (place order me) =
     rw (tq, pq, kq, mq) (take_row order d (place order me) _ refl) in
-    let l : length (naming kind subject (targets order d (place order me))) ≡ k =
-    length-naming kind subject (targets order d (place order me)) ∙ length-targets order d (place order me) ∙ sym (kq ∙ ap jumps mq) in
+    let l : length (reports subject (targets order d (place order me))) ≡ k =
+    length-reports subject (targets order d (place order me)) ∙ length-targets order d (place order me) ∙ sym (kq ∙ ap jumps mq) in
     rw (l, sq, e)
 
 pub turned-count : (t : Turned) (u : Turn) → t ≡ turned u → t.count ≡ length u.sends

@@ -8,15 +8,13 @@ use Prim.Native.Nat.{ℕ, ◌+◌, ◌≤◌, ◌<◌}
 use borrow.Author.Tests.{eqb-true, eqb-false, ltb-true, ltb-false}
 use lib.Dec.{eqb, ltb}
 use lib.ListN.{length}
-use Rattle.ring.specs.Ring.{listed, listing, merging, place, targets, between}
+use Rattle.ring.specs.Ring.{listed, listing, merging, place, targets}
 use Rattle.node.specs.declared.Message.{Message}
-use Rattle.node.specs.declared.Incoming.{Incoming}
 use Rattle.node.specs.declared.Node.{Node}
-use Rattle.node.specs.Node.{Turn, due, H, O, R, A, B, message, incoming, beat, reports, silent, sending, alone, with_watch, with_heartbeat, with_list}
+use Rattle.node.specs.Node.{Turn, due, H, O, R, message, beat, reports, silent, sending, alone, with_observer, with_watch, with_heartbeat, with_list}
 use Rattle.node.specs.Node.{with_mark, turn, ringed, left_list, left_mark, new_emitter, passed_over, moved, leaving}
 use Rattle.node.specs.Node.{opening, learnt, on_heartbeat, on_observer, on_report, on_heartbeat_due, on_message}
-use Rattle.node.specs.Node.{cleared, regained, observed_by, return_sends, returning, on_named, on_return}
-use Rattle.node.specs.Range.{Known, naming_test}
+use Rattle.node.specs.Range.{Known}
 
 -- ---- opening
 
@@ -33,28 +31,6 @@ module _ (order : List ℕ) (h w me : ℕ) where
       go true e = joins (ltb-true 1 (length order) e)
       go false e = starts-alone (ltb-false 1 (length order) e)
 
--- ---- a listed node that returns by its heartbeat
-
-module _ (order : List ℕ) (w tick me k : ℕ) (n : Node) where
-  -- to a node that was alone; to one between whose emitter and itself it lies; to any other
-  pub data Returned : Turn → Type 0 where
-    rejoins : n.emitter ≡ me → Returned (sending (observed_by tick (regained w tick (cleared n k) k) k) (return_sends order me n k))
-    regains : n.emitter ≢ me → between order n.emitter me k ≡ true
-        → Returned (sending (regained w tick (cleared n k) k) (message A n.emitter k ∷ return_sends order me n k))
-    clears : n.emitter ≢ me → between order n.emitter me k ≡ false → Returned (sending (cleared n k) (return_sends order me n k))
-
-  pub returned : Returned (returning order w tick me k n)
-  unfolding returning
-  returned = go (eqb n.emitter me) (between order n.emitter me k) refl refl
-    where
-      go : (b c : Bool) → eqb n.emitter me ≡ b → between order n.emitter me k ≡ c
-          → Returned (cond b (sending (observed_by tick (regained w tick (cleared n k) k) k) (return_sends order me n k))
-          (cond c (sending (regained w tick (cleared n k) k) (message A n.emitter k ∷ return_sends order me n k))
-          (sending (cleared n k) (return_sends order me n k))))
-      go true c e f = rejoins (eqb-true n.emitter me e)
-      go false true e f = regains (eqb-false n.emitter me e) f
-      go false false e f = clears (eqb-false n.emitter me e) f
-
 -- ---- message H
 
 module _ (w tick me from list : ℕ) (n : Node) where
@@ -62,61 +38,23 @@ module _ (w tick me from list : ℕ) (n : Node) where
   abbrev pub heard_list : ℕ
   heard_list = merging n.list (learnt me from list)
 
-  -- and the node
-  abbrev pub heard_node : Node
-  heard_node = with_list (with_watch n (due (tick + w))) heard_list
-
-module _ (order : List ℕ) (w tick me from list : ℕ) (n : Node) where
   pub data Heard : Turn → Type 0 where
-    comes_back : listed n.list from ≡ true → (u : Turn) → Returned order w tick me from n u → Heard u
-    renews : n.emitter ≡ from → Heard (silent (heard_node w tick me from list n))
+    renews : n.emitter ≡ from → Heard (silent (with_list (with_watch n (due (tick + w))) heard_list))
     unheard : n.emitter ≢ from → Heard (silent n)
 
-  pub heard : Heard (on_heartbeat order w tick me from list n)
+  pub heard : Heard (on_heartbeat w tick me from list n)
   unfolding on_heartbeat
-  heard = go (listed n.list from) (eqb n.emitter from) refl refl
+  heard = go (eqb n.emitter from) refl
     where
-      go : (b c : Bool) → listed n.list from ≡ b → eqb n.emitter from ≡ c
-          → Heard (cond b (returning order w tick me from n) (silent (cond c (heard_node w tick me from list n) n)))
-      go true c e f = comes_back e (returning order w tick me from n) (returned order w tick me from n)
-      go false true e f = renews (eqb-true n.emitter from f)
-      go false false e f = unheard (eqb-false n.emitter from f)
+      go : (b : Bool) → eqb n.emitter from ≡ b → Heard (silent (cond b (with_list (with_watch n (due (tick + w))) heard_list) n))
+      go true e = renews (eqb-true n.emitter from e)
+      go false e = unheard (eqb-false n.emitter from e)
 
 -- ---- message O
 
-pub observed : (tick from : ℕ) (n : Node) → on_observer tick from n ≡ silent (observed_by tick n from)
+pub observed : (tick from : ℕ) (n : Node) → on_observer tick from n ≡ silent (with_heartbeat (with_observer n from) (due tick))
 unfolding on_observer
 observed tick from n = refl
-
--- ---- message A
-
-module _ (tick me subject : ℕ) (n : Node) where
-  pub data Named : Turn → Type 0 where
-    names-itself : subject ≡ me → Named (silent n)
-    names-other : subject ≢ me → Named (silent (observed_by tick n subject))
-
-  pub named : Named (on_named tick me subject n)
-  unfolding on_named
-  named = go (eqb subject me) refl
-    where
-      go : (b : Bool) → eqb subject me ≡ b → Named (silent (cond b n (observed_by tick n subject)))
-      go true e = names-itself (eqb-true subject me e)
-      go false e = names-other (eqb-false subject me e)
-
--- ---- message B
-
-module _ (order : List ℕ) (me subject : ℕ) (n : Node) where
-  pub data ToldBack : Turn → Type 0 where
-    passes : listed n.list subject ≡ true → ToldBack (sending (cleared n subject) (return_sends order me n subject))
-    unlisted : listed n.list subject ≡ false → ToldBack (silent n)
-
-  pub told_back : ToldBack (on_return order me subject n)
-  unfolding on_return
-  told_back = go (listed n.list subject) refl
-    where
-      go : (b : Bool) → listed n.list subject ≡ b → ToldBack (cond b (sending (cleared n subject) (return_sends order me n subject)) (silent n))
-      go true e = passes e
-      go false e = unlisted e
 
 -- ---- leaving the emitter
 
@@ -170,63 +108,42 @@ module _ (order : List ℕ) (w tick me subject : ℕ) (n : Node) where
 
 -- ---- a message of a kind
 
-module _ (order : List ℕ) (w tick me : ℕ) (m : Incoming) (n : Node) where
-  pub data Messaged : Turn → Type 0 where
-    beats : m.kind ≡ H → (u : Turn) → Heard order w tick me m.from m.list n u → Messaged u
-    observes : m.kind ≡ O → Messaged (silent (observed_by tick n m.from))
-    tells : m.kind ≡ R → (u : Turn) → Reported order w tick me m.subject n u → Messaged u
-    names : m.kind ≡ A → (u : Turn) → Named tick me m.subject n u → Messaged u
-    tells-back : m.kind ≡ B → (u : Turn) → ToldBack order me m.subject n u → Messaged u
-    means-nothing : (Known m.kind → ⊥) → Messaged (silent n)
-
-  pub messaged : Messaged (on_message order w tick me m n)
-  unfolding on_message on_observer
-  messaged = go (eqb m.kind H) (eqb m.kind O) (eqb m.kind R) (eqb m.kind A) (eqb m.kind B) refl refl refl refl refl
-    where
-      no-rule : m.kind ≢ H → m.kind ≢ O → m.kind ≢ R → m.kind ≢ A → m.kind ≢ B → Known m.kind → ⊥
-      no-rule h o r a b (inl e) = h e
-      no-rule h o r a b (inr (inl e)) = o e
-      no-rule h o r a b (inr (inr (inl e))) = r e
-      no-rule h o r a b (inr (inr (inr (inl e)))) = a e
-      no-rule h o r a b (inr (inr (inr (inr e)))) = b e
-
-      go : (h o r a b : Bool) → eqb m.kind H ≡ h → eqb m.kind O ≡ o → eqb m.kind R ≡ r → eqb m.kind A ≡ a → eqb m.kind B ≡ b
-          → Messaged (cond h (on_heartbeat order w tick me m.from m.list n)
-          (cond o (on_observer tick m.from n)
-          (cond r (on_report order w tick me m.subject n)
-          (cond a (on_named tick me m.subject n)
-          (cond b (on_return order me m.subject n) (silent n))))))
-      go true o r a b eh eo er ea eb = beats (eqb-true m.kind H eh) _ (heard order w tick me m.from m.list n)
-      go false true r a b eh eo er ea eb = observes (eqb-true m.kind O eo)
-      go false false true a b eh eo er ea eb = tells (eqb-true m.kind R er) _ (reported order w tick me m.subject n)
-      go false false false true b eh eo er ea eb = names (eqb-true m.kind A ea) _ (named tick me m.subject n)
-      go false false false false true eh eo er ea eb = tells-back (eqb-true m.kind B eb) _ (told_back order me m.subject n)
-      go false false false false false eh eo er ea eb =
-          means-nothing (no-rule (eqb-false m.kind H eh) (eqb-false m.kind O eo) (eqb-false m.kind R er) (eqb-false m.kind A ea)
-          (eqb-false m.kind B eb))
-
 module _ (order : List ℕ) (w tick me kind from subject list : ℕ) (n : Node) where
-  -- only the subjects of R, A and B count
-  pub subject-counts : Known kind
-      → on_message order w tick me (incoming kind from (cond (naming_test kind) subject 0) list) n
-      ≡ on_message order w tick me (incoming kind from subject list) n
-  unfolding on_message naming_test
-  subject-counts (inl e) = rw e
-  subject-counts (inr (inl e)) = rw e
-  subject-counts (inr (inr (inl e))) = rw e
-  subject-counts (inr (inr (inr (inl e)))) = rw e
-  subject-counts (inr (inr (inr (inr e)))) = rw e
+  pub data Messaged : Turn → Type 0 where
+    beats : kind ≡ H → (u : Turn) → Heard w tick me from list n u → Messaged u
+    observes : kind ≡ O → Messaged (silent (with_heartbeat (with_observer n from) (due tick)))
+    tells : kind ≢ H → kind ≢ O → (u : Turn) → Reported order w tick me subject n u → Messaged u
 
-  -- only a heartbeat's list counts
-  pub list_counts : Known kind
-      → on_message order w tick me (incoming kind from subject (cond (eqb kind H) list 0)) n
-      ≡ on_message order w tick me (incoming kind from subject list) n
-  unfolding on_message
-  list_counts (inl e) = rw e
-  list_counts (inr (inl e)) = rw e
-  list_counts (inr (inr (inl e))) = rw e
-  list_counts (inr (inr (inr (inl e)))) = rw e
-  list_counts (inr (inr (inr (inr e)))) = rw e
+  pub messaged : Messaged (on_message order w tick me kind from subject list n)
+  unfolding on_message on_observer
+  messaged = go (eqb kind H) (eqb kind O) refl refl
+    where
+      go : (a b : Bool) → eqb kind H ≡ a → eqb kind O ≡ b
+          → Messaged (cond a (on_heartbeat w tick me from list n) (cond b (on_observer tick from n) (on_report order w tick me subject n)))
+      go true b e f = beats (eqb-true kind H e) (on_heartbeat w tick me from list n) (heard w tick me from list n)
+      go false true e f = observes (eqb-true kind O f)
+      go false false e f = tells (eqb-false kind H e) (eqb-false kind O f) _ (reported order w tick me subject n)
+
+pub other-is-report : (kind : ℕ) → Known kind → kind ≢ H → kind ≢ O → kind ≡ R
+other-is-report kind (inl e) h o = absurd (h e)
+other-is-report kind (inr (inl e)) h o = absurd (o e)
+other-is-report kind (inr (inr e)) h o = e
+
+-- only a report's subject counts
+pub subject-counts : (order : List ℕ) (w tick me kind from subject list : ℕ) (n : Node) → Known kind
+    → on_message order w tick me kind from (cond (eqb kind R) subject 0) list n ≡ on_message order w tick me kind from subject list n
+unfolding on_message
+subject-counts order w tick me kind from subject list n (inl e) = rw e
+subject-counts order w tick me kind from subject list n (inr (inl e)) = rw e
+subject-counts order w tick me kind from subject list n (inr (inr e)) = rw e
+
+-- only a heartbeat's list counts
+pub list_counts : (order : List ℕ) (w tick me kind from subject list : ℕ) (n : Node) → Known kind
+    → on_message order w tick me kind from subject (cond (eqb kind H) list 0) n ≡ on_message order w tick me kind from subject list n
+unfolding on_message
+list_counts order w tick me kind from subject list n (inl e) = rw e
+list_counts order w tick me kind from subject list n (inr (inl e)) = rw e
+list_counts order w tick me kind from subject list n (inr (inr e)) = rw e
 
 -- ---- timers
 

@@ -10,24 +10,22 @@ use borrow.Author.Tests.{eqb-false}
 use lib.ListN.{length}
 use lib.Pow.{pow_pos}
 use Rattle.limits.specs.Limits.{most_nodes, most_sent}
-use Rattle.ring.specs.Ring.{listed, unlisting, part_of, place, targets, InOrder}
+use Rattle.ring.specs.Ring.{listed, part_of, place, targets, InOrder}
 use Rattle.ring.proofs.Lists.{listing-lt, listing-lists, listing-other, listed-none, merging-lt, merging-keeps, merging-neither}
-use Rattle.ring.proofs.Lists.{unlisting-lt, unlisting-drops, unlisting-less, part_none, part-more, part-listing, part-unlisting}
+use Rattle.ring.proofs.Lists.{part_none, part-more, part-listing}
 use Rattle.ring.proofs.Gaps.{gap}
 use Rattle.ring.proofs.GoingBack.{Found}
 use Rattle.ring.proofs.Neighbours.{open-back-below, open-back-other, open-next-below, open-next-other, count-some, found_back}
 use Rattle.ring.proofs.Passed.{from-below}
 use Rattle.node.specs.declared.Message.{Message}
-use Rattle.node.specs.declared.Incoming.{Incoming}
 use Rattle.node.specs.declared.Node.{Node}
-use Rattle.node.specs.Node.{Turn, off, H, O, R, A, B, message, reports, silent, sending, cleared, left_list, left_mark, new_emitter, passed_over}
-use Rattle.node.specs.Node.{opening, on_heartbeat, on_observer, on_named, on_return, on_report, on_heartbeat_due, on_watch_due, on_message, return_sends}
-use Rattle.node.specs.Range.{NodeRange, LiveRange, NotOverdue, Known, Naming}
-use Rattle.node.proofs.Moves.{Opened, joins, starts-alone, opened, Returned, rejoins, regains, clears, heard_list, Heard, comes_back, renews}
-use Rattle.node.proofs.Moves.{unheard, heard, observed, Named, names-itself, names-other, named, ToldBack, passes, unlisted, told_back}
+use Rattle.node.specs.Node.{Turn, off, H, O, R, message, reports, silent, left_list, left_mark, new_emitter, passed_over}
+use Rattle.node.specs.Node.{opening, on_heartbeat, on_observer, on_report, on_heartbeat_due, on_watch_due, on_message}
+use Rattle.node.specs.Range.{NodeRange, LiveRange, NotOverdue, Known}
+use Rattle.node.proofs.Moves.{Opened, joins, starts-alone, opened, heard_list, Heard, renews, unheard, heard, observed}
 use Rattle.node.proofs.Moves.{Left, stops, moves, left, Reported, known, own, leaves, relays, reported, beaten}
 use Rattle.node.proofs.Learning.{learnt-lt, learnt-not-sender, learnt-not-me}
-use Rattle.node.proofs.Sends.{Sendable, carries-none, naming-sendable, returned-few, naming-few, left-few, told-few}
+use Rattle.node.proofs.Sends.{Sendable, carries-none, reports-sendable, left-few, told-few}
 
 -- fields in range stay so at a later tick
 pub later-range : (n h w t u : ℕ) (a : Node) → t ≤ u → NodeRange n h w t a → NodeRange n h w u a
@@ -105,96 +103,13 @@ module _ (n : ℕ) (order : List ℕ) (io : InOrder n order) (me : ℕ) (below :
           passed = omega arith;
         }
 
-    -- node k is cleared
-    module _ (k : ℕ) (k_n : k < n) where
-      cleared-unlisted : listed (unlisting a.list k) me ≡ false
-      cleared-unlisted = unlisting-less a.list k me l.lists
-
-      cleared-within : unlisting a.list k < 2 ^ n
-      cleared-within = unlisting-lt n a.list k f.list
-
-      cleared-mark : part_of (unlisting a.mark k) (unlisting a.list k) ≡ true
-      cleared-mark = part-unlisting n a.mark a.list k f.list f.mark
-
-      told-sendable : (v : Message) → Memᴰ v (return_sends order me a k) → Sendable n me v
-      told-sendable = naming-sendable n order io me below _ cleared-unlisted B k (inr (inr (inr (inr refl)))) k_n (λ q. absurd (eqb-false B R refl q))
-
-      -- its emitter, observer and timers stay
-      cleared-took : Took n h w last t me a (sending (cleared a k) (return_sends order me a k))
-      cleared-took = record {
-        fields = λ late. record {
-          emitter = f.emitter;
-          observer = f.observer;
-          list = cleared-within;
-          unlisted = unlisting-less a.list k a.emitter f.unlisted;
-          mark = cleared-mark;
-          watch = omega (arith, f.watch, late);
-          heartbeat = omega (arith, f.heartbeat, late);
-        };
-        live = record { lists = cleared-unlisted; observes = l.observes; sends = l.sends };
-        timers = λ o. record { watch = o.watch; heartbeat = o.heartbeat };
-        sends = told-sendable;
-        few = omega (arith, naming-few order order-few B k (cleared a k).list (place order me));
-        passed = omega arith;
-      }
-
-      -- the node that returns is another one
-      module _ (ne : k ≢ me) where
-        named-sent : (v : Message) → a.emitter ≢ me → (v ≡ message A a.emitter k) ⊎ Memᴰ v (return_sends order me a k) → Sendable n me v
-        named-sent v other (inl e) =
-            rw e (record {
-              kind = inr (inr (inr (inl refl)));
-              to = f.emitter;
-              apart = other;
-              subject = k_n;
-              about = λ q. absurd (eqb-false A R refl q);
-              list = carries-none n A;
-            })
-        named-sent v other (inr m) = told-sendable v m
-
-        returned-took : (u : Turn) → Returned order w t me k a u → Took n h w last t me a u
-        returned-took u (rejoins e) = record {
-          fields = λ late. record {
-            emitter = k_n;
-            observer = k_n;
-            list = cleared-within;
-            unlisted = unlisting-drops a.list k;
-            mark = cleared-mark;
-            watch = omega arith;
-            heartbeat = omega arith;
-          };
-          live = record { lists = cleared-unlisted; observes = λ on. ne; sends = λ on. ne };
-          timers = λ o. record { watch = λ on. omega arith; heartbeat = λ on. omega arith };
-          sends = told-sendable;
-          few = returned-few order order-few w t me k a _ (rejoins e);
-          passed = omega arith;
-        }
-        returned-took u (regains other b) = record {
-          fields = λ late. record {
-            emitter = k_n;
-            observer = f.observer;
-            list = cleared-within;
-            unlisted = unlisting-drops a.list k;
-            mark = cleared-mark;
-            watch = omega arith;
-            heartbeat = omega (arith, f.heartbeat, late);
-          };
-          live = record { lists = cleared-unlisted; observes = λ on. ne; sends = l.sends };
-          timers = λ o. record { watch = λ on. omega arith; heartbeat = o.heartbeat };
-          sends = λ v m. named-sent v other (Memᴰ.cases_cons m);
-          few = returned-few order order-few w t me k a _ (regains other b);
-          passed = omega arith;
-        }
-        returned-took u (clears other b) = cleared-took
-
-    pub heartbeat-took : (from list : ℕ) → from < n → from ≢ me → list < 2 ^ n → Took n h w last t me a (on_heartbeat order w t me from list a)
-    heartbeat-took from list f_n ne l_n = go (on_heartbeat order w t me from list a) (heard order w t me from list a)
+    pub heartbeat-took : (from list : ℕ) → from ≢ me → list < 2 ^ n → Took n h w last t me a (on_heartbeat w t me from list a)
+    heartbeat-took from list ne l_n = go (on_heartbeat w t me from list a) (heard w t me from list a)
       where
         within : heard_list w t me from list a < 2 ^ n
         within = merging-lt n a.list _ f.list (learnt-lt me from list n l_n)
 
-        go : (u : Turn) → Heard order w t me from list a u → Took n h w last t me a u
-        go u (comes_back e v r) = returned-took from f_n ne v r
+        go : (u : Turn) → Heard w t me from list a u → Took n h w last t me a u
         go u (unheard e) = silent-took
         go u (renews e) = record {
           fields = λ late.
@@ -236,20 +151,6 @@ module _ (n : ℕ) (order : List ℕ) (io : InOrder n order) (me : ℕ) (below :
       passed = omega arith;
     })
 
-    pub named-took : (subject : ℕ) → subject < n → Took n h w last t me a (on_named t me subject a)
-    named-took subject s_n = go (on_named t me subject a) (named t me subject a)
-      where
-        go : (u : Turn) → Named t me subject a u → Took n h w last t me a u
-        go u (names-itself e) = silent-took
-        go u (names-other ne) = rw (observed t subject a) at (observer-took subject s_n ne)
-
-    pub return-took : (subject : ℕ) → subject < n → Took n h w last t me a (on_return order me subject a)
-    return-took subject s_n = go (on_return order me subject a) (told_back order me subject a)
-      where
-        go : (u : Turn) → ToldBack order me subject a u → Took n h w last t me a u
-        go u (passes e) = cleared-took subject s_n
-        go u (unlisted e) = silent-took
-
     -- leaving an emitter that is another node
     module _ (ne : a.emitter ≢ me) where
       left-unlisted : listed (left_list a) me ≡ false
@@ -280,8 +181,7 @@ module _ (n : ℕ) (order : List ℕ) (io : InOrder n order) (me : ℕ) (below :
             list = carries-none n O;
           })
       sent v other (inr m) =
-          naming-sendable n order io me below (left_list a) left-unlisted R a.emitter (inr (inr (inl refl))) f.emitter
-          (λ q. listing-lists a.list a.emitter) v m
+          reports-sendable n order io me below (left_list a) left-unlisted a.emitter f.emitter (listing-lists a.list a.emitter) v m
 
       left-took : (u : Turn) → Left order w t me a u → Took n h w last t me a u
       left-took u (stops e) = record {
@@ -344,19 +244,17 @@ module _ (n : ℕ) (order : List ℕ) (io : InOrder n order) (me : ℕ) (below :
               };
               live = record { lists = un; observes = l.observes; sends = l.sends };
               timers = λ o. record { watch = o.watch; heartbeat = o.heartbeat };
-              sends = naming-sendable n order io me below _ un R subject (inr (inr (inl refl))) s_n (λ q. listing-lists a.list subject);
+              sends = reports-sendable n order io me below _ un subject s_n (listing-lists a.list subject);
               few = told-few order order-few w t me subject a _ (relays e ne other);
               passed = omega arith;
             }
 
-    pub message-took : (m : Incoming) → Known m.kind → m.from < n → m.from ≢ me → (Naming m.kind → m.subject < n) → m.list < 2 ^ n
-        → Took n h w last t me a (on_message order w t me m a)
+    pub message-took : (kind from subject list : ℕ) → Known kind → from < n → from ≢ me → (kind ≡ R → subject < n) → list < 2 ^ n
+        → Took n h w last t me a (on_message order w t me kind from subject list a)
     unfolding on_message
-    message-took m (inl e) f_n ne s_n l_n = rw e (heartbeat-took m.from m.list f_n ne l_n)
-    message-took m (inr (inl e)) f_n ne s_n l_n = rw e (observer-took m.from f_n ne)
-    message-took m (inr (inr (inl e))) f_n ne s_n l_n = rw e (report-took m.subject (s_n (inl e)))
-    message-took m (inr (inr (inr (inl e)))) f_n ne s_n l_n = rw e (named-took m.subject (s_n (inr (inl e))))
-    message-took m (inr (inr (inr (inr e)))) f_n ne s_n l_n = rw e (return-took m.subject (s_n (inr (inr e))))
+    message-took kind from subject list (inl e) f_n ne s_n l_n = rw e (heartbeat-took from list ne l_n)
+    message-took kind from subject list (inr (inl e)) f_n ne s_n l_n = rw e (observer-took from f_n ne)
+    message-took kind from subject list (inr (inr e)) f_n ne s_n l_n = rw e (report-took subject (s_n e))
 
     pub beat-took : a.heartbeat ≢ off → Took n h w last t me a (on_heartbeat_due h t a)
     beat-took on = rw (beaten h t a) (record {

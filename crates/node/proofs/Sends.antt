@@ -1,6 +1,6 @@
 -- What a rule sends: kinds, receivers, subjects, and that there are at most seven. Assumes nothing.
 use mathlib.Core.Path.{◌≡◌, refl, sym, ap, ◌∙◌}
-use mathlib.Core.Logic.{◌≢◌}
+use mathlib.Core.Logic.{inr, ◌≢◌}
 use mathlib.Core.Bool.{true, false, true≢false}
 use mathlib.Core.List.Memᴰ
 use mathlib.Core.List.{List, Memᴰ}
@@ -13,14 +13,12 @@ use Rattle.ring.specs.Ring.{row_size, listed, listing, place, targets, InOrder}
 use Rattle.ring.proofs.Counts.{targets-few}
 use Rattle.ring.proofs.Targets.{target_below, target-other, target-unlisted}
 use Rattle.node.specs.declared.Message.{Message}
-use Rattle.node.specs.declared.Incoming.{Incoming}
 use Rattle.node.specs.declared.Node.{Node}
-use Rattle.node.specs.Node.{Turn, R, B, message, naming, left_list, cleared, on_message}
+use Rattle.node.specs.Node.{Turn, R, message, reports, left_list, on_message}
 use Rattle.node.specs.Range.{Known, Carried}
-use Rattle.node.proofs.Messages.{length-naming}
-use Rattle.node.proofs.Moves.{Returned, rejoins, regains, clears, Heard, comes_back, renews, unheard, Named, names-itself, names-other}
-use Rattle.node.proofs.Moves.{ToldBack, passes, unlisted, Left, stops, moves, Reported, known, own, leaves, relays}
-use Rattle.node.proofs.Moves.{Messaged, beats, observes, tells, names, tells-back, means-nothing, messaged}
+use Rattle.node.proofs.Messages.{length-reports}
+use Rattle.node.proofs.Moves.{Heard, renews, unheard, Left, stops, moves, Reported, known, own, leaves, relays}
+use Rattle.node.proofs.Moves.{Messaged, beats, observes, tells, messaged}
 
 -- a message that node me of n may send: to another node, and of a subject that is a node; on R, not the receiver; only an H carries a list
 pub record Sendable (n me : ℕ) (v : Message) : Type 0 where
@@ -35,16 +33,16 @@ pub record Sendable (n me : ℕ) (v : Message) : Type 0 where
 pub carries-none : (n kind : ℕ) → Carried n kind 0
 carries-none n kind = record { below = pow_pos n; empty = λ q. refl }
 
--- ---- messages of one kind and subject
+-- ---- reports
 
-module _ (kind subject : ℕ) (nodes : List ℕ) where
-  pub naming-of : (v : Message) → Memᴰ v (naming kind subject nodes) → (y : ℕ) × Memᴰ y nodes × (message kind y subject ≡ v)
-  unfolding naming
-  naming-of v m = Memᴰ.of_map (λ y. message kind y subject) nodes m
+module _ (subject : ℕ) (nodes : List ℕ) where
+  pub report-of : (v : Message) → Memᴰ v (reports subject nodes) → (y : ℕ) × Memᴰ y nodes × (message R y subject ≡ v)
+  unfolding reports
+  report-of v m = Memᴰ.of_map (λ y. message R y subject) nodes m
 
-  pub naming-to : (y : ℕ) → Memᴰ y nodes → Memᴰ (message kind y subject) (naming kind subject nodes)
-  unfolding naming
-  naming-to y m = Memᴰ.map (λ y. message kind y subject) m
+  pub report-to : (y : ℕ) → Memᴰ y nodes → Memᴰ (message R y subject) (reports subject nodes)
+  unfolding reports
+  report-to y m = Memᴰ.map (λ y. message R y subject) m
 
 -- the forward targets of node me, by a list d that does not have it
 module _ (n : ℕ) (order : List ℕ) (io : InOrder n order) (me : ℕ) (below : me < n) (d : ℕ) (un : listed d me ≡ false) where
@@ -53,62 +51,45 @@ module _ (n : ℕ) (order : List ℕ) (io : InOrder n order) (me : ℕ) (below :
       target-other n d order io (place order me) y m (io.placed me below) (ap (listed d) (io.has me below) ∙ un)
       (e ∙ sym (io.has me below))
 
-  -- messages of a kind and a subject, which on R is one that the list has
-  pub naming-sendable : (kind subject : ℕ) → Known kind → subject < n → (kind ≡ R → listed d subject ≡ true)
-      → (v : Message) → Memᴰ v (naming kind subject (targets order d (place order me))) → Sendable n me v
-  naming-sendable kind subject k s_n on v m =
-      let r = naming-of kind subject (targets order d (place order me)) v m in
+  -- reports of a subject that the list has
+  pub reports-sendable : (subject : ℕ) → subject < n → listed d subject ≡ true
+      → (v : Message) → Memᴰ v (reports subject (targets order d (place order me))) → Sendable n me v
+  reports-sendable subject s_n on v m =
+      let r = report-of subject (targets order d (place order me)) v m in
       let open-y : listed d r.0 ≡ false = target-unlisted n d order io (place order me) r.0 r.1 in
       rw (← r.2) (record {
-        kind = k;
+        kind = inr (inr refl);
         to = target_below n d order io (place order me) r.0 r.1;
         apart = target-apart r.0 r.1;
         subject = s_n;
-        about = λ q e. true≢false (sym (on q) ∙ ap (listed d) e ∙ open-y);
-        list = carries-none n kind;
+        about = λ q e. true≢false (sym on ∙ ap (listed d) e ∙ open-y);
+        list = carries-none n R;
       })
 
 -- ---- how many
 
 module _ (order : List ℕ) (few : length order ≤ most_nodes) where
-  pub naming-few : (kind subject d p : ℕ) → length (naming kind subject (targets order d p)) ≤ row_size
-  naming-few kind subject d p = rw (length-naming kind subject (targets order d p)) (targets-few order d p few)
-
-  pub returned-few : (w tick me k : ℕ) (n : Node) (u : Turn) → Returned order w tick me k n u → length u.sends ≤ most_sent
-  returned-few w tick me k n u (rejoins e) = omega (arith, naming-few B k (cleared n k).list (place order me))
-  returned-few w tick me k n u (regains e b) = omega (arith, naming-few B k (cleared n k).list (place order me))
-  returned-few w tick me k n u (clears e b) = omega (arith, naming-few B k (cleared n k).list (place order me))
+  pub reports-few : (subject d p : ℕ) → length (reports subject (targets order d p)) ≤ row_size
+  reports-few subject d p = rw (length-reports subject (targets order d p)) (targets-few order d p few)
 
   pub left-few : (w tick me : ℕ) (n : Node) (u : Turn) → Left order w tick me n u → length u.sends ≤ most_sent
   left-few w tick me n u (stops e) = omega arith
-  left-few w tick me n u (moves e) = omega (arith, naming-few R n.emitter (left_list n) (place order me))
+  left-few w tick me n u (moves e) = omega (arith, reports-few n.emitter (left_list n) (place order me))
 
   pub told-few : (w tick me subject : ℕ) (n : Node) (u : Turn) → Reported order w tick me subject n u → length u.sends ≤ most_sent
   told-few w tick me subject n u (known e) = omega arith
   told-few w tick me subject n u (own e) = omega arith
   told-few w tick me subject n u (leaves e f g v l) = left-few w tick me n v l
-  told-few w tick me subject n u (relays e f g) = omega (arith, naming-few R subject (listing n.list subject) (place order me))
+  told-few w tick me subject n u (relays e f g) = omega (arith, reports-few subject (listing n.list subject) (place order me))
 
-  pub message-few : (w tick me : ℕ) (m : Incoming) (n : Node) → length (on_message order w tick me m n).sends ≤ most_sent
-  message-few w tick me m n = go _ (messaged order w tick me m n)
+  pub message-few : (w tick me kind from subject list : ℕ) (n : Node) → length (on_message order w tick me kind from subject list n).sends ≤ most_sent
+  message-few w tick me kind from subject list n = go _ (messaged order w tick me kind from subject list n)
     where
-      heard-few : (u : Turn) → Heard order w tick me m.from m.list n u → length u.sends ≤ most_sent
-      heard-few u (comes_back e v r) = returned-few w tick me m.from n v r
-      heard-few u (renews e) = omega arith
-      heard-few u (unheard e) = omega arith
+      silent-few : (u : Turn) → Heard w tick me from list n u → length u.sends ≤ most_sent
+      silent-few u (renews e) = omega arith
+      silent-few u (unheard e) = omega arith
 
-      named-few : (u : Turn) → Named tick me m.subject n u → length u.sends ≤ most_sent
-      named-few u (names-itself e) = omega arith
-      named-few u (names-other e) = omega arith
-
-      back-few : (u : Turn) → ToldBack order me m.subject n u → length u.sends ≤ most_sent
-      back-few u (passes e) = omega (arith, naming-few B m.subject (cleared n m.subject).list (place order me))
-      back-few u (unlisted e) = omega arith
-
-      go : (u : Turn) → Messaged order w tick me m n u → length u.sends ≤ most_sent
-      go u (beats e v h) = heard-few v h
+      go : (u : Turn) → Messaged order w tick me kind from subject list n u → length u.sends ≤ most_sent
+      go u (beats e v h) = silent-few v h
       go u (observes e) = omega arith
-      go u (tells e v h) = told-few w tick me m.subject n v h
-      go u (names e v h) = named-few v h
-      go u (tells-back e v h) = back-few v h
-      go u (means-nothing e) = omega arith
+      go u (tells e f v r) = told-few w tick me subject n v r

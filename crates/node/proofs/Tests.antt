@@ -10,9 +10,9 @@ use lib.Dec.{eqb, leb, ltb}
 use lib.Pow.{pow_pos}
 use Rattle.ring.specs.Ring.{listed, part_of}
 use Rattle.node.specs.declared.Node.{Node}
-use Rattle.node.specs.Node.{H, O, R, A, B}
+use Rattle.node.specs.Node.{H, O, R}
 use Rattle.node.specs.Range.{NodeRange, LiveRange, NotOverdue, Known, node_test, apart, live_test, not_overdue, timers_test, kind_test}
-use Rattle.node.specs.Range.{Naming, Carried, naming_test, carried_test}
+use Rattle.node.specs.Range.{Carried, carried_test}
 
 -- ---- a node's fields
 
@@ -162,46 +162,27 @@ module _ (t : ℕ) (a : Node) where
 -- ---- a kind
 
 module _ (k : ℕ) where
-  pub naming-facts : naming_test k ≡ true → Naming k
-  unfolding naming_test
-  naming-facts e = go (eqb k R) (eqb k A) (eqb k B) refl refl refl e
+  pub kind-facts : kind_test k ≡ true → Known k
+  unfolding kind_test
+  kind-facts e = go (eqb k H) (eqb k O) (eqb k R) refl refl refl e
     where
-      go : (a b c : Bool) → eqb k R ≡ a → eqb k A ≡ b → eqb k B ≡ c → (a || (b || c)) ≡ true → Naming k
-      go true b c x y z q = inl (eqb-true k R x)
-      go false true c x y z q = inr (inl (eqb-true k A y))
-      go false false true x y z q = inr (inr (eqb-true k B z))
+      go : (a b c : Bool) → eqb k H ≡ a → eqb k O ≡ b → eqb k R ≡ c → (a || (b || c)) ≡ true → Known k
+      go true b c x y z q = inl (eqb-true k H x)
+      go false true c x y z q = inr (inl (eqb-true k O y))
+      go false false true x y z q = inr (inr (eqb-true k R z))
       go false false false x y z q = absurd (true≢false (sym q))
 
-  pub facts-naming : Naming k → naming_test k ≡ true
-  unfolding naming_test
-  facts-naming (inl e) = rw e
-  facts-naming (inr (inl e)) = rw e
-  facts-naming (inr (inr e)) = rw e
-
-  pub kind-facts : kind_test k ≡ true → Known k
-  unfolding kind_test naming_test
-  kind-facts e = go (eqb k H) (eqb k O) refl refl e
-    where
-      go : (a b : Bool) → eqb k H ≡ a → eqb k O ≡ b → (a || (b || naming_test k)) ≡ true → Known k
-      go true b x y q = inl (eqb-true k H x)
-      go false true x y q = inr (inl (eqb-true k O y))
-      go false false x y q = inr (inr (naming-facts q))
-
   pub facts-kind : Known k → kind_test k ≡ true
-  unfolding kind_test naming_test
+  unfolding kind_test
   facts-kind (inl e) = rw e
   facts-kind (inr (inl e)) = rw e
-  facts-kind (inr (inr (inl e))) = rw e
-  facts-kind (inr (inr (inr (inl e)))) = rw e
-  facts-kind (inr (inr (inr (inr e)))) = rw e
+  facts-kind (inr (inr e)) = rw e
 
   -- it is a byte
   pub kind_fits : Known k → k < 256
   kind_fits (inl e) = omega arith
   kind_fits (inr (inl e)) = omega arith
-  kind_fits (inr (inr (inl e))) = omega arith
-  kind_fits (inr (inr (inr (inl e)))) = omega arith
-  kind_fits (inr (inr (inr (inr e)))) = omega arith
+  kind_fits (inr (inr e)) = omega arith
 
 -- ---- a list that a message carries
 

@@ -1,13 +1,12 @@
--- The rules of one node, as document 01's 'The node' states them and document 02 amends them, one definition a rule. Each gives the node after it
--- and the messages that the node sends, in order. They hold for any ring order. Assumes nothing.
+-- The rules of one node, as document 01's 'The node' states them, one definition a rule. Each gives the node after it and the
+-- messages that the node sends, in order. They hold for any ring order. Assumes nothing.
 -- A timer is `off`, or `due t` where it is due at tick t. A message's kind is its letter in the log.
 use Rattle.std.specs.Prelude.{cond, ◌||◌, List, [], ◌∷◌, ◌++◌, map, ℕ, suc, ◌+◌, ◌-◌, ◌*◌, eqb, ltb, length, replicate}
 use Rattle.std.proofs.lemmas.List.Edits.{sets}
 use Rattle.limits.specs.Limits.{most_sent}
-use Rattle.ring.specs.Ring.{listed, listing, unlisting, merging, place, back, back_from, next, between, targets}
+use Rattle.ring.specs.Ring.{listed, listing, unlisting, merging, place, back, back_from, next, targets}
 use Rattle.ring.specs.declared.NodeBefore.{NodeBefore}
 use Rattle.node.specs.declared.Message.{Message}
-use Rattle.node.specs.declared.Incoming.{Incoming}
 use Rattle.node.specs.declared.Node.{Node}
 use Rattle.node.specs.declared.Turned.{Turned}
 
@@ -25,7 +24,7 @@ off = 0
 abbrev pub due : ℕ → ℕ
 due t = suc t
 
--- the kinds of message: H (heartbeat), O (new observer), R (report), A (a new observer named), B (a node returned)
+-- the kinds of message: H (heartbeat), O (new observer), R (report)
 abbrev pub H : ℕ
 H = 72
 
@@ -35,13 +34,7 @@ O = 79
 abbrev pub R : ℕ
 R = 82
 
-abbrev pub A : ℕ
-A = 65
-
-abbrev pub B : ℕ
-B = 66
-
--- a message that carries no list: O, and R, A and B of a subject
+-- a message that carries no list: O, and R of a subject
 abbrev pub message : ℕ → ℕ → ℕ → Message
 message kind to subject = record { kind = kind; to = to; subject = subject; list = 0 }
 
@@ -49,17 +42,9 @@ message kind to subject = record { kind = kind; to = to; subject = subject; list
 abbrev pub beat : ℕ → ℕ → Message
 beat to list = record { kind = H; to = to; subject = 0; list = list }
 
--- a message of a kind and a subject to each of some nodes
-unfoldable pub naming : ℕ → ℕ → List ℕ → List Message
-naming kind subject nodes = map (λ to. message kind to subject) nodes
-
--- a message as it comes in: its kind, its sender, its subject and the list that it carries
-abbrev pub incoming : ℕ → ℕ → ℕ → ℕ → Incoming
-incoming kind from subject list = record { kind = kind; from = from; subject = subject; list = list }
-
 -- R of a subject to each of some nodes
-abbrev pub reports : ℕ → List ℕ → List Message
-reports subject nodes = naming R subject nodes
+unfoldable pub reports : ℕ → List ℕ → List Message
+reports subject nodes = map (λ to. message R to subject) nodes
 
 -- ---- a node with one field changed
 
@@ -146,41 +131,6 @@ leaving order w tick me n =
     cond (eqb emitter me) (turn (alone me list (left_mark n)) [] passed)
     (turn (moved w tick emitter n) (message O emitter 0 ∷ reports n.emitter (targets order list (place order me))) passed)
 
--- ---- a node that one of its listed nodes returns to
-
--- "clears it from the receiver's list and mark"
-abbrev pub cleared : Node → ℕ → Node
-cleared n k = with_mark (with_list n (unlisting n.list k)) (unlisting n.mark k)
-
--- "it becomes the emitter, watch due tick + W"
-abbrev pub regained : ℕ → ℕ → Node → ℕ → Node
-regained w tick n k = record {
-  emitter = k;
-  observer = n.observer;
-  watch = due (tick + w);
-  heartbeat = n.heartbeat;
-  list = n.list;
-  mark = n.mark;
-}
-
--- a new observer: "heartbeat due that tick"
-abbrev pub observed_by : ℕ → Node → ℕ → Node
-observed_by tick n k = with_heartbeat (with_observer n k) (due tick)
-
--- "B naming the returned node to its forward targets", taken with the list after the change
-abbrev pub return_sends : List ℕ → ℕ → Node → ℕ → List Message
-return_sends order me n k = naming B k (targets order (cleared n k).list (place order me))
-
--- a heartbeat of the listed node k: k is cleared; "if the sender lies between emitter and receiver, as all do where the receiver is its own
--- emitter (alone), it becomes the emitter ... and the receiver sends A naming it to the old emitter. A receiver that was alone sends no A; the
--- sender also becomes its observer. Wherever the sender lies, the receiver then sends B"
-unfoldable pub returning : List ℕ → ℕ → ℕ → ℕ → ℕ → Node → Turn
-returning order w tick me k n =
-    let told : List Message = return_sends order me n k in
-    cond (eqb n.emitter me) (sending (observed_by tick (regained w tick (cleared n k) k) k) told)
-    (cond (between order n.emitter me k) (sending (regained w tick (cleared n k) k) (message A n.emitter k ∷ told))
-    (sending (cleared n k) told))
-
 -- ---- the rules
 
 -- "opening, tick 0: emitter is the node before, observer the node after, watch due W, heartbeat due H, list empty. With N = 1 the node
@@ -192,25 +142,15 @@ opening order h w me = cond (ltb 1 (length order)) (ringed order h w me) (alone 
 unfoldable pub learnt : ℕ → ℕ → ℕ → ℕ
 learnt me from list = unlisting (unlisting list me) from
 
--- message H: from a listed sender, that node returns, and "the list it carries isn't added". From the emitter, watch due becomes this tick + W,
--- and what it carries is added to the list; "nodes learnt this way aren't relayed from there". From any other node, nothing
-unfoldable pub on_heartbeat : List ℕ → ℕ → ℕ → ℕ → ℕ → ℕ → Node → Turn
-on_heartbeat order w tick me from list n =
-    cond (listed n.list from) (returning order w tick me from n)
-    (silent (cond (eqb n.emitter from) (with_list (with_watch n (due (tick + w))) (merging n.list (learnt me from list))) n))
+-- message H: from the emitter, watch due becomes this tick + W, and what it carries is added to the list; "nodes learnt this way aren't
+-- relayed from there". From any other node, nothing
+unfoldable pub on_heartbeat : ℕ → ℕ → ℕ → ℕ → ℕ → Node → Turn
+on_heartbeat w tick me from list n =
+    silent (cond (eqb n.emitter from) (with_list (with_watch n (due (tick + w))) (merging n.list (learnt me from list))) n)
 
 -- message O: observer becomes the sender, heartbeat due becomes this tick
 unfoldable pub on_observer : ℕ → ℕ → Node → Turn
-on_observer tick from n = silent (observed_by tick n from)
-
--- message A of a subject: the "observer becomes the named node, heartbeat due that tick". "An A naming its receiver does nothing"
-unfoldable pub on_named : ℕ → ℕ → ℕ → Node → Turn
-on_named tick me subject n = silent (cond (eqb subject me) n (observed_by tick n subject))
-
--- message B of a subject: "a node that gets B and lists the named node clears list and mark and passes B on; otherwise it does nothing"
-unfoldable pub on_return : List ℕ → ℕ → ℕ → Node → Turn
-on_return order me subject n =
-    cond (listed n.list subject) (sending (cleared n subject) (return_sends order me n subject)) (silent n)
+on_observer tick from n = silent (with_heartbeat (with_observer n from) (due tick))
 
 -- message R of a subject: marked or the node itself, nothing; the emitter, and the node leaves it "in the same event"; otherwise it is marked and
 -- listed, "also where a heartbeat named it earlier", and R of the same subject goes to the forward targets, taken with the list after the change
@@ -229,14 +169,11 @@ on_heartbeat_due h tick n = sending (with_heartbeat n (due (tick + h))) (beat n.
 abbrev pub on_watch_due : List ℕ → ℕ → ℕ → ℕ → Node → Turn
 on_watch_due order w tick me n = leaving order w tick me n
 
--- a message by its kind: only the subjects of R, A and B count, and only a heartbeat's list. No call takes one of another kind; it does nothing
-unfoldable pub on_message : List ℕ → ℕ → ℕ → ℕ → Incoming → Node → Turn
-on_message order w tick me m n =
-    cond (eqb m.kind H) (on_heartbeat order w tick me m.from m.list n)
-    (cond (eqb m.kind O) (on_observer tick m.from n)
-    (cond (eqb m.kind R) (on_report order w tick me m.subject n)
-    (cond (eqb m.kind A) (on_named tick me m.subject n)
-    (cond (eqb m.kind B) (on_return order me m.subject n) (silent n)))))
+-- a message of a kind: only a report's subject counts, and only a heartbeat's list
+unfoldable pub on_message : List ℕ → ℕ → ℕ → ℕ → ℕ → ℕ → ℕ → ℕ → Node → Turn
+on_message order w tick me kind from subject list n =
+    cond (eqb kind H) (on_heartbeat w tick me from list n)
+    (cond (eqb kind O) (on_observer tick from n) (on_report order w tick me subject n))
 
 -- ---- what the code answers: the messages in seven places, the unused ones zero, and their count
 
@@ -250,8 +187,8 @@ turned u = record { node = u.node; sent = places u.sends; count = length u.sends
 unfoldable pub with_passed : Turned → ℕ → Turned
 with_passed t passed = record { node = t.node; sent = t.sent; count = t.count; passed = passed }
 
--- a node after a rule, with a message of a kind and a subject to its forward targets after what it sends already
-unfoldable pub relayed : List ℕ → ℕ → ℕ → ℕ → Turned → Turned
-relayed order me kind subject t =
-    let ms : List Message = naming kind subject (targets order t.node.list (place order me)) in
+-- a node after a rule, with R of a subject to its forward targets after what it sends already
+unfoldable pub relayed : List ℕ → ℕ → ℕ → Turned → Turned
+relayed order me subject t =
+    let ms : List Message = reports subject (targets order t.node.list (place order me)) in
     record { node = t.node; sent = sets t.sent t.count ms; count = t.count + length ms; passed = t.passed }

@@ -5,7 +5,7 @@ use Rattle.std.specs.Prelude.{◌≡◌, ◌≢◌, ◌⊎◌, Bool, true, false
 use Rattle.std.specs.Prelude.{ℕ, ◌+◌, ◌*◌, ◌^◌, ◌≤◌, ◌<◌, eqb, leb, ltb}
 use Rattle.ring.specs.Ring.{listed, part_of}
 use Rattle.node.specs.declared.Node.{Node}
-use Rattle.node.specs.Node.{off, due, H, O, R, A, B}
+use Rattle.node.specs.Node.{off, due, H, O, R}
 
 -- ---- facts
 
@@ -32,12 +32,9 @@ pub record NotOverdue (t : ℕ) (a : Node) : Type 0 where
   pub watch : a.watch ≢ off → t < a.watch
   pub heartbeat : a.heartbeat ≢ off → t < a.heartbeat
 
--- the kinds of message that have a subject, and all kinds
-abbrev pub Naming : ℕ → Type 0
-Naming kind = (kind ≡ R) ⊎ ((kind ≡ A) ⊎ (kind ≡ B))
-
+-- the kinds of message
 abbrev pub Known : ℕ → Type 0
-Known kind = (kind ≡ H) ⊎ ((kind ≡ O) ⊎ Naming kind)
+Known kind = (kind ≡ H) ⊎ ((kind ≡ O) ⊎ (kind ≡ R))
 
 -- a list that a message of a kind carries: it is of nodes below n, and empty unless the message is an H
 pub record Carried (n kind list : ℕ) : Type 0 where
@@ -67,11 +64,8 @@ not_overdue t timer = eqb timer off || ltb t timer
 unfoldable pub timers_test : ℕ → Node → Bool
 timers_test t a = not_overdue t a.watch && not_overdue t a.heartbeat
 
-unfoldable pub naming_test : ℕ → Bool
-naming_test k = eqb k R || (eqb k A || eqb k B)
-
 unfoldable pub kind_test : ℕ → Bool
-kind_test k = eqb k H || (eqb k O || naming_test k)
+kind_test k = eqb k H || (eqb k O || eqb k R)
 
 unfoldable pub carried_test : ℕ → ℕ → ℕ → Bool
 carried_test n kind list = ltb list (2 ^ n) && (eqb kind H || eqb list 0)

@@ -5,9 +5,8 @@
 ghost use Rattle.std.specs.Prelude.{◌≡◌, [], ◌∷◌, ◌+◌, ◌<◌, ◌≤◌, length, take};
 ghost use Rattle.std.proofs.lemmas.List.Edits.{sets};
 ghost use Rattle.limits.specs.Limits.{most_nodes, most_h, most_w, most_tick};
-ghost use Rattle.node.specs.Node.{message, naming, silent, sending, alone, opening, on_heartbeat, on_observer, on_report, on_heartbeat_due, on_watch_due};
-ghost use Rattle.node.specs.Node.{on_message, on_named, on_return, turned, relayed, leaving, with_passed, learnt, cleared, regained, observed_by};
-ghost use Rattle.node.specs.Node.{returning};
+ghost use Rattle.node.specs.Node.{message, reports, silent, sending, alone, opening, on_heartbeat, on_observer, on_report, on_heartbeat_due, on_watch_due};
+ghost use Rattle.node.specs.Node.{on_message, turned, relayed, leaving, with_passed, learnt};
 ghost use Rattle.node.specs.Range.{node_test, apart, live_test};
 
 // A node's fields. The mark has those of its listed nodes of which it took a report, or which it left as its emitter: a further report of them does
@@ -22,21 +21,11 @@ pub struct Node {
     pub mark: u64,
 }
 
-// A message as its sender gives it away: its letter (b'H', b'O', b'R', b'A' or b'B'), its receiver, on R, A and B its subject and on H its sender's
-// list.
+// A message as its sender gives it away: its letter (b'H', b'O' or b'R'), its receiver, on R its subject and on H its sender's list.
 #[derive(Clone, Copy)]
 pub struct Message {
     pub kind: u8,
     pub to: u8,
-    pub subject: u8,
-    pub list: u64,
-}
-
-// A message as it comes to its receiver: its letter, its sender, on R, A and B its subject and on H its sender's list.
-#[derive(Clone, Copy)]
-pub struct Incoming {
-    pub kind: u8,
-    pub from: u8,
     pub subject: u8,
     pub list: u64,
 }
@@ -102,23 +91,22 @@ fn with_passed(t: Turned, passed: u8) -> Turned
     }
 }
 
-// A message of a kind and a subject to the first `count` of a row, put into seven places from `from` on.
-fn put_naming(
+// R of the subject to the first `count` of a row, put into seven places from `from` on.
+fn put_reports(
     places: [Message; 7],
     from: usize,
     to: [u8; 6],
     count: usize,
-    kind: u8,
     subject: u8,
 ) -> [Message; 7]
     requires { (count ≤ 6) × (from + count ≤ 7) }
-    ensures { result ≡ sets places from (naming kind subject (take count to)) }
+    ensures { result ≡ sets places from (reports subject (take count to)) }
 {
     let mut out = places;
     let mut i: usize = 0;
     while i < count {
         out[from + i] = Message {
-            kind,
+            kind: b'R',
             to: to[i],
             subject,
             list: 0,
@@ -128,10 +116,10 @@ fn put_naming(
     out
 }
 
-// A node after a rule, with a message of a kind and a subject to its forward targets after what it sends already.
-fn relay(order: &[u8], me: u8, kind: u8, subject: u8, t: Turned) -> Turned
+// A node after a rule, with R of the subject to its forward targets after what it sends already.
+fn relay(order: &[u8], me: u8, subject: u8, t: Turned) -> Turned
     requires { (1 ≤ length order.now) × (length order.now ≤ most_nodes) × (t.count ≤ 1) }
-    ensures { result ≡ relayed order.now me kind subject t }
+    ensures { result ≡ relayed order.now me subject t }
 {
     let node = t.node;
     let p = ring::place_of(order, me);
@@ -140,7 +128,7 @@ fn relay(order: &[u8], me: u8, kind: u8, subject: u8, t: Turned) -> Turned
     let left = ring::count_unlisted(size, node.list);
     let jumps = ring::jump_count(left) as usize;
     let before = t.sent;
-    let sent = put_naming(before, t.count, to, jumps, kind, subject);
+    let sent = put_reports(before, t.count, to, jumps, subject);
     Turned {
         node,
         sent,
@@ -188,7 +176,7 @@ fn leave_emitter(order: &[u8], w: u32, tick: u32, me: u8, n: Node) -> Turned
         list: 0,
     };
     let turned = with_passed(sends_one(m, observe), found.passed);
-    relay(order, me, b'R', n.emitter, turned)
+    relay(order, me, n.emitter, turned)
 }
 
 // Opening, at tick 0.
@@ -221,77 +209,12 @@ fn learnt_from(me: u8, from: u8, list: u64) -> u64
     ring::with_unlisted(others, from)
 }
 
-// A node without node k in its list and its mark.
-fn cleared_of(n: Node, k: u8) -> Node
-    requires { k < most_nodes }
-    ensures { result ≡ cleared n k }
-{
-    let mut m = n;
-    m.list = ring::with_unlisted(n.list, k);
-    m.mark = ring::with_unlisted(n.mark, k);
-    m
-}
-
-// A node that observes node k again.
-fn regain(w: u32, tick: u32, n: Node, k: u8) -> Node
-    requires { (w ≤ most_w) × (tick ≤ most_tick) }
-    ensures { result ≡ regained w tick n k }
-{
-    let mut m = n;
-    m.emitter = k;
-    m.watch = tick + w + 1;
-    m
-}
-
-// A node whose observer is node k from now on, with a heartbeat due now.
-fn observed_by(tick: u32, n: Node, k: u8) -> Node
-    requires { tick ≤ most_tick }
-    ensures { result ≡ observed_by tick n k }
-{
-    let mut m = n;
-    m.observer = k;
-    m.heartbeat = tick + 1;
-    m
-}
-
-// Node k, which is listed here, returns: it is cleared and told of, and where it lies between the emitter and this node it is observed again. The old emitter
-// is then told to whom it sends; a node that was alone also sends to k.
-fn take_back(order: &[u8], w: u32, tick: u32, me: u8, k: u8, n: Node) -> Turned
-    requires { (1 ≤ length order.now) × (length order.now ≤ most_nodes) × (w ≤ most_w) × (tick ≤ most_tick) × (k < most_nodes) }
-    ensures { result ≡ turned (returning order.now w tick me k n) }
-{
-    let m = cleared_of(n, k);
-    if n.emitter == me {
-        return relay(
-            order,
-            me,
-            b'B',
-            k,
-            quiet(observed_by(tick, regain(w, tick, m, k), k)),
-        );
-    }
-    if ring::is_between(order, n.emitter, me, k) {
-        let named = Message {
-            kind: b'A',
-            to: n.emitter,
-            subject: k,
-            list: 0,
-        };
-        return relay(order, me, b'B', k, sends_one(regain(w, tick, m, k), named));
-    }
-    relay(order, me, b'B', k, quiet(m))
-}
-
-// Message H: a listed sender returns; from the emitter it renews the watch, and the nodes of the list that it carries are listed.
+// Message H: from the emitter it renews the watch, and the nodes of the list that it carries are listed.
 #[tactic(auto, unfolding(crate::specs::Node::on_heartbeat))]
-pub fn on_heartbeat(order: &[u8], w: u32, tick: u32, me: u8, from: u8, list: u64, n: Node) -> Turned
-    requires in_bounds { (1 ≤ length order.now) × (length order.now ≤ most_nodes) × (w ≤ most_w) × (tick ≤ most_tick) × (me < most_nodes) }
-    requires from_lt_most_nodes { from < most_nodes }
-    ensures { result ≡ turned (on_heartbeat order.now w tick me from list n) }
+pub fn on_heartbeat(w: u32, tick: u32, me: u8, from: u8, list: u64, n: Node) -> Turned
+    requires { (w ≤ most_w) × (tick ≤ most_tick) × (me < most_nodes) × (from < most_nodes) }
+    ensures { result ≡ turned (on_heartbeat w tick me from list n) }
 {
-    if ring::is_listed(n.list, from) {
-        return take_back(order, w, tick, me, from, n);
-    }
     if n.emitter != from {
         return quiet(n);
     }
@@ -306,29 +229,10 @@ pub fn on_observer(tick: u32, from: u8, n: Node) -> Turned
     requires { tick ≤ most_tick }
     ensures { result ≡ turned (on_observer tick from n) }
 {
-    quiet(observed_by(tick, n, from))
-}
-
-// Message A: the named node is the new observer, unless it is this one.
-pub fn on_named(tick: u32, me: u8, subject: u8, n: Node) -> Turned
-    requires { tick ≤ most_tick }
-    ensures { result ≡ turned (on_named tick me subject n) }
-{
-    if subject != me {
-        return quiet(observed_by(tick, n, subject));
-    }
-    quiet(n)
-}
-
-// Message B: a named node that is listed here is cleared and told of.
-pub fn on_return(order: &[u8], me: u8, subject: u8, n: Node) -> Turned
-    requires { (1 ≤ length order.now) × (length order.now ≤ most_nodes) × (subject < most_nodes) }
-    ensures { result ≡ turned (on_return order.now me subject n) }
-{
-    if ring::is_listed(n.list, subject) {
-        return relay(order, me, b'B', subject, quiet(cleared_of(n, subject)));
-    }
-    quiet(n)
+    let mut m = n;
+    m.observer = from;
+    m.heartbeat = tick + 1;
+    quiet(m)
 }
 
 // Message R: a subject that is not marked here is marked, listed and reported on; an emitter is also left.
@@ -348,7 +252,7 @@ pub fn on_report(order: &[u8], w: u32, tick: u32, me: u8, subject: u8, n: Node) 
     let mut m = n;
     m.list = ring::with_listed(n.list, subject);
     m.mark = ring::with_listed(n.mark, subject);
-    relay(order, me, b'R', subject, quiet(m))
+    relay(order, me, subject, quiet(m))
 }
 
 // Heartbeat due: H to the observer, with the list.
@@ -375,20 +279,26 @@ pub fn on_watch_due(order: &[u8], w: u32, tick: u32, me: u8, n: Node) -> Turned
     leave_emitter(order, w, tick, me, n)
 }
 
-// A message that comes in, by its letter; one of a letter that no rule has does nothing.
-pub fn on_message(order: &[u8], w: u32, tick: u32, me: u8, m: Incoming, n: Node) -> Turned
+// A message of a kind, its letter; all but H and O are taken as R.
+pub fn on_message(
+    order: &[u8],
+    w: u32,
+    tick: u32,
+    me: u8,
+    kind: u8,
+    from: u8,
+    subject: u8,
+    list: u64,
+    n: Node,
+) -> Turned
     requires in_bounds { (1 ≤ length order.now) × (length order.now ≤ most_nodes) × (w ≤ most_w) × (tick ≤ most_tick) × (me < most_nodes) }
-    requires from_lt_most_nodes { (m.from < most_nodes) × (m.subject < most_nodes) }
-    ensures { result ≡ turned (on_message order.now w tick me m n) }
+    requires from_lt_most_nodes { (from < most_nodes) × (subject < most_nodes) }
+    ensures { result ≡ turned (on_message order.now w tick me kind from subject list n) }
 {
-    let kind = m.kind;
     match kind {
-        b'H' => on_heartbeat(order, w, tick, me, m.from, m.list, n),
-        b'O' => on_observer(tick, m.from, n),
-        b'R' => on_report(order, w, tick, me, m.subject, n),
-        b'A' => on_named(tick, me, m.subject, n),
-        b'B' => on_return(order, me, m.subject, n),
-        _ => quiet(n),
+        b'H' => on_heartbeat(w, tick, me, from, list, n),
+        b'O' => on_observer(tick, from, n),
+        _ => on_report(order, w, tick, me, subject, n),
     }
 }
 

@@ -1,5 +1,5 @@
 -- Steps back in the ring from one node to another (`gap`), for any order: a full round from a node to itself. The nodes of the ring going back from
--- a node are 1, 2 and so on steps back from it, and from those going ahead it is as many steps back. Assumes nothing.
+-- a node are 1, 2 and so on steps back from it. Assumes nothing.
 use mathlib.Core.Path.{◌≡◌, sym, ap, ◌∙◌}
 use mathlib.Core.Logic.{◌⊎◌, inl, inr, ◌≢◌, ite, if_pos, if_neg}
 use mathlib.Core.Bool.{true}
@@ -10,7 +10,7 @@ use native.Mathlib.Decide.{dec_lt}
 use lib.ListN.{length, get_or, length-map}
 use Rattle.ring.specs.Ring.{among, place, round, InOrder}
 use Rattle.ring.proofs.Laws.{length-round, round-near, round-far}
-use Rattle.ring.proofs.Once.{all-many, among-at, among-map}
+use Rattle.ring.proofs.Once.{all-many, among-map}
 use Rattle.ring.proofs.Unlisted.{get_d_reverse}
 
 module _ (n : ℕ) where
@@ -40,11 +40,6 @@ module _ (n : ℕ) where
     steps-one s t (direct h e) (around k f) = omega arith
     steps-one s t (around h e) (direct k f) = omega arith
     steps-one s t (around h e) (around k f) = omega arith
-
-    -- fewer than a round to another place
-    steps-short : (s : ℕ) → Steps a b s → a ≢ b → s < n
-    steps-short s (direct h e) ne = omega arith
-    steps-short s (around h e) ne = omega arith
 
     module _ (c : ℕ) (c_n : c < n) where
       steps-inj : (s t : ℕ) → Steps a b s → Steps a c t → s ≡ t → b ≡ c
@@ -188,83 +183,6 @@ module _ (n : ℕ) {order : List ℕ} (o : InOrder n order) where
       here : gap j (get_or order q 0) ≡ suc i
       here =
           steps-one n (place order j) q (o.placed j j_n) q_n _ _ (rw (o.once q q_n) at (gap-steps j (get_or order q 0) j_n (o.below q q_n))) w.3
-
-  -- ---- the ring going ahead from a node
-
-  -- the place of its i-th node
-  module _ (p i : ℕ) (p_n : p < n) (i_n : i < n) where
-    ahead-place : (q : ℕ) × (q < n) × (get_or (round order (suc p)) i 0 ≡ get_or order q 0) × Steps n q p (suc i)
-    ahead-place = go (dec_lt i (n - suc p))
-      where
-        all : length order ≡ n
-        all = o.size
-
-        go : Dec (i < n - suc p) → (q : ℕ) × (q < n) × (get_or (round order (suc p)) i 0 ≡ get_or order q 0) × Steps n q p (suc i)
-        go (yes l) = (suc p + i, omega arith, round-near order (suc p) i 0 (omega arith), direct (omega arith) (omega arith))
-        go (no l) =
-            let e : i - (length order - suc p) ≡ i - (n - suc p) = omega arith in
-            let far : get_or (round order (suc p)) i 0 ≡ get_or order (i - (length order - suc p)) 0 =
-            round-far order (suc p) i 0 (omega arith) (omega arith) (omega arith) in
-            (i - (n - suc p), omega arith, far ∙ ap (λ (q : ℕ). get_or order q 0) e, around (omega arith) (omega arith))
-
-  -- from it e is i + 1 steps back
-  pub gap-ahead : (e i : ℕ) → e < n → i < n → gap (get_or (round order (suc (place order e))) i 0) e ≡ suc i
-  gap-ahead e i e_n i_n = rw w.2 here
-    where
-      w : (q : ℕ) × (q < n) × (get_or (round order (suc (place order e))) i 0 ≡ get_or order q 0) × Steps n q (place order e) (suc i)
-      w = ahead-place (place order e) i (o.placed e e_n) i_n
-
-      q : ℕ
-      q = w.0
-
-      q_n : q < n
-      q_n = w.1
-
-      here : gap (get_or order q 0) e ≡ suc i
-      here = steps-one n q (place order e) q_n (o.placed e e_n) _ _ (rw (o.once q q_n) at (gap-steps (get_or order q 0) e (o.below q q_n) e_n)) w.3
-
-  -- every node is one of them
-  pub among-ahead : (e k : ℕ) → e < n → k < n → among (round order (suc (place order e))) k ≡ true
-  among-ahead e k e_n k_n = go (dec_lt (place order e) (place order k))
-    where
-      all : length order ≡ n
-      all = o.size
-
-      p : ℕ
-      p = place order e
-
-      q : ℕ
-      q = place order k
-
-      p_n : p < n
-      p_n = o.placed e e_n
-
-      q_n : q < n
-      q_n = o.placed k k_n
-
-      go : Dec (p < q) → among (round order (suc p)) k ≡ true
-      go (yes l) =
-          let there : suc p + (q - suc p) ≡ q = omega arith in
-          among-at (round order (suc p)) (q - suc p) k (rw (length-round order (suc p), all) (omega (arith, p_n, q_n)))
-          (round-near order (suc p) (q - suc p) 0 (omega (arith, p_n, q_n, all)) ∙ ap (λ (z : ℕ). get_or order z 0) there ∙ o.has k k_n)
-      go (no l) =
-          let i : ℕ = q + (n - suc p) in
-          let there : i - (length order - suc p) ≡ q = omega (arith, p_n, q_n, all) in
-          among-at (round order (suc p)) i k (rw (length-round order (suc p), all) (omega (arith, p_n, q_n)))
-          (round-far order (suc p) i 0 (omega (arith, p_n, all)) (omega (arith, p_n, all)) (omega (arith, p_n, q_n, all))
-          ∙ ap (λ (z : ℕ). get_or order z 0) there ∙ o.has k k_n)
-
-  -- a node is fewer steps back than a round from every other, and a round from itself
-  pub gap-short : (j k : ℕ) → j < n → k < n → j ≢ k → gap j k < n
-  gap-short j k j_n k_n ne =
-      steps-short n (place order j) (place order k) (o.placed j j_n) (o.placed k k_n) _ (gap-steps j k j_n k_n) (λ e. ne (place-inj j k j_n k_n e))
-
-  pub gap-round : (j : ℕ) → j < n → gap j j ≡ n
-  gap-round j j_n = go (gap j j) (gap-steps j j j_n j_n)
-    where
-      go : (s : ℕ) → Steps n (place order j) (place order j) s → s ≡ n
-      go s (direct h e) = omega arith
-      go s (around h e) = omega arith
 
   -- nodes among which all are that stand up to g steps back from j are at least g
   pub back-many : (xs : List ℕ) (j g : ℕ) → j < n → g ≤ n → ((k : ℕ) → gap j k ≤ g → among xs k ≡ true) → g ≤ length xs

@@ -24,8 +24,6 @@ pub mod Once
 pub mod Unlisted
 -- steps back from node to node
 pub mod Gaps
--- which nodes lie between two others
-pub mod Between
 -- the nodes that the search for the node before passes, and their number
 pub mod Passed
 -- what the search back passes, and where going back again and again leads

@@ -254,7 +254,7 @@ pub part_none : (d : ℕ) → part_of 0 d ≡ true
 unfolding part_of
 part_none d = eq-eqb (bit_or 0 d) d (or_zero_l d)
 
--- a part stays one where its list has more nodes, and where both have one node more or one fewer
+-- a part stays one where its list has more nodes, and where both have one node more
 pub part-more : (n m d d' : ℕ) → d < 2 ^ n → d' < 2 ^ n → ((k : ℕ) → listed d k ≡ true → listed d' k ≡ true)
     → part_of m d ≡ true → part_of m d' ≡ true
 part-more n m d d' h g f part =
@@ -268,11 +268,6 @@ part-listing n m d i h i< part =
     go : (k : ℕ) → (listed m k ≡ true) ⊎ (k ≡ i) → listed (listing d i) k ≡ true
     go k (inl l) = listing-keeps d i k (part-lists m d k part l)
     go k (inr e) = rw e (listing-lists d i)
-
-pub part-unlisting : (n m d i : ℕ) → d < 2 ^ n → part_of m d ≡ true → part_of (unlisting m i) (unlisting d i) ≡ true
-part-unlisting n m d i h part =
-    is-part n (unlisting m i) (unlisting d i) (unlisting-lt n m i (omega (arith, part-le m d part))) (unlisting-lt n d i h)
-    (λ k l. let o = unlisting-only m i k l in unlisting-keeps d i k o.0 (part-lists m d k part o.1))
 
 -- ---- places
 

@@ -1,4 +1,4 @@
--- One turn, and the end, of each search over a lent order: ahead, back, for the first of two nodes, and for a place. Assumes nothing.
+-- One turn, and the end, of each search over a lent order: ahead, back, and for a place. Assumes nothing.
 use mathlib.Core.Path.{◌≡◌, refl, sym, ◌∙◌}
 use mathlib.Core.Bool.{Bool, true, false, not, cond}
 use mathlib.Core.List.{List, [], ◌∷◌, reverse, reverse-append}
@@ -12,8 +12,7 @@ use lib.Dec.{eqb}
 use lib.ListN.{length, get_or, take, drop, drop_of_length-le}
 use lib.Seq.{take-suc, drop-cons, take_all}
 use Rattle.ring.specs.declared.NodeBefore.{NodeBefore}
-use Rattle.ring.specs.Ring.{keep, none, node_before, passing, listed, unlisted, round, ahead, first_unlisted, back, next, comes_before, between}
-use Rattle.ring.specs.Ring.{place}
+use Rattle.ring.specs.Ring.{keep, none, node_before, passing, listed, unlisted, round, ahead, first_unlisted, back, next, place}
 use Rattle.ring.proofs.Laws.{unlisted-yes, unlisted-no, length-round}
 
 -- the answer of a search that comes after one that passed k
@@ -97,33 +96,6 @@ unfolding ahead next round
 next_past order d p h =
     let g : length order ≤ suc p = omega arith in
     rw (drop_of_length-le order {i = p} h, take_all p order h, drop_of_length-le order {i = suc p} g, take_all (suc p) order g)
-
--- ---- the first of two nodes, j and k, met going ahead
-
-pub between_start : (order : List ℕ) (e j k p : ℕ) → p ≡ place order e + 1 → between order e j k ≡ comes_before (drop 0 (round order p)) k j
-unfolding between
-between_start order e j k p q = rw (q, add-one (place order e))
-
-module _ (order : List ℕ) (p s x j k : ℕ) (h : s < length order) (e : x ≡ get_or (round order p) s 0) where
-  met : drop s (round order p) ≡ x ∷ drop (s + 1) (round order p)
-  met = rw (add-one, e) (drop-cons (round order p) s 0 (rw length-round h))
-
-  pub between-not : x ≡ j → false ≡ comes_before (drop s (round order p)) k j
-  unfolding comes_before
-  between-not q = rw (met, eq-eqb x j q)
-
-  module _ (other : x ≡ j → ⊥) where
-    pub between-hit : x ≡ k → true ≡ comes_before (drop s (round order p)) k j
-    unfolding comes_before
-    between-hit q = rw (met, ne_eqb x j other, eq-eqb x k q)
-
-    pub between-pass : (x ≡ k → ⊥) → comes_before (drop s (round order p)) k j ≡ comes_before (drop (s + 1) (round order p)) k j
-    unfolding comes_before
-    between-pass q = rw (met, ne_eqb x j other, ne_eqb x k q)
-
-pub between_done : (order : List ℕ) (p s j k : ℕ) → length order ≤ s → false ≡ comes_before (drop s (round order p)) k j
-unfolding comes_before
-between_done order p s j k h = rw (drop_of_length-le (round order p) {i = s} (rw length-round h))
 
 -- ---- places
 

@@ -125,15 +125,6 @@ back_from order d e = back order d (suc (place order e))
 unfoldable pub next : List ℕ → ℕ → ℕ → ℕ
 next order d p = get_or (unlisted d (round order (suc p))) 0 none
 
--- of nodes in turn, k comes before j
-unfoldable pub comes_before : List ℕ → ℕ → ℕ → Bool
-comes_before [] k j = false
-comes_before (x ∷ xs) k j = cond (eqb x j) false (cond (eqb x k) true (comes_before xs k j))
-
--- k "lies between" e and j: going ahead from e, once round, it is met before j. Where j is e, that node is the last met, and all others lie between
-unfoldable pub between : List ℕ → ℕ → ℕ → ℕ → Bool
-between order e j k = comes_before (round order (suc (place order e))) k j
-
 -- ---- "Forward targets"
 
 -- "the count of unlisted nodes, m, the node itself included"

@@ -5,7 +5,7 @@
 ghost use Rattle.std.specs.Prelude.{◌≡◌, ◌-◌, ◌^◌, ◌<◌, ◌≤◌, length, get_or};
 ghost use Rattle.limits.specs.Limits.{most_nodes};
 ghost use Rattle.ring.specs.Ring.{numbers, listed, listing, unlisting, merging, part_of, unlisted_set, place, round, ahead, back, next, count, jumps};
-ghost use Rattle.ring.specs.Ring.{between, targets, row, table_answer, table_row, table_rows};
+ghost use Rattle.ring.specs.Ring.{targets, row, table_answer, table_row, table_rows};
 
 use limits::MOST_NODES;
 
@@ -197,26 +197,6 @@ pub fn find_next(order: &[u8], d: u64, p: usize) -> u8
         return find_ahead(order, d, p, 0);
     }
     find_ahead(order, d, p + 1, 0)
-}
-
-// Whether node k lies between e and j, going ahead from e; where j is e, every other node does.
-pub fn is_between(order: &[u8], e: u8, j: u8, k: u8) -> bool
-    requires { length order.now ≤ most_nodes }
-    ensures { result ≡ between order.now e j k }
-{
-    let p = place_of(order, e) + 1;
-    let mut s: usize = 0;
-    while s < order.len() {
-        let x = step(order, p, s);
-        if x == j {
-            return false;
-        }
-        if x == k {
-            return true;
-        }
-        s += 1;
-    }
-    false
 }
 
 // The forward targets of the unlisted node at the place p.

@@ -22,7 +22,7 @@ pub struct DelayRow {
     pub delay: u8,
 }
 
-// A message in flight. Its kind is its letter: b'H', b'O', b'R', b'A' or b'B'. Its list is its sender's on H, else empty.
+// A message in flight. Its kind is its letter: b'H', b'O' or b'R'. Its list is its sender's on H, else empty.
 #[derive(Clone, Copy)]
 pub struct Flight {
     pub number: u64,

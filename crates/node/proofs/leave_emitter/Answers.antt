@@ -32,6 +32,6 @@ returns c =
     let d = c.with_listed-list.ensures in
     let k = c.with_listed-mark.ensures in
     let sent = turned-passed _ _ _ (message O _ 0 ∷ []) _ c.sends_one.ensures c.with_passed-turned.ensures in
-    c.relay.ensures ∙ ap (relayed _ _ _ _) sent
+    c.relay.ensures ∙ ap (relayed _ _ _) sent
     ∙ sym (leaving-moves _ _ _ _ _ _ _ _ _ d k c.place_of-p.ensures c.find_back-found.ensures
     c.if-found-me.false (search rules) _ refl)

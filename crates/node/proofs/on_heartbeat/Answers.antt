@@ -2,14 +2,10 @@
 use mathlib.Core.Path.{sym, ap, ◌∙◌}
 use native.Mathlib.Omega.{arith}
 use Rattle.node.specs.Node.{turned}
-use Rattle.node.proofs.Rules.{heartbeat-returns, heartbeat-renews}
+use Rattle.node.proofs.Rules.{heartbeat-renews}
 use Rattle.node.proofs.on_heartbeat.Goals as goal
-
-pub returns-then-is_listed : goal.returns-then-is_listed
-returns-then-is_listed c = c.take_back.ensures ∙ ap turned (sym (heartbeat-returns _ _ _ _ _ _ _ _ c.is_listed.ensures c.if-is_listed.true))
 
 pub returns : goal.returns
 returns c =
     c.quiet-2.ensures
-    ∙ ap turned (sym (heartbeat-renews _ _ _ _ _ _ _ _ c.is_listed.ensures c.if-is_listed.false _ _ c.learnt_from.ensures
-    c.with_all.ensures (omega arith)))
+    ∙ ap turned (sym (heartbeat-renews _ _ _ _ _ _ _ _ c.learnt_from.ensures c.with_all.ensures (omega arith)))

@@ -5,4 +5,4 @@ use Rattle.node.proofs.Rules.{observer-changes}
 use Rattle.node.proofs.on_observer.Goals as goal
 
 pub returns : goal.returns
-returns c = c.quiet.ensures ∙ ap turned (sym (observer-changes _ _ _ _ c.observed_by.ensures))
+returns c = c.quiet.ensures ∙ ap turned (sym (observer-changes 0 _ _ _))

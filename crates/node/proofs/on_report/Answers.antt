@@ -25,7 +25,7 @@ relay-requires c = let one = turned-count _ (silent _) c.quiet-2.ensures in sear
 pub returns : goal.returns
 returns c =
     c.relay.ensures
-    ∙ ap (relayed _ _ _ _) c.quiet-2.ensures
+    ∙ ap (relayed _ _ _) c.quiet-2.ensures
     ∙ sym
     (report-new _ _ _ _ _ _ _ c.is_listed.ensures c.if-is_listed.false c.if-subject-me.false c.if-subject-n.false _ _
     c.with_listed.ensures c.with_listed-2.ensures (search rules))

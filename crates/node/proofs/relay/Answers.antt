@@ -4,8 +4,8 @@ use Rattle.node.proofs.Messages.{jumps-few, relayed-put}
 use borrow.Author.Rules.{rules}
 use Rattle.node.proofs.relay.Goals as goal
 
-pub put_naming-sent-requires : goal.put_naming-sent-requires
-put_naming-sent-requires c =
+pub put_reports-sent-requires : goal.put_reports-sent-requires
+put_reports-sent-requires c =
     let few =
     jumps-few c.args.order.now _ _ _ (search rules) c.count_unlisted-left.ensures c.jump_count-jumps.ensures in
     search rules
@@ -13,5 +13,5 @@ put_naming-sent-requires c =
 pub returns : goal.returns
 returns c =
     sym
-    (relayed-put _ _ _ _ _ _ _ _ _ _ c.place_of-p.ensures c.target_row-to.ensures c.count_unlisted-left.ensures
-    c.jump_count-jumps.ensures c.put_naming-sent.ensures)
+    (relayed-put _ _ _ _ _ _ _ _ _ c.place_of-p.ensures c.target_row-to.ensures c.count_unlisted-left.ensures
+    c.jump_count-jumps.ensures c.put_reports-sent.ensures)

@@ -26,6 +26,15 @@ message_turn-u-requires c =
       t_le_most_tick = (t, to, from, of);
     }
 
+pub message_deed-deed-requires : goal.message_deed-deed-requires
+message_deed-deed-requires c =
+    let p = c.requires in
+    let k = p.underway in
+    let row = c.row_at-row in
+    let f = c.unpack-f in
+    let to = delivery-place _ _ c.args.c c.args.t p.whole k p.delivers _ row.ensures _ f.ensures in
+    (apart-acting k.apart k.ready, to)
+
 pub overflow_add-d : goal.overflow_add-d
 overflow_add-d c =
     let p = c.requires in

@@ -49,6 +49,10 @@ overflow_add-message_count c =
     let k = message-count _ c.requires.ready _ _ c.requires.next_is _ m.ensures _ is in
     omega (arith, c.message_count.ensures, c.requires.ready.held.fits.counts.messages, k)
 
+pub message_deed-deed-requires : goal.message_deed-deed-requires
+message_deed-deed-requires c =
+    (ready-acting _ c.requires.ready, message-place _ c.requires.ready _ _ c.requires.next_is _ c.message_at-m.ensures)
+
 pub take_message-requires : goal.take_message-requires
 take_message-requires c =
     record {
