@@ -263,14 +263,14 @@ fn table_rows(n: u64, d: u64) -> [[u8; ROW_SIZE]; MOST_NODES]
     rows
 }
 
-// A table of its parts. Its proof is a walk by hand, as the checker does not follow a field that is an array of arrays.
+// A table of its parts.
 fn table_of(answer: u8, rows: [[u8; ROW_SIZE]; MOST_NODES]) -> Table
     ensures { (result.answer ≡ answer) × (result.rows ≡ rows) }
 {
     Table { answer, rows }
 }
 
-// The rows of a table, for the same reason by hand.
+// The rows of a table.
 pub fn rows_of(t: Table) -> [[u8; ROW_SIZE]; MOST_NODES]
     ensures { result ≡ t.rows }
 {
