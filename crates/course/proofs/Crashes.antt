@@ -6,6 +6,7 @@ use mathlib.Core.List.{List}
 use native.Mathlib.Omega.{arith}
 use native.Mathlib.Decide.{ℕ_discrete}
 use lib.ListN.{length}
+use Rattle.std.specs.Prelude.{None, Ok}
 use Rattle.limits.specs.Limits.{most_tick}
 use Rattle.node.specs.declared.Node.{Node}
 use Rattle.model.specs.declared.Deed.{Deed}
@@ -15,6 +16,7 @@ use Rattle.model.specs.Platform.{InFlight, State, Outcome, crash, did, alive, no
 use Rattle.plans.specs.Plain.{Plain, row_at}
 use Rattle.model.specs.Lines.{deed}
 use Rattle.model.proofs.NextEvent.{Chosen, alive-hit, alive-other}
+use Rattle.store.specs.declared.Flight.{Flight}
 use Rattle.store.specs.declared.CrashRow.{CrashRow}
 use Rattle.store.specs.Store.{encode, plan_in, state_in}
 use Rattle.store.specs.Inside.{Fits, Sized, with_flight, with_tick, crashed, crash_row}
@@ -47,7 +49,7 @@ still-live p pl done h j v = go (ℕ_discrete j (row_at p done).node)
         absurd (let w : ◌≡◌ {A = ℕ} 0 1 = cc in omega arith)
     go (no e) = sym (alive-other p pl done j h e) ∙ v
 
-module _ (b q : List ℕ) (c : Progress) (whole : List ℕ) (k : Underway b q c whole) (t n : ℕ) (next : NextIs whole t (crash n)) where
+module _ (b : List ℕ) (q : List Flight) (c : Progress) (whole : List ℕ) (k : Underway b q c whole) (t n : ℕ) (next : NextIs whole t (crash n)) where
   abbrev first : Crash
   first = row_at (plan_in whole) (state_in whole).done
 
@@ -123,12 +125,12 @@ module _ (b q : List ℕ) (c : Progress) (whole : List ℕ) (k : Underway b q c 
         (held-sized b' (apart-held left-apart), (ap plan_test p ∙ k.ready.plan, omega (arith, d, ap (λ (z : Plan). length z.crashes) p, more)))
 
     pub crash-stepped : (dead : ℕ) → dead ≡ crashed_list (plan_in b') (state_in b').done → (l : Deed)
-        → l ≡ deed letter_c t n n (node_of (state_in b) n).list false 0
-        → SteppedAs whole c (Did (record { start = c.start; end = c.end; dead = dead; bound = c.bound; x = 0 }) l) b' q
+        → l ≡ deed letter_c t n n (node_of (state_in b) n).list None
+        → SteppedAs whole c (Ok (Did l)) b' q (record { start = c.start; end = c.end; dead = dead; bound = c.bound; x = 0 })
     unfolding SteppedAs
     crash-stepped dead de l le =
-        let le' : l ≡ deed letter_c t n n (node_of (state_in whole) n).list false 0 =
-        le ∙ ap (λ (m : Node). deed letter_c t n n m.list false 0) (apart-node k.apart n) in (
+        let le' : l ≡ deed letter_c t n n (node_of (state_in whole) n).list None =
+        le ∙ ap (λ (m : Node). deed letter_c t n n m.list None) (apart-node k.apart n) in (
           (crash-done whole k.ready t n next (store_left whole) l le' (sym left_is)).0,
           record {
             ready = left-ready whole (store_left whole) k.ready refl;

@@ -4,7 +4,9 @@ use mathlib.Core.Path.{◌≡◌, refl, sym, ap, ap₂, subst, ◌∙◌}
 use mathlib.Core.Bool.{Bool, not}
 use mathlib.Core.List.{List, []}
 use native.Mathlib.Omega.{arith}
-use lib.ListN.{length}
+use lib.ListN.{length, get_or}
+use Rattle.std.specs.Prelude.{Result, Ok, Err}
+use Rattle.limits.specs.declared.Refusal.{Refusal}
 use Rattle.limits.specs.Limits.{most_nodes, most_tick, most_in_flight, most_sent}
 use Rattle.ring.specs.Ring.{listed}
 use Rattle.model.specs.declared.Deed.{Deed}
@@ -13,7 +15,7 @@ use Rattle.node.specs.declared.Node.{Node}
 use Rattle.node.specs.declared.Turned.{Turned}
 use Rattle.node.specs.Node.{turned}
 use Rattle.plans.specs.Plan.{Plan}
-use Rattle.model.specs.Platform.{InFlight, State, message, message_at, node_of, without, received, apply}
+use Rattle.model.specs.Platform.{State, message, message_at, node_of, without, received, apply}
 use Rattle.model.specs.Range.{FlightRange}
 use Rattle.model.proofs.RangesKept.{at_mem}
 use Rattle.store.specs.Store.{encode, plan_in, state_in}
@@ -22,26 +24,24 @@ use Rattle.store.specs.declared.Flight.{Flight}
 use Rattle.store.proofs.Store.{plan-encode, state-encode, held-encode}
 use Rattle.store.proofs.States.{take-fits}
 use Rattle.event.specs.Event.{NextIs, Turns, entry}
-use Rattle.event.proofs.Readiness.{ready-plain, ready-sound}
+use Rattle.event.proofs.Readiness.{ready-sound}
 use Rattle.event.proofs.Turning.{turn-did}
 use Rattle.event.proofs.Doing.{event-tick, length-less, message-here, message-place, message-sender, message-subject, message-count, message-turns}
 use Rattle.event.proofs.Doing.{message-refused, message-done, turn-of}
-use Rattle.queue.specs.declared.Row.{Row}
-use Rattle.queue.specs.Rows.{places, row_at}
-use Rattle.queue.specs.Holds.{Holds, Head, packed}
+use Rattle.queue.specs.Rows.{places, nothing}
+use Rattle.queue.specs.Holds.{Holds, Head}
 use Rattle.queue.proofs.Queues.{holds-head}
 use Rattle.course.specs.declared.Progress.{Progress}
-use Rattle.course.specs.declared.Step.{Step}
+use Rattle.course.specs.declared.Step.TheVariants.{Did}
 use Rattle.course.specs.Apart.{Apart, bare}
+use Rattle.course.specs.Look.{Timers}
 use Rattle.course.specs.Progress.{Underway, Settling, Settled, SettledAs, SteppedAs}
 use Rattle.course.specs.Act.{Delivers}
-use Rattle.course.specs.Carry.{unpacked}
-use Rattle.course.proofs.Carrying.{unpacked-row}
 use Rattle.course.proofs.Looking.{passed-less}
 use Rattle.course.proofs.Parting.{apart-plan, apart-state, apart-node}
-use Rattle.course.proofs.Events.{Given, turn-stepped}
+use Rattle.course.proofs.Events.{Given, turn-done, turn-refused}
 
-module _ (b q : List ℕ) (c : Progress) (t : ℕ) (whole : List ℕ) (k : Underway b q c whole) (dv : Delivers q c t whole) where
+module _ (b : List ℕ) (q : List Flight) (c : Progress) (t : ℕ) (whole : List ℕ) (k : Underway b q c whole) (dv : Delivers q c t whole) where
   abbrev head : Head q c.start c.end (state_in whole).flight
   head = holds-head q c.start c.end (state_in whole).flight k.apart.holds dv.less
 
@@ -57,12 +57,9 @@ module _ (b q : List ℕ) (c : Progress) (t : ℕ) (whole : List ℕ) (k : Under
   range : FlightRange (plan_in whole) (state_in whole).last (message_at (state_in whole) i)
   range = (ready-sound whole k.ready).flying (message_at (state_in whole) i) (at_mem (state_in whole).flight i (message-here whole k.ready t i next))
 
-  module _ (row : Row) (re : row ≡ row_at q c.start) (f : Flight) (fe : f ≡ unpacked row t) where
+  module _ (f : Flight) (fe : f ≡ get_or q c.start nothing) where
     is-flight : f ≡ flying (message_at (state_in whole) i)
-    is-flight =
-        fe
-        ∙ unpacked-row (message_at (state_in whole) i) (plan_in whole) (state_in whole).last (ready-plain whole k.ready).n≤ range row
-        (re ∙ (head.row ∙ ap packed (sym here))) t (ap (λ (m : InFlight). m.due) here ∙ (dv.next head).0)
+    is-flight = ap flying (ap message_of fe ∙ (head.row ∙ sym here))
 
     pub delivery-place : f.to < (plan_in b).n
     delivery-place = rw (apart-plan k.apart) (message-place whole k.ready t i next f is-flight)
@@ -152,8 +149,25 @@ module _ (b q : List ℕ) (c : Progress) (t : ℕ) (whole : List ℕ) (k : Under
               (omega (arith, h, length-less i (state_in whole).flight (message-here whole k.ready t i next)));
         }
 
-        pub delivery-stepped : (r : Step) (b' q' : List ℕ) → Settled b q c₁ t f.to u l r b' q' → SteppedAs whole c r b' q'
-        delivery-stepped r b' q' h =
-            turn-stepped b q c c₁ whole mid k (without i (state_in whole).flight) t (message_at (state_in whole) i).to u l delivery-given
-            (passed-less (plan_in whole) (state_in whole) c.bound c.x 0 k.timers (omega arith)) refl (omega arith) r b' q'
-            (subst (λ (y : ℕ). SettledAs b q c₁ t y u l mid r b' q') (ap (λ (g : Flight). g.to) is-flight) (h mid mid-apart turns))
+        -- what the turn comes to, for its node as the store has it
+        settled : (r : Result (Unit {0}) Refusal) (b' : List ℕ) (q' : List Flight) (d : Progress) → Settled b q c₁ t f.to u r b' q' d
+            → SettledAs b q c₁ t (message_at (state_in whole) i).to u mid r b' q' d
+        settled r b' q' d h =
+            subst (λ (y : ℕ). SettledAs b q c₁ t y u mid r b' q' d) (ap (λ (g : Flight). g.to) is-flight) (h mid mid-apart turns)
+
+        passed : Timers (plan_in whole) (state_in whole) c.bound 0
+        passed = passed-less (plan_in whole) (state_in whole) c.bound c.x 0 k.timers (omega arith)
+
+        pub delivery-taken : (b' : List ℕ) (q' : List Flight) (d : Progress) → Settled b q c₁ t f.to u (Ok tt) b' q' d
+            → SteppedAs whole c (Ok (Did l)) b' q' d
+        unfolding SettledAs
+        delivery-taken b' q' d h =
+            turn-done b q c c₁ whole mid k (without i (state_in whole).flight) t (message_at (state_in whole) i).to u l delivery-given passed refl
+            (omega arith) b' q' d (settled (Ok tt) b' q' d h)
+
+        pub delivery-down : (r : Refusal) (b' : List ℕ) (q' : List Flight) (d : Progress) → Settled b q c₁ t f.to u (Err r) b' q' d
+            → SteppedAs whole c (Err r) b' q' c
+        unfolding SettledAs
+        delivery-down r b' q' d h =
+            turn-refused b q c c₁ whole mid k (without i (state_in whole).flight) t (message_at (state_in whole) i).to u l delivery-given passed refl
+            (omega arith) r b' q' d (settled (Err r) b' q' d h)

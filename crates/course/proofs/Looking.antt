@@ -1,5 +1,5 @@
 -- What a look for the next event finds. Assumes nothing.
-use Prim.Native.Nat.{ℕ, suc, ◌+◌, ◌-◌, ◌≤◌, ◌<◌}
+use Prim.Native.Nat.{ℕ, suc, ◌+◌, ◌≤◌, ◌<◌}
 use mathlib.Core.Path.{◌≡◌, refl, sym, ap, ap₂, subst, ◌∙◌}
 use mathlib.Core.Logic.{◌≢◌, ◌⊎◌, inl, inr}
 use mathlib.Core.Bool.{Bool, true, false, cond}
@@ -7,26 +7,32 @@ use mathlib.Core.List.Memᴰ
 use mathlib.Core.List.{List, [], ◌∷◌, Memᴰ}
 use native.Mathlib.Omega.{arith}
 use native.Mathlib.Decide.{dec_lt, ℕ_discrete}
-use lib.Dec.{leb}
-use lib.ListN.{length, get_or-eq_default}
+use borrow.Author.Tests.{eq-eqb, ne_eqb}
+use lib.Dec.{leb, eqb}
+use lib.ListN.{length, get_or, get_or-eq_default}
+use Rattle.std.specs.List.{between}
+use Rattle.std.specs.Prelude.{Option as Maybe, slice_get}
+use Rattle.std.specs.Option.{option_map}
+use Rattle.std.proofs.lemmas.List.{nil_from_length}
+use Rattle.std.proofs.lemmas.List.Edits.{length-between}
 use Rattle.node.specs.Node.{alone}
 use Rattle.node.specs.declared.Node.{Node}
 use Rattle.ring.specs.Ring.{listed}
 use Rattle.plans.specs.Plan.{Plan}
 use Rattle.model.specs.Platform.{InFlight, State, alive, node_of, crashed_list}
 use Rattle.plans.specs.Plain.{row_at, Plain}
+use Rattle.store.specs.declared.Flight.{Flight}
 use Rattle.store.specs.Store.{plan_in, state_in}
 use Rattle.store.specs.Inside.{with_flight}
 use Rattle.event.specs.Search.{crash_tick, timer_tick}
-use Rattle.event.proofs.Searching.{crashes-over, crash-first, live_of, dead-of, timer-none, timer-sooner, timer-later}
-use Rattle.queue.specs.declared.Row.{Row}
-use Rattle.queue.specs.Rows.{row_at as queue_row}
+use Rattle.event.proofs.Searching.{crashes-over, crash-first, live_of, dead-of, timer-none, timer-min}
+use Rattle.queue.specs.Rows.{nothing}
 use Rattle.queue.specs.Order.{insert_before, ordered, Every, From, Rising}
-use Rattle.queue.specs.Holds.{Holds, Head, packed, due}
+use Rattle.queue.specs.Holds.{Holds, Head, due}
 use Rattle.queue.proofs.Orders.{rising-ordered}
-use Rattle.queue.proofs.Queues.{holds-none, holds-head}
+use Rattle.queue.proofs.Queues.{between_next, holds-none, holds-head}
 use Rattle.course.specs.Apart.{Apart}
-use Rattle.course.specs.Look.{CrashAt, DueAt, Timers, DueNow, TimerAt, Before, SoonerOf, Under}
+use Rattle.course.specs.Look.{CrashAt, DueAt, FirstDue, Timers, DueNow, TimerAt, Before, SoonerOf, Under}
 use Rattle.course.proofs.Parting.{apart-plan, apart-state, apart-done}
 
 -- ---- crashes
@@ -62,11 +68,11 @@ module _ (p : Plan) (s : State) (ms : List InFlight) where
   unfolding with_flight
   timers-none t x h = record { watch = h.watch; heartbeat = h.heartbeat; passed = h.passed }
 
-  timer-any : (t r : ℕ) → TimerAt p (with_flight s ms) t r → TimerAt p s t r
+  timer-any : (t x : ℕ) → TimerAt p (with_flight s ms) t x → TimerAt p s t x
   unfolding with_flight
-  timer-any t r h = record { timers = timers-any t r h.timers; within = h.within; here = h.here }
+  timer-any t x h = record { timers = timers-any t x h.timers; inside = h.inside; live = h.live; due = h.due }
 
-module _ {b q whole : List ℕ} {start end : ℕ} (s : Apart b q start end whole) where
+module _ {b whole : List ℕ} {q : List Flight} {start end : ℕ} (s : Apart b q start end whole) where
   pub whole-crash : Plain (plan_in whole) → (r : ℕ) → r ≡ crash_tick (plan_in b) (state_in b).done → CrashAt (plan_in whole) (state_in whole) r
   whole-crash pl r e = crash-at (plan_in whole) pl (state_in whole) r (e ∙ ap₂ crash_tick (apart-plan s) (apart-done s))
 
@@ -75,9 +81,6 @@ module _ {b q whole : List ℕ} {start end : ℕ} (s : Apart b q start end whole
 
   pub whole-timer : (t r : ℕ) → TimerAt (plan_in b) (state_in b) t r → TimerAt (plan_in whole) (state_in whole) t r
   whole-timer t r h = timer-any (plan_in whole) (state_in whole) [] t r (rw (apart-plan s, apart-state s) at h)
-
-  pub timer-less : (x n : ℕ) → n ≡ (plan_in b).n → x < n → x < (plan_in whole).n
-  timer-less x n e h = omega (arith, ap (λ (p : Plan). p.n) (apart-plan s), e, h)
 
   -- and a run's store has what a look asks for
   pub apart-dead : (dead : ℕ) → dead ≡ crashed_list (plan_in whole) (state_in whole).done → dead ≡ crashed_list (plan_in b) (state_in b).done
@@ -119,29 +122,30 @@ least_first flight m rest e g h =
     let r : Rising due (m ∷ rest) = subst (Rising due) e (rising-ordered due flight) in
     from_member m.due flight (from-ordered m.due flight (subst (From due m.due) (sym e) (omega arith, r.0))) g h
 
-module _ (q : List ℕ) (start end : ℕ) (flight : List InFlight) (h : Holds q start end flight) (never : ℕ) where
-  pub due-none : end ≤ start → DueAt q start end flight never never
-  due-none l =
-      let none : flight ≡ [] = holds-none q start end flight h l in
-      record {
-        within = omega arith;
-        all = λ g m. absurd (Memᴰ.not-nil (subst (Memᴰ g) none m));
-        here = λ k. absurd (omega arith);
-      }
-
-  module _ (l : start < end) (row : Row) (re : row ≡ queue_row q start) where
-    first-least : (g : InFlight) → Memᴰ g flight → row.due ≤ g.due
-    unfolding packed
-    first-least g m =
+module _ (q : List Flight) (start end : ℕ) (flight : List InFlight) (h : Holds q start end flight) where
+  due-first : start < end → DueAt q start end flight (get_or q start nothing).due
+  due-first l = record {
+    all = λ g m.
         let d : Head q start end flight = holds-head q start end flight h l in
-        let e : row.due ≡ d.m.due = ap (λ (z : Row). z.due) (re ∙ d.row) in
-        omega (arith, e, least_first flight d.m d.rest d.order g m)
+        let e : (get_or q start nothing).due ≡ d.m.due = ap (λ (z : InFlight). z.due) d.row in
+        omega (arith, e, least_first flight d.m d.rest d.order g m);
+    less = l;
+    here = refl;
+  }
 
-    pub due-here : row.due < never → DueAt q start end flight never row.due
-    due-here k = record { within = omega arith; all = first-least; here = λ z. (l, sym (ap (λ (w : Row). w.due) re)) }
+  -- as the first of what stands in the queue has it
+  pub first-due : (r : Maybe ℕ) → r ≡ option_map (λ (m : Flight). m.due) (slice_get (between start end q) 0) → FirstDue q start end flight r
+  unfolding FirstDue
+  first-due r e = go (dec_lt start end)
+    where
+      of : (l : List Flight) → between start end q ≡ l → r ≡ option_map (λ (m : Flight). m.due) (slice_get l 0)
+      of l f = e ∙ ap (λ (p : List Flight). option_map (λ (m : Flight). m.due) (slice_get p 0)) f
 
-    pub due-late : never ≤ row.due → DueAt q start end flight never never
-    due-late k = record { within = omega arith; all = λ g m. omega (arith, first-least g m); here = λ z. absurd (omega arith) }
+      go : Dec (start < end) → FirstDue q start end flight r
+      go (yes l) = rw (of _ (between_next q start end l (omega (arith, h.size, h.room)))) (due-first l)
+      go (no n) =
+          let none : between start end q ≡ [] = nil_from_length (between start end q) (omega (arith, length-between q start end (omega (arith, h.size, h.room)))) in
+          rw (of [] none) (holds-none q start end flight h (omega arith))
 
 -- ---- timers
 
@@ -159,10 +163,7 @@ module _ (p : Plan) (s : State) (t : ℕ) where
   passed-less i n h l = record { watch = h.watch; heartbeat = h.heartbeat; passed = λ j k v. h.passed j (omega arith) v }
 
   pub timer-here : (i : ℕ) → Timers p s t i → i < p.n → DueNow p s t i true → TimerAt p s t i
-  timer-here i h l d = record { timers = h; within = omega arith; here = λ k. d.yes refl }
-
-  pub timer-nowhere : (i n : ℕ) → Timers p s t i → n ≡ p.n → n ≤ i → TimerAt p s t n
-  timer-nowhere i n h e l = record { timers = passed-less i n h l; within = omega arith; here = λ k. absurd (omega arith) }
+  timer-here i h l d = record { timers = h; inside = l; live = (d.yes refl).0; due = (d.yes refl).1 }
 
 -- node i as the code looks at it: l is whether it is listed among the dead
 module _ (p : Plan) (pl : Plain p) (s : State) (dead : ℕ) (de : dead ≡ crashed_list p s.done) (i : ℕ) (l : Bool) (le : l ≡ listed dead i) where
@@ -193,43 +194,45 @@ module _ (p : Plan) (pl : Plain p) (s : State) (dead : ℕ) (de : dead ≡ crash
         no = λ z. absurd (let w : ◌≡◌ {A = ℕ} 0 1 = cc in omega arith);
       }
 
-      pub due-beat : a.heartbeat ≡ t + 1 → DueNow p s t i true
-      due-beat k = record {
-        yes = λ z. (is_live h, inr (omega (arith, k, beat-is)));
-        no = λ z. absurd (let w : ◌≡◌ {A = ℕ} 0 1 = cc in omega arith);
-      }
-
-      pub due-not : a.watch ≢ t + 1 → a.heartbeat ≢ t + 1 → DueNow p s t i false
-      due-not k j = record {
-        yes = λ z. absurd (let w : ◌≡◌ {A = ℕ} 0 1 = cc in omega arith);
-        no = λ z v. (λ q. k (omega (arith, q, watch-is)), λ q. j (omega (arith, q, beat-is)));
-      }
+      pub due-beat : a.watch ≢ t + 1 → DueNow p s t i (eqb a.heartbeat (t + 1))
+      due-beat k = go (ℕ_discrete a.heartbeat (t + 1))
+        where
+          go : Dec (a.heartbeat ≡ t + 1) → DueNow p s t i (eqb a.heartbeat (t + 1))
+          go (yes e) =
+              rw (eq-eqb a.heartbeat (t + 1) e)
+              (record {
+                yes = λ z. (is_live h, inr (omega (arith, e, beat-is)));
+                no = λ z. absurd (let w : ◌≡◌ {A = ℕ} 0 1 = cc in omega arith);
+              })
+          go (no j) =
+              rw (ne_eqb a.heartbeat (t + 1) j)
+              (record {
+                yes = λ z. absurd (let w : ◌≡◌ {A = ℕ} 0 1 = cc in omega arith);
+                no = λ z v. (λ q. k (omega (arith, q, watch-is)), λ q. j (omega (arith, q, beat-is)));
+              })
 
 -- ---- the earliest timer
 
 pub timer-le : (t v : ℕ) → timer_tick t v ≤ t
-timer-le t v = go (ℕ_discrete v 0) (dec_lt (v - 1) t)
+timer-le t v = go (ℕ_discrete v 0)
   where
-    go : Dec (v ≡ 0) → Dec (v - 1 < t) → timer_tick t v ≤ t
-    go (yes e) d = omega (arith, timer-none t v e)
-    go (no n) (yes h) = omega (arith, timer-sooner t v (v - 1) n refl h)
-    go (no n) (no h) = omega (arith, timer-later t v (v - 1) n refl (omega arith))
+    go : Dec (v ≡ 0) → timer_tick t v ≤ t
+    go (yes e) = omega (arith, timer-none t v e)
+    go (no n) = omega (arith, timer-min t v n)
 
 pub timer-under : (t v : ℕ) → v ≢ 0 → timer_tick t v < v
-timer-under t v n = go (dec_lt (v - 1) t) (ℕ_discrete v 0)
+timer-under t v n = go (ℕ_discrete v 0)
   where
-    go : Dec (v - 1 < t) → Dec (v ≡ 0) → timer_tick t v < v
-    go d (yes e) = absurd (n e)
-    go (yes h) (no z) = omega (arith, timer-sooner t v (v - 1) n refl h)
-    go (no h) (no z) = omega (arith, timer-later t v (v - 1) n refl (omega arith))
+    go : Dec (v ≡ 0) → timer_tick t v < v
+    go (yes e) = absurd (n e)
+    go (no z) = omega (arith, timer-min t v n)
 
 timer-above : (t l v : ℕ) → t < l → (v ≢ 0 → suc t < v) → t < timer_tick l v
-timer-above t l v h f = go (ℕ_discrete v 0) (dec_lt (v - 1) l)
+timer-above t l v h f = go (ℕ_discrete v 0)
   where
-    go : Dec (v ≡ 0) → Dec (v - 1 < l) → t < timer_tick l v
-    go (yes e) d = omega (arith, timer-none l v e)
-    go (no n) (yes k) = omega (arith, timer-sooner l v (v - 1) n refl k, f n)
-    go (no n) (no k) = omega (arith, timer-later l v (v - 1) n refl (omega arith))
+    go : Dec (v ≡ 0) → t < timer_tick l v
+    go (yes e) = omega (arith, timer-none l v e)
+    go (no n) = omega (arith, timer-min l v n, f n)
 
 module _
     (p : Plan)

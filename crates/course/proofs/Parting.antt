@@ -1,10 +1,11 @@
 -- A store and a queue that stand for a whole store: what the store has, and what stands after each change of both. Assumes nothing.
-use Prim.Native.Nat.{ℕ, suc, ◌+◌, ◌^◌, ◌≤◌, ◌<◌}
+use Prim.Native.Nat.{ℕ, suc, ◌+◌, ◌-◌, ◌^◌, ◌≤◌, ◌<◌}
 use mathlib.Core.Path.{◌≡◌, refl, sym, ap, ap₂, subst, ◌∙◌}
 use mathlib.Core.Bool.{true}
 use mathlib.Core.List.{List, [], ◌∷◌, ◌++◌}
 use native.Mathlib.Omega.{arith}
-use lib.ListN.{length, get_or, take}
+use lib.ListN.{length, get_or, take, drop}
+use Rattle.std.proofs.lemmas.List.{length-take-le, get_or-take}
 use Rattle.node.specs.declared.Node.{Node}
 use Rattle.node.specs.declared.Message.{Message}
 use Rattle.node.specs.declared.Turned.{Turned}
@@ -12,8 +13,9 @@ use Rattle.node.specs.Node.{alone}
 use Rattle.limits.specs.Limits.{most_sent}
 use Rattle.plans.specs.Plan.{Plan, plan_test}
 use Rattle.model.specs.Platform.{InFlight, State, node_of}
+use Rattle.store.specs.declared.Flight.{Flight}
 use Rattle.store.specs.Store.{encode, plan_in, state_in}
-use Rattle.store.specs.Inside.{SmallNode, Fits, Held, with_flight, with_tick, with_node, number_taken}
+use Rattle.store.specs.Inside.{SmallNode, Fits, Held, with_flight, with_tick, with_node, number_taken, message_of}
 use Rattle.store.proofs.Store.{plan-encode, state-encode, held-encode}
 use Rattle.store.proofs.States.{tick-fits, node-fits}
 use Rattle.event.specs.Event.{Turns, sending, sends_left, turn_left}
@@ -21,16 +23,18 @@ use Rattle.event.specs.Ready.{Ready}
 use Rattle.event.specs.Acting.{Acting, stamped, joined}
 use Rattle.event.proofs.Readiness.{ready-acting}
 use Rattle.event.proofs.Turning.{Sending, sending-more, sending-starts, sending-test, sending-number, sending-next, moved-turns, turn-taken}
-use Rattle.queue.specs.declared.Row.{Row}
-use Rattle.queue.specs.Rows.{places, Open, Placed}
-use Rattle.queue.specs.Holds.{Holds, packed}
-use Rattle.queue.proofs.Queues.{holds-open, holds-push}
+use Rattle.queue.specs.Order.{insert_after, Rising}
+use Rattle.queue.specs.Rows.{places, key_of}
+use Rattle.queue.specs.declared.Key.TheVariants.{Due}
+use Rattle.queue.specs.Holds.{Holds}
+use Rattle.queue.proofs.Queues.{holds-free, holds-rising, holds-push}
+use borrow.Rule.Slice.PartMut.{put_mid}
 use Rattle.course.specs.Apart.{Apart, Sends}
 use Rattle.course.proofs.Flights.{bare-held, bare-plan, bare-state, bare-encode}
 
 -- ---- what the store has of the whole one
 
-module _ {b q whole : List ℕ} {start end : ℕ} (s : Apart b q start end whole) where
+module _ {b whole : List ℕ} {q : List Flight} {start end : ℕ} (s : Apart b q start end whole) where
   pub apart-held : Held b
   apart-held = rw s.is (bare-held whole s.held)
 
@@ -71,7 +75,8 @@ module _
     (f : State → State)
     (over : (s : State) (ms : List InFlight) → f (with_flight s ms) ≡ with_flight (f s) ms)
     (same : (s : State) → (f s).flight ≡ s.flight)
-    {b q whole : List ℕ}
+    {b whole : List ℕ}
+    {q : List Flight}
     {start end : ℕ}
     (s : Apart b q start end whole)
     (fits : Fits (plan_in whole) (f (state_in whole))) where
@@ -102,22 +107,30 @@ module _ (whole : List ℕ) (t x : ℕ) (u : Turned) where
   store_at i = encode (plan_in whole) (state_at i)
 
   -- the first i messages are sent
-  pub record Sent (start end i : ℕ) (b q : List ℕ) : Type 0 where
+  pub record Sent (start end i : ℕ) (b : List ℕ) (q : List Flight) : Type 0 where
     pub fits : Fits (plan_in whole) (state_at i)
     pub apart : Apart b q start (end + i) (store_at i)
 
-  pub sent-starts : (start end : ℕ) (b q : List ℕ) → Apart b q start end whole → Sent start end 0 b q
+  pub sent-starts : (start end : ℕ) (b : List ℕ) (q : List Flight) → Apart b q start end whole → Sent start end 0 b q
   sent-starts start end b q s =
       let h : Sending whole t x u.sent 0 whole = sending-starts whole t x u s.held in
       let z : end ≡ end + 0 = omega arith in
       record { fits = h.fits; apart = subst (Apart b q start (end + 0)) h.is (subst (λ (e : ℕ). Apart b q start e whole) z s) }
 
   -- all are sent
-  pub sent-all : (start end i : ℕ) (b q : List ℕ) → Sent start end i b q → i ≡ u.count
+  pub sent-all : (start end i : ℕ) (b : List ℕ) (q : List Flight) → Sent start end i b q → i ≡ u.count
       → Apart b q start (end + u.count) (sends_left whole t x u)
   sent-all start end i b q s e = subst (λ (k : ℕ). Apart b q start (end + k) (store_at k)) e s.apart
 
-  module _ (r : Turns whole t x u) (start end i : ℕ) (b q : List ℕ) (s : Sent start end i b q) where
+  -- what is read as the turn's messages
+  module _ (r : Turns whole t x u) (ms : List Message) (me : ms ≡ take u.count u.sent) where
+    pub messages-count : length ms ≡ u.count
+    messages-count = ap length me ∙ length-take-le u.count u.sent (omega (arith, r.few, r.full))
+
+    pub message-is : (i : ℕ) (z : Message) → i < length ms → get_or ms i z ≡ get_or u.sent i z
+    message-is i z h = ap (λ (l : List Message). get_or l i z) me ∙ get_or-take u.count u.sent i z (omega (arith, h, messages-count))
+
+  module _ (r : Turns whole t x u) (start end i : ℕ) (b : List ℕ) (q : List Flight) (s : Sent start end i b q) where
     going : Sending whole t x u.sent i (store_at i)
     going = record { is = refl; fits = s.fits }
 
@@ -128,15 +141,22 @@ module _ (whole : List ℕ) (t x : ℕ) (u : Turned) where
       pub sent-number : (state_in b).next + 1 < 256 ^ 8
       sent-number = rw (apart_next s.apart) (sending-number whole t x u r i (store_at i) going less)
 
-      pub sent-open : end + most_sent ≤ places → Open q 0 start (end + i)
-      sent-open room = holds-open q start (end + i) (state_in (store_at i)).flight s.apart.holds (omega (arith, r.few))
+      sent-room : end + most_sent ≤ places → end + i < places
+      sent-room room = omega (arith, r.few)
 
-      -- message m, read from the turn's messages, is stamped, and its row is put into the queue
+      pub sent-free : end + most_sent ≤ places → 0 < length (take (end + i + 1 - start) (drop start q))
+      sent-free room = holds-free q start (end + i) (state_in (store_at i)).flight s.apart.holds (sent-room room)
+
+      pub sent-rising : end + most_sent ≤ places
+          → Rising (key_of Due) (take (length (take (end + i + 1 - start) (drop start q)) - 1) (take (end + i + 1 - start) (drop start q)))
+      sent-rising room = holds-rising q start (end + i) (state_in (store_at i)).flight s.apart.holds (sent-room room)
+
+      -- message m, read from the turn's messages, is stamped, and put into the queue
       module _
           (z m : Message)
           (is : m ≡ get_or u.sent i z)
-          (f : InFlight)
-          (fe : f ≡ stamped (plan_in b) (state_in b).next t x m) where
+          (f : Flight)
+          (fe : message_of f ≡ stamped (plan_in b) (state_in b).next t x m) where
         abbrev M : InFlight
         M = stamped (plan_in whole) (state_at i).next t x m
 
@@ -149,7 +169,7 @@ module _ (whole : List ℕ) (t x : ℕ) (u : Turned) where
         state-is : state_in b ≡ with_flight (state_at i) []
         state-is = apart-state s.apart ∙ ap (λ (y : State). with_flight y []) whole_is
 
-        stamp-is : f ≡ M
+        stamp-is : message_of f ≡ M
         unfolding with_flight
         stamp-is = fe ∙ ap₂ (λ (p : Plan) (y : State). stamped p y.next t x m) plan-is state-is
 
@@ -173,14 +193,14 @@ module _ (whole : List ℕ) (t x : ℕ) (u : Turned) where
             ∙ ap (λ (y : State). y.flight) (more ∙ sym (state-encode (plan_in whole) (state_at (i + 1)) more-fits))
 
         module _
-            (row : Row)
-            (re : row ≡ packed f)
             (room : end + most_sent ≤ places)
-            (b' q' : List ℕ)
+            (b' : List ℕ)
+            (q' : List Flight)
             (e : b' ≡ encode (plan_in b) (number_taken (state_in b)))
-            (pl : Placed q 0 start (end + i) row q') where
-          placed : Placed q 0 start (end + i) (packed M) q'
-          placed = subst (λ (y : Row). Placed q 0 start (end + i) y q') (re ∙ ap packed stamp-is) pl
+            (pl : q' ≡ put_mid start (end + i + 1 - start) q
+            (insert_after (key_of Due) f (take (length (take (end + i + 1 - start) (drop start q)) - 1) (take (end + i + 1 - start) (drop start q))))) where
+          queue-more : (state_in (store_at i)).flight ++ (message_of f ∷ []) ≡ (state_in (store_at (i + 1))).flight
+          queue-more = ap (λ (y : InFlight). (state_in (store_at i)).flight ++ (y ∷ [])) stamp-is ∙ more-flight
 
           sent-apart : Apart b' q' start (suc (end + i)) (store_at (i + 1))
           sent-apart = record {
@@ -191,8 +211,8 @@ module _ (whole : List ℕ) (t x : ℕ) (u : Turned) where
                 ∙ (ap (encode (plan_in whole)) (taken-bare ∙ ap (λ (y : State). with_flight y []) more)
                 ∙ sym (bare-encode (plan_in whole) (state_at (i + 1)) more-fits)));
             holds =
-                subst (Holds q' start (suc (end + i))) more-flight
-                (holds-push q q' start (end + i) (state_in (store_at i)).flight M s.apart.holds (omega (arith, r.few)) placed);
+                subst (Holds q' start (suc (end + i))) queue-more
+                (holds-push q start (end + i) (state_in (store_at i)).flight s.apart.holds (sent-room room) f q' pl);
           }
 
           pub sent-turn : Sent start end (i + 1) b' q'
@@ -219,7 +239,8 @@ module _ (t x : ℕ) (a : Node) where
   moved-fits p s f h l k = node-fits p (with_tick s t) (tick-fits p s f t h) x a l k
 
 module _
-    (b q : List ℕ)
+    (b : List ℕ)
+    (q : List Flight)
     (start end t x : ℕ)
     (u : Turned)
     (whole : List ℕ)
@@ -243,7 +264,7 @@ module _
     pub turn-turns : Turns Moved t x u
     turn-turns = moved-turns whole t x u r Moved refl
 
-    pub turn-over : (b' q' : List ℕ) → Sends d q start end t x u b' q' → Apart b' q' start (end + u.count) (turn_left whole t x u)
+    pub turn-over : (b' : List ℕ) (q' : List Flight) → Sends d q start end t x u b' q' → Apart b' q' start (end + u.count) (turn_left whole t x u)
     turn-over b' q' h =
         subst (Apart b' q' start (end + u.count)) (turn-taken whole t x u r Moved refl (sends_left Moved t x u) refl)
         (h Moved turn_moved turn-turns)

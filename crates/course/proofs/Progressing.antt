@@ -12,6 +12,7 @@ use Rattle.node.specs.declared.Node.{Node}
 use Rattle.node.specs.Node.{alone}
 use Rattle.plans.specs.Plan.{Plan}
 use Rattle.model.specs.Platform.{State, alive, node_of}
+use Rattle.store.specs.declared.Flight.{Flight}
 use Rattle.store.specs.Store.{state_in}
 use Rattle.event.specs.Search.{timer_tick}
 use Rattle.queue.proofs.Queues.{holds-count}
@@ -55,12 +56,12 @@ module _ (c : Progress) (count : ℕ) (a : Node) (w b : ℕ) (we : w ≡ timer_t
   later_same h = later-at c.x (omega arith) (λ k. absurd (omega arith))
 
 -- what a turn leaves, in the places of the queue after it
-pub later-apart : (b q : List ℕ) (c d : Progress) (count : ℕ) (a : Node) (whole : List ℕ) → Later c d count a
+pub later-apart : (b : List ℕ) (q : List Flight) (c d : Progress) (count : ℕ) (a : Node) (whole : List ℕ) → Later c d count a
     → Apart b q c.start (c.end + count) whole → Apart b q d.start d.end whole
 later-apart b q c d count a whole l s =
     subst (λ (k : ℕ). Apart b q k d.end whole) (sym l.start) (subst (λ (k : ℕ). Apart b q c.start k whole) (sym l.end) s)
 
-pub apart-count : (b q : List ℕ) (start end : ℕ) (whole : List ℕ) → Apart b q start end whole → length (state_in whole).flight ≡ end - start
+pub apart-count : (b : List ℕ) (q : List Flight) (start end : ℕ) (whole : List ℕ) → Apart b q start end whole → length (state_in whole).flight ≡ end - start
 apart-count b q start end whole s = holds-count q start end (state_in whole).flight s.holds
 
 -- ---- timers after a turn of node y

@@ -2,6 +2,7 @@
 use Rattle.std.specs.Prelude.{List, ℕ, suc, ◌+◌, ◌≤◌}
 use Rattle.limits.specs.Limits.{most_sent}
 use Rattle.model.specs.Range.{NotBefore}
+use Rattle.store.specs.declared.Flight.{Flight}
 use Rattle.store.specs.Store.{plan_in, state_in}
 use Rattle.queue.specs.Rows.{places}
 use Rattle.course.specs.declared.Progress.{Progress}
@@ -12,7 +13,7 @@ pub record Quiet (c : Progress) (whole : List ℕ) : Type 0 where
   pub late : NotBefore (plan_in whole) (state_in whole) (suc c.bound) (suc c.bound) c.bound
   pub tick : c.bound ≤ (plan_in whole).end
 
-pub record Waiting (b q : List ℕ) (c : Progress) : Type 0 where
+pub record Waiting (b : List ℕ) (q : List Flight) (c : Progress) : Type 0 where
   pub whole : List ℕ
   pub underway : Underway b q c whole
   pub quiet : Quiet c whole

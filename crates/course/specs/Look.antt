@@ -1,10 +1,11 @@
 -- What a look for the next event finds: the next crash, the earliest message, the timers. Assumes nothing.
-use Rattle.std.specs.Prelude.{Bool, true, false, ◌⊎◌, ◌≢◌, ◌≡◌, ℕ, suc, ◌≤◌, ◌<◌, length}
-use mathlib.Core.List.{List, Memᴰ}
+use Rattle.std.specs.Prelude.{Option as Maybe, Some, None, Bool, true, false, ◌⊎◌, ◌≢◌, ◌≡◌, ℕ, suc, ◌≤◌, ◌<◌, length, get_or}
+use mathlib.Core.List.{List, [], Memᴰ}
 use Rattle.plans.specs.Plan.{Plan}
 use Rattle.model.specs.Platform.{InFlight, State, alive, node_of}
 use Rattle.plans.specs.Plain.{row_at}
-use Rattle.queue.specs.Rows.{row_at as queue_row}
+use Rattle.store.specs.declared.Flight.{Flight}
+use Rattle.queue.specs.Rows.{nothing}
 
 -- r is the tick of the first crash that is not done, or the one after the end tick
 pub record CrashAt (p : Plan) (s : State) (r : ℕ) : Type 0 where
@@ -12,11 +13,16 @@ pub record CrashAt (p : Plan) (s : State) (r : ℕ) : Type 0 where
   pub all : (i : ℕ) → s.done ≤ i → i < length p.crashes → r ≤ (row_at p i).tick
   pub here : r ≤ p.end → (s.done < length p.crashes) × ((row_at p s.done).tick ≡ r)
 
--- r is the tick of the first message, or `never` where none is due before that
-pub record DueAt (q : List ℕ) (start end : ℕ) (flight : List InFlight) (never r : ℕ) : Type 0 where
-  pub within : r ≤ never
+-- r is the tick of the first message
+pub record DueAt (q : List Flight) (start end : ℕ) (flight : List InFlight) (r : ℕ) : Type 0 where
   pub all : (g : InFlight) → Memᴰ g flight → r ≤ g.due
-  pub here : r < never → (start < end) × ((queue_row q start).due ≡ r)
+  pub less : start < end
+  pub here : (get_or q start nothing).due ≡ r
+
+-- if there is one
+unfoldable pub FirstDue : List Flight → (start end : ℕ) → List InFlight → Maybe ℕ → Type 0
+FirstDue q start end flight (Some r) = DueAt q start end flight r
+FirstDue q start end flight None = flight ≡ []
 
 -- ---- timers: a timer is 0, or one more than its tick
 
@@ -31,11 +37,17 @@ pub record DueNow (p : Plan) (s : State) (t i : ℕ) (r : Bool) : Type 0 where
   pub yes : r ≡ true → (alive p s.done i ≡ true) × (((node_of s i).watch ≡ suc t) ⊎ ((node_of s i).heartbeat ≡ suc t))
   pub no : r ≡ false → alive p s.done i ≡ true → ((node_of s i).watch ≢ suc t) × ((node_of s i).heartbeat ≢ suc t)
 
--- none is due before node r, which has one that is, or none is left
-pub record TimerAt (p : Plan) (s : State) (t r : ℕ) : Type 0 where
-  pub timers : Timers p s t r
-  pub within : r ≤ p.n
-  pub here : r < p.n → (alive p s.done r ≡ true) × (((node_of s r).watch ≡ suc t) ⊎ ((node_of s r).heartbeat ≡ suc t))
+-- node x has a timer that is due at tick t, and none before it has
+pub record TimerAt (p : Plan) (s : State) (t x : ℕ) : Type 0 where
+  pub timers : Timers p s t x
+  pub inside : x < p.n
+  pub live : alive p s.done x ≡ true
+  pub due : ((node_of s x).watch ≡ suc t) ⊎ ((node_of s x).heartbeat ≡ suc t)
+
+-- the first such node, if there is one
+unfoldable pub FirstTimer : Plan → State → ℕ → Maybe ℕ → Type 0
+FirstTimer p s t (Some x) = TimerAt p s t x
+FirstTimer p s t None = Timers p s t p.n
 
 -- tick t is before those of live node i's timers
 pub record Before (p : Plan) (s : State) (i t : ℕ) : Type 0 where

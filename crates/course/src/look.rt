@@ -3,25 +3,19 @@ ghost use Rattle.std.specs.Prelude.{List, ◌≡◌, ◌≤◌, ◌<◌};
 ghost use Rattle.model.specs.Platform.{InFlight, crashed_list};
 ghost use Rattle.store.specs.Store.{plan_in, state_in};
 ghost use Rattle.event.specs.Acting.{Acting};
+ghost use Rattle.store.specs.declared.Flight.{Flight};
 ghost use Rattle.queue.specs.Holds.{Holds};
-ghost use Rattle.course.specs.Look.{DueAt, Timers, DueNow, TimerAt, SoonerOf};
+ghost use Rattle.course.specs.Look.{FirstDue, Timers, DueNow, FirstTimer, SoonerOf};
 
 use event::search;
-use store::{nodes, plan};
+use store::{Flight, nodes, plan};
 
-// The tick of the first message of a queue, or `never` where none is due before that.
-pub fn message_tick(q: &[u64], start: usize, end: usize, never: u32) -> u32
+// The tick of the first message of a queue, if there is one.
+pub fn message_tick(q: &[Flight], start: usize, end: usize) -> Option<u32>
     requires { (flight : List InFlight) × Holds q.now start end flight }
-    ensures { (flight : List InFlight) → Holds q.now start end flight → DueAt q.now start end flight never result }
+    ensures { (flight : List InFlight) → Holds q.now start end flight → FirstDue q.now start end flight result }
 {
-    if end <= start {
-        return never;
-    }
-    let m = queue::row_at(q, start);
-    if m.due < never as u64 {
-        return m.due as u32;
-    }
-    never
+    q[start..end].first().map(|m| m.due)
 }
 
 // Whether a timer of node i is due at tick t, where it is live.
@@ -36,32 +30,24 @@ fn is_due(b: &[u8], dead: u64, t: u32, i: usize) -> bool
         return false;
     }
     let a = nodes::node_at(b, i);
-    if a.watch == t + 1 {
-        return true;
-    }
-    if a.heartbeat == t + 1 {
-        return true;
-    }
-    false
+    a.watch == t + 1 || a.heartbeat == t + 1
 }
 
-// The first node from x on with a timer that is due at tick t, or how many nodes there are.
-pub fn timer_node(b: &[u8], dead: u64, t: u32, x: usize) -> usize
+// The first node from x on with a timer that is due at tick t, if there is one.
+pub fn timer_node(b: &[u8], dead: u64, t: u32, x: usize) -> Option<usize>
     requires acting { Acting b.now }
     requires dead_value { dead ≡ crashed_list (plan_in b.now) (state_in b.now).done }
     requires t_bound { t ≤ (plan_in b.now).end }
     requires timers { Timers (plan_in b.now) (state_in b.now) t x }
-    ensures { TimerAt (plan_in b.now) (state_in b.now) t result }
+    ensures { FirstTimer (plan_in b.now) (state_in b.now) t result }
 {
     let n = plan::node_count(b);
-    let mut i = x;
-    while i < n {
+    for i in x..n {
         if is_due(b, dead, t, i) {
-            return i;
+            return Some(i);
         }
-        i += 1;
     }
-    n
+    None
 }
 
 // The earliest of `least` and the ticks of node i's timers, where it is live.
@@ -89,10 +75,8 @@ pub fn least_timer(b: &[u8], dead: u64, t: u32) -> u32
 {
     let n = plan::node_count(b);
     let mut least = plan::end_tick(b) + 1;
-    let mut i: usize = 0;
-    while i < n {
+    for i in 0..n {
         least = sooner_of(b, dead, i, least);
-        i += 1;
     }
     least
 }

@@ -1,14 +1,15 @@
 // A turn taken or refused, and how far the run is after it.
 ghost use Rattle.std.specs.Prelude.{◌+◌, ◌≤◌};
+ghost use Rattle.store.specs.declared.Flight.{Flight};
 ghost use Rattle.queue.specs.Rows.{places};
 ghost use Rattle.limits.specs.Limits.{most_sent};
 ghost use Rattle.course.specs.Progress.{Settling, Settled, Later};
 
-use crate::{Progress, Step, turn};
+use crate::{Progress, turn};
 use event::search;
-use model::Deed;
+use limits::{MOST_IN_FLIGHT, Refusal};
 use node::{Node, Turned};
-use store::layout;
+use store::Flight;
 
 // How far the run is after a turn that sent `count` messages and left node a.
 fn later(c: Progress, count: usize, a: Node) -> Progress
@@ -17,42 +18,31 @@ fn later(c: Progress, count: usize, a: Node) -> Progress
 {
     let watch = search::earlier_timer(c.bound, a.watch);
     let bound = search::earlier_timer(watch, a.heartbeat);
-    if bound < c.bound {
-        return Progress {
-            start: c.start,
-            end: c.end + count,
-            dead: c.dead,
-            bound,
-            x: 0,
-        };
-    }
+    let x = if bound < c.bound { 0 } else { c.x };
     Progress {
-        start: c.start,
         end: c.end + count,
-        dead: c.dead,
         bound,
-        x: c.x,
+        x,
+        ..c
     }
 }
 
-// Node y takes its turn at tick t, where the event's deed is given, unless too many messages would be in flight.
+// Node y takes its turn at tick t, unless too many messages would be in flight.
 pub fn settle(
     b: &mut [u8],
-    q: &mut [u64],
-    c: Progress,
+    q: &mut [Flight],
+    c: &mut Progress,
     t: u32,
     y: u8,
     u: Turned,
-    deed: Deed,
-) -> Step
-    requires { Settling b.old q.old c t y u }
-    ensures { Settled b.old q.old c t y u deed result b.new q.new }
+) -> Result<(), Refusal>
+    requires { Settling b.old q.old c.old t y u }
+    ensures { Settled b.old q.old c.old t y u result b.new q.new c.new }
 {
-    let start = c.start;
-    let end = c.end;
-    if layout::MOST_IN_FLIGHT < end - start + u.count {
-        return Step::Refused;
+    if MOST_IN_FLIGHT < c.end - c.start + u.count {
+        return Err(Refusal::TooMany);
     }
-    turn::take_turn(b, q, start, end, t, y, u);
-    Step::Did(later(c, u.count, u.node), deed)
+    turn::take_turn(b, q, c.start, c.end, t, y, u);
+    *c = later(*c, u.count, u.node);
+    Ok(())
 }

@@ -4,13 +4,17 @@ use mathlib.Core.Logic.{◌≢◌, ◌⊎◌, inl, inr}
 use mathlib.Core.Bool.{Bool, true, false, true≢false, cond, not, ◌&&◌, ◌||◌}
 use mathlib.Mathlib.Data.Bool.Basic.{or-eq-false-eq-eq-false-and-eq-false}
 use mathlib.Core.List.{List, [], ◌∷◌}
-use mathlib.Core.Option.{Option, none, some}
+use mathlib.Core.Option.{Option as Maybe, none, some}
 use Prim.Native.Nat.{ℕ, zero, suc, ◌%◌, ◌^◌, ◌≤◌, ◌<◌}
 use native.Mathlib.Omega.{arith}
 use borrow.Author.Tests.{ltb-true, ltb-false, lt-ltb, le-ltb, le-leb, lt-leb, eqb-false, ne_eqb, not-false}
 use lib.Dec.{eqb, leb, ltb}
 use lib.ListN.{length}
+use Rattle.std.specs.Prelude.{Option, Some, None, Result, Ok, Err}
 use Rattle.limits.specs.Limits.{most_nodes, most_in_flight, record_size, store_size}
+use Rattle.limits.specs.declared.Refusal.{Refusal}
+use Rattle.limits.specs.declared.Refusal.TheVariants.{BadLength, BadForm, OutOfRange, BadStore, ShortPart, BadPart, BadTurn}
+use Rattle.limits.specs.Refusals.{number_of, answer_of}
 use Rattle.ring.specs.Ring.{each_once, table_answer}
 use Rattle.text.specs.Put.{put}
 use Rattle.plans.specs.Plan.{Plan, start_plan, within as between, start_ranges, ring_test, crash_test, every, crash_order, rising, none_twice, delay_test}
@@ -20,9 +24,7 @@ use Rattle.runfile.specs.File.{FileAnswer, accepted as accepted_file, turned_dow
 use Rattle.runfile.proofs.RoundTrip.{read_back}
 use Rattle.runfile.proofs.Refusals.{refusal-small}
 use Rattle.logline.specs.declared.Line.{Line}
-use Rattle.logline.specs.declared.Read.TheVariants.{Accepted as Read, Refused as Unread}
-use Rattle.logline.specs.declared.Written.TheVariants.{Bytes as Put, Refused as Unput}
-use Rattle.logline.specs.Line.{Ranges, up_to, unknown, ranges, within, read_of, line_text, written_in, written_of, holds, out_of}
+use Rattle.logline.specs.Line.{ranges, within, read_of, line_text, written_in, written_of, holds, out_of}
 use Rattle.logline.proofs.LineTrip.{read-trip, text-accepted, refused-number}
 use Rattle.model.specs.Platform.{State, start, Entry, Outcome, did, ended, refused, Ending, spent, finished, overfull as overfull_run}
 use Rattle.model.specs.Platform.{next_event, apply, fits, tried, try, left, steps, event_count, run_answer}
@@ -33,27 +35,25 @@ use Rattle.host.specs.Record.{openable, sound}
 use Rattle.host.proofs.Range.{opened-in-range, deliver-stays, timers-stay}
 use Rattle.node.specs.Node.{Turn}
 use Rattle.store.specs.Store.{encode, plan_in, state_in, store_in_range}
-use Rattle.platform.specs.declared.Opened.{Opened}
-use Rattle.platform.specs.declared.Opened.TheVariants.{Ready, Refused as Unopened}
+use Rattle.runfile.specs.declared.FileRefusal.{FileRefusal}
 use Rattle.platform.specs.declared.Stepped.{Stepped}
-use Rattle.platform.specs.declared.Stepped.TheVariants.{Did, Done, Refused as Unstepped}
+use Rattle.platform.specs.declared.Stepped.TheVariants.{Did, Done}
 use Rattle.platform.specs.declared.Ran.{Ran}
-use Rattle.platform.specs.declared.Ran.TheVariants.{Done as Finished, Spent, Refused as Unrun}
-use Rattle.platform.specs.declared.Wrote.{Wrote}
-use Rattle.platform.specs.declared.Wrote.TheVariants.{Bytes, Refused as Unwritten}
+use Rattle.platform.specs.declared.Ran.TheVariants.{Done as Finished, Spent}
+use Rattle.platform.specs.declared.RunRefusal.{RunRefusal}
 use Rattle.platform.specs.Calls.{AfterOpen, AfterStep, AfterRun, AfterWrite, open_plan, open_answer as file_answer, open_file, step_outcome}
-use Rattle.platform.specs.Calls.{step, ran, run_state, run, write_file, open_refusal, step_refusal, run_refusal, events_done, write_refusal}
+use Rattle.platform.specs.Calls.{step, ran, run_state, run, write_file, open_refusal, run_refusal, events_done}
 use Rattle.platform.proofs.Stores.{ran-done}
 use Rattle.platform.proofs.Opening.{opening-small}
 use Rattle.dispatcher.specs.declared.Dispatched.{Dispatched}
-use Rattle.dispatcher.specs.Dispatch.{AfterDispatch, given, gave, refused as refused_part, turned_down as turned_down_part, part_in_range, dispatch}
+use Rattle.dispatcher.specs.Dispatch.{AfterDispatch, gave, turned_down as turned_down_part, part_in_range, dispatch}
 use Rattle.planner.specs.Answers.{number_and_line, step_letter, step_tick, step_node, step_other, step_size, run_events, run_spent, write_size}
 use Rattle.planner.specs.Answers.{dispatch_turns, dispatch_events, dispatch_stopped}
 use Rattle.demands.specs.Demands.{Place, place, first_broken, TurnsDown, file_number, open_places, overfull_by, overfull, step_places, stopped}
 use Rattle.demands.specs.Demands.{run_places, KeepsEarlier, write_places, dispatch_places}
 use Rattle.demands.specs.Nodes.{NodeCall, deliver, timers, leaves}
 use Rattle.demands.specs.Demands.{RecordCall, record_after_all, record_places, deliver_places, timers_places}
-use Rattle.demands.specs.Demands.{letter_unknown, outside, line_places, line_refusal, table_places, NeverFour}
+use Rattle.demands.specs.Demands.{letter_unknown, outside, line_places, table_places, NeverFour}
 
 -- ---- tests
 
@@ -91,7 +91,7 @@ module _ (p : Plan) where
   unfolding is_refused try tried fits overfull overfull_by
   refused-overfull s = go (next_event p s)
     where
-      go : (o : Option Entry) → is_refused (tried p s o) ≡ overfull_by p s o
+      go : (o : Maybe Entry) → is_refused (tried p s o) ≡ overfull_by p s o
       go none = refl
       go (some e) =
           let count : ℕ = length (apply p s e.tick e.event).flight in
@@ -106,7 +106,7 @@ module _ (p : Plan) where
   unfolding is_overfull is_refused run_answer stopped event_count steps left
   overfull-stopped zero s = go (next_event p s)
     where
-      go : (o : Option Entry) → is_overfull (elim o [ none ↦ finished | some e ↦ spent ]) ≡ false
+      go : (o : Maybe Entry) → is_overfull (elim o [ none ↦ finished | some e ↦ spent ]) ≡ false
       go none = refl
       go (some e) = refl
   overfull-stopped (suc k) s = go (try p s) refl (overfull-stopped k)
@@ -123,15 +123,15 @@ module _ (p : Plan) where
       go ended q ih = standing ended q refl
       go refused q ih = standing refused q refl
 
-  outcome-down : (s : State) (o : Outcome) (store log : List ℕ) → step_refusal (step_outcome p s o store log).answer ≡ cond (is_refused o) 8 0
-  unfolding step_refusal step_outcome is_refused
+  outcome-down : (s : State) (o : Outcome) (store log : List ℕ) → answer_of (step_outcome p s o store log).answer ≡ cond (is_refused o) 8 0
+  unfolding step_outcome is_refused
   outcome-down s (did e s') store log = refl
   outcome-down s ended store log = refl
   outcome-down s refused store log = refl
 
-  outcome-left : (s : State) (o : Outcome) (store log : List ℕ) → step_refusal (step_outcome p s o store log).answer ≢ 0
+  outcome-left : (s : State) (o : Outcome) (store log : List ℕ) → answer_of (step_outcome p s o store log).answer ≢ 0
       → ((step_outcome p s o store log).store ≡ store) × ((step_outcome p s o store log).log ≡ log)
-  unfolding step_refusal step_outcome
+  unfolding step_outcome
   outcome-left s (did e s') store log h = absurd (h refl)
   outcome-left s ended store log h = absurd (h refl)
   outcome-left s refused store log h = (refl, refl)
@@ -164,7 +164,7 @@ start-taken n h w d end hn hh hw hd he =
       le-leb end 1000000 he,
     ) refl)
 
-pub file-length : (file : List ℕ) → (leb 1 (length file) && leb (length file) 65536) ≡ false → file_of file ≡ turned_down 1 0
+pub file-length : (file : List ℕ) → (leb 1 (length file) && leb (length file) 65536) ≡ false → file_of file ≡ turned_down BadLength 0
 unfolding file_of between
 file-length file e = rw e refl
 
@@ -174,7 +174,8 @@ unfolding open_file file_answer open_plan open_places open_refusal file_number f
 open-down file store = go (file_of file) refl
   where
     tested : (p : Plan) (same : Bool) → AfterOpen
-    tested p same = cond same (record { answer = Ready; store = encode p (start p) }) (record { answer = Unopened 7 0; store = store })
+    tested p same = cond same (record { answer = Ok tt; store = encode p (start p) })
+        (record { answer = Err (record { refusal = BadStore; line = 0 }); store = store })
 
     by : (p : Plan) (same : Bool)
         → TurnsDown (open_refusal (tested p same).answer) (place false 0 ∷ place (not same) 7 ∷ []) ((tested p same).store ≡ store)
@@ -186,14 +187,17 @@ open-down file store = go (file_of file) refl
         (place (not (eqb (file_number a) 0)) (file_number a) ∷ place (not (eqb (length store) store_size)) 7 ∷ [])
         ((file_answer a store).store ≡ store)
     go (accepted_file p) e = by p (eqb (length store) store_size)
-    go (turned_down number line) e = record { first = rw (ne_eqb number 0 (not-zero (refusal-small file number line e).0)) refl; untouched = λ h. refl }
+    go (turned_down refusal line) e = record {
+      first = rw (ne_eqb (number_of refusal) 0 (not-zero (refusal-small file refusal line e).0)) refl;
+      untouched = λ h. refl;
+    }
       where
-        not-zero : 1 ≤ number → number ≡ 0 → ⊥
+        not-zero : 1 ≤ number_of refusal → number_of refusal ≡ 0 → ⊥
         not-zero h z = omega arith
 
 pub step_down : (store log : List ℕ)
-    → TurnsDown (step_refusal (step store log).answer) (step_places store log) (((step store log).store ≡ store) × ((step store log).log ≡ log))
-unfolding step step_places first_broken step_refusal
+    → TurnsDown (answer_of (step store log).answer) (step_places store log) (((step store log).store ≡ store) × ((step store log).log ≡ log))
+unfolding step step_places first_broken
 step_down store log = go (store_in_range store) (ltb (length log) 80)
   where
     p : Plan
@@ -204,11 +208,11 @@ step_down store log = go (store_in_range store) (ltb (length log) 80)
 
     after : Bool → Bool → AfterStep
     after ok short =
-        cond ok (cond short (record { answer = Unstepped 9; store = store; log = log }) (step_outcome p s (try p s) store log))
-        (record { answer = Unstepped 7; store = store; log = log })
+        cond ok (cond short (record { answer = Err ShortPart; store = store; log = log }) (step_outcome p s (try p s) store log))
+        (record { answer = Err BadStore; store = store; log = log })
 
     go : (ok short : Bool)
-        → TurnsDown (step_refusal (after ok short).answer) (place (not ok) 7 ∷ place short 9 ∷ place (overfull p s) 8 ∷ [])
+        → TurnsDown (answer_of (after ok short).answer) (place (not ok) 7 ∷ place short 9 ∷ place (overfull p s) 8 ∷ [])
         (((after ok short).store ≡ store) × ((after ok short).log ≡ log))
     go false short = record { first = refl; untouched = λ h. (refl, refl) }
     go true true = record { first = refl; untouched = λ h. (refl, refl) }
@@ -228,7 +232,7 @@ run_down store budget = go (store_in_range store) refl
     s = state_in store
 
     after : Bool → ℕ → AfterRun
-    after ok n = cond ok (run_state p s n) (record { answer = Unrun 7 0; store = store })
+    after ok n = cond ok (run_state p s n) (record { answer = Err (record { refusal = BadStore; events = 0 }); store = store })
 
     go : (ok : Bool) → store_in_range store ≡ ok
         → TurnsDown (run_refusal (after ok budget).answer) (place (not ok) 7 ∷ place (stopped p s budget) 8 ∷ [])
@@ -244,8 +248,8 @@ unfolding run
 run-bad-store store budget e = rw e
 
 pub write-down : (store out : List ℕ)
-    → TurnsDown (write_refusal (write_file store out).answer) (write_places store out) ((write_file store out).out ≡ out)
-unfolding write_file write_places first_broken write_refusal
+    → TurnsDown (answer_of (write_file store out).answer) (write_places store out) ((write_file store out).out ≡ out)
+unfolding write_file write_places first_broken
 write-down store out = go (store_in_range store) (ltb (length out) 65536)
   where
     text : List ℕ
@@ -253,25 +257,26 @@ write-down store out = go (store_in_range store) (ltb (length out) 65536)
 
     after : Bool → Bool → AfterWrite
     after ok short =
-        cond ok (cond short (record { answer = Unwritten 9; out = out }) (record { answer = Bytes (length text); out = put out 0 text }))
-        (record { answer = Unwritten 7; out = out })
+        cond ok (cond short (record { answer = Err ShortPart; out = out }) (record { answer = Ok (length text); out = put out 0 text }))
+        (record { answer = Err BadStore; out = out })
 
-    go : (ok short : Bool) → TurnsDown (write_refusal (after ok short).answer) (place (not ok) 7 ∷ place short 9 ∷ []) ((after ok short).out ≡ out)
+    go : (ok short : Bool) → TurnsDown (answer_of (after ok short).answer) (place (not ok) 7 ∷ place short 9 ∷ []) ((after ok short).out ≡ out)
     go false short = record { first = refl; untouched = λ h. refl }
     go true true = record { first = refl; untouched = λ h. refl }
     go true false = record { first = refl; untouched = λ h. absurd (h refl) }
 
 pub dispatch-down : (part : List ℕ) (turn_length turns : ℕ)
-    → TurnsDown (dispatch part turn_length turns).answer.number (dispatch_places part turn_length) ((dispatch part turn_length turns).part ≡ part)
-unfolding dispatch between dispatch_places first_broken refused_part gave given
+    → TurnsDown (answer_of (dispatch part turn_length turns).answer) (dispatch_places part turn_length) ((dispatch part turn_length turns).part ≡ part)
+unfolding dispatch between dispatch_places first_broken gave
 dispatch-down part turn_length turns =
     go (leb 1 (length part) && leb (length part) 524288) (leb 1 turn_length && leb turn_length 1000) (part_in_range part)
   where
     after : Bool → Bool → Bool → AfterDispatch
     after few short ok =
-        cond few (cond short (cond ok (gave part turn_length turns) (turned_down_part 7 part)) (turned_down_part 15 part)) (turned_down_part 14 part)
+        cond few (cond short (cond ok (gave part turn_length turns) (turned_down_part BadStore part)) (turned_down_part BadTurn part))
+        (turned_down_part BadPart part)
 
-    go : (few short ok : Bool) → TurnsDown (after few short ok).answer.number (place (not few) 14 ∷ place (not short) 15 ∷ place (not ok) 7 ∷ [])
+    go : (few short ok : Bool) → TurnsDown (answer_of (after few short ok).answer) (place (not few) 14 ∷ place (not short) 15 ∷ place (not ok) 7 ∷ [])
         ((after few short ok).part ≡ part)
     go false short ok = record { first = refl; untouched = λ h. refl }
     go true false ok = record { first = refl; untouched = λ h. refl }
@@ -280,34 +285,35 @@ dispatch-down part turn_length turns =
 
 -- ---- for files, the line; for C, the numbers behind pointers
 
-pub open-line : (file store : List ℕ) (number line : ℕ) → file_of file ≡ turned_down number line
-    → (open_file file store).answer ≡ Unopened number line
+pub open-line : (file store : List ℕ) (refusal : Refusal) (line : ℕ) → file_of file ≡ turned_down refusal line
+    → (open_file file store).answer ≡ Err (record { refusal = refusal; line = line })
 unfolding open_file file_answer
-open-line file store number line e = rw e refl
+open-line file store refusal line e = rw e refl
 
-pub step-numbers : (a : Stepped) (was : ℕ) → step_refusal a ≢ 0
+pub step-numbers : (a : Result Stepped Refusal) (was : ℕ) → answer_of a ≢ 0
     → (step_letter a was ≡ was) × (step_tick a was ≡ was) × (step_node a was ≡ was) × (step_other a was ≡ was) × (step_size a was ≡ was)
-unfolding step_refusal step_letter step_tick step_node step_other step_size
-step-numbers (Did line size) was h = absurd (h refl)
-step-numbers (Done line size) was h = absurd (h refl)
-step-numbers (Unstepped number) was h = (refl, refl, refl, refl, refl)
+unfolding step_letter step_tick step_node step_other step_size
+step-numbers (Ok (Did line size)) was h = absurd (h refl)
+step-numbers (Ok (Done line size)) was h = absurd (h refl)
+step-numbers (Err r) was h = (refl, refl, refl, refl, refl)
 
-pub run-numbers : (a : Ran) (was : ℕ) → run_refusal a ≢ 0
+pub run-numbers : (a : Result Ran RunRefusal) (was : ℕ) → run_refusal a ≢ 0
     → (run_spent a was ≡ was) × (run_events a was ≡ cond (eqb (run_refusal a) 8) (events_done a) was)
 unfolding run_refusal run_spent run_events events_done
-run-numbers (Finished n) was h = absurd (h refl)
-run-numbers (Spent n) was h = absurd (h refl)
-run-numbers (Unrun number n) was h = (refl, refl)
+run-numbers (Ok (Finished n)) was h = absurd (h refl)
+run-numbers (Ok (Spent n)) was h = absurd (h refl)
+run-numbers (Err r) was h = (refl, refl)
 
-pub write-numbers : (a : Wrote) (was : ℕ) → write_refusal a ≢ 0 → write_size a was ≡ was
-unfolding write_refusal write_size
-write-numbers (Bytes size) was h = absurd (h refl)
-write-numbers (Unwritten number) was h = refl
+pub write-numbers : (a : Result ℕ Refusal) (was : ℕ) → answer_of a ≢ 0 → write_size a was ≡ was
+unfolding write_size
+write-numbers (Ok size) was h = absurd (h refl)
+write-numbers (Err r) was h = refl
 
-pub dispatch-numbers : (a : Dispatched) (was : ℕ) (wases : List ℕ) → a.number ≢ 0
+pub dispatch-numbers : (a : Result Dispatched Refusal) (was : ℕ) (wases : List ℕ) → answer_of a ≢ 0
     → (dispatch_turns a was ≡ was) × (dispatch_events a wases ≡ wases) × (dispatch_stopped a was ≡ was)
 unfolding dispatch_turns dispatch_events dispatch_stopped
-dispatch-numbers a was wases h = rw (ne_eqb a.number 0 h) (refl, refl, refl)
+dispatch-numbers (Ok a) was wases h = absurd (h refl)
+dispatch-numbers (Err r) was wases h = (refl, refl, refl)
 
 -- ---- a host's calls
 
@@ -380,15 +386,15 @@ records-stay s number nodes h w e cs = all_sound cs (open_leaves s number nodes 
 -- ---- log lines and forwarding tables
 
 pub line-taken : (l : Line) → letter_unknown (ranges l.letter) ≡ false → outside (ranges l.letter) l ≡ false → l.list < 2 ^ 64
-    → read_of (line_text l) ≡ Read l
+    → read_of (line_text l) ≡ Ok l
 unfolding letter_unknown outside
 line-taken l known inside d = go (ranges l.letter) refl known inside
   where
-    go : (r : Ranges) → ranges l.letter ≡ r → letter_unknown r ≡ false → outside r l ≡ false → read_of (line_text l) ≡ Read l
-    go (up_to node other) e k i = text-accepted l (node, other, e, not-false (within l node other) i) d
-    go unknown e k i = absurd (true≢false k)
+    go : (r : Option (ℕ × ℕ)) → ranges l.letter ≡ r → letter_unknown r ≡ false → outside r l ≡ false → read_of (line_text l) ≡ Ok l
+    go (Some (node, other)) e k i = text-accepted l (node, other, e, not-false (within l node other) i) d
+    go None e k i = absurd (true≢false k)
 
-pub line-only : (text : List ℕ) (l : Line) → read_of text ≡ Read l
+pub line-only : (text : List ℕ) (l : Line) → read_of text ≡ Ok l
     → (line_text l ≡ text) × (letter_unknown (ranges l.letter) ≡ false) × (outside (ranges l.letter) l ≡ false)
 unfolding letter_unknown outside
 line-only text l e =
@@ -396,27 +402,27 @@ line-only text l e =
     let w = r.1 in
     (sym r.0, rw w.2 refl, rw (w.2, w.3) refl)
 
-pub line-down : (l : Line) (out : List ℕ) → TurnsDown (line_refusal (written_of l (length out))) (line_places l out) (out_of l out ≡ out)
-unfolding written_of out_of line_places line_refusal letter_unknown outside first_broken
+pub line-down : (l : Line) (out : List ℕ) → TurnsDown (answer_of (written_of l (length out))) (line_places l out) (out_of l out ≡ out)
+unfolding written_of out_of line_places letter_unknown outside first_broken
 line-down l out = go (ranges l.letter)
   where
-    by : (node other : ℕ) (a b : Bool) → TurnsDown (line_refusal (cond a (cond b (Unput 9) (Put (length (line_text l)))) (Unput 3)))
-        (place false 2 ∷ place (not a) 3 ∷ place b 9 ∷ []) (holds (cond a (cond b (Unput 9) (Put (length (line_text l)))) (Unput 3)) l out ≡ out)
+    by : (node other : ℕ) (a b : Bool) → TurnsDown (answer_of (cond a (cond b (Err ShortPart) (Ok (length (line_text l)))) (Err OutOfRange)))
+        (place false 2 ∷ place (not a) 3 ∷ place b 9 ∷ []) (holds (cond a (cond b (Err ShortPart) (Ok (length (line_text l)))) (Err OutOfRange)) l out ≡ out)
     by node other false b = record { first = refl; untouched = λ h. refl }
     by node other true true = record { first = refl; untouched = λ h. refl }
     by node other true false = record { first = refl; untouched = λ h. absurd (h refl) }
 
-    go : (r : Ranges) → TurnsDown (line_refusal (written_in r l (length out)))
+    go : (r : Option (ℕ × ℕ)) → TurnsDown (answer_of (written_in r l (length out)))
         (place (letter_unknown r) 2 ∷ place (outside r l) 3 ∷ place (ltb (length out) 80) 9 ∷ [])
         (holds (written_in r l (length out)) l out ≡ out)
-    go (up_to node other) = by node other (within l node other) (ltb (length out) 80)
-    go unknown = record { first = refl; untouched = λ h. refl }
+    go (Some (node, other)) = by node other (within l node other) (ltb (length out) 80)
+    go None = record { first = refl; untouched = λ h. refl }
 
-pub table-down : (n d : ℕ) → table_answer n d ≡ first_broken (table_places n d)
+pub table-down : (n d : ℕ) → answer_of (table_answer n d) ≡ first_broken (table_places n d)
 unfolding table_answer table_places first_broken
 table-down n d = by (leb 1 n) (leb n most_nodes) (ltb d (2 ^ n))
   where
-    by : (a b c : Bool) → ◌≡◌ {A = ℕ} (cond (a && b && c) 0 3) (cond (not (a && b)) 3 (cond (not c) 3 0))
+    by : (a b c : Bool) → answer_of {A = Unit {0}} (cond (a && b && c) (Ok tt) (Err OutOfRange)) ≡ cond (not (a && b)) 3 (cond (not c) 3 0)
     by false b c = refl
     by true false c = refl
     by true true false = refl
@@ -452,7 +458,7 @@ file-not-four file = go (file_of file) refl
   where
     go : (a : FileAnswer) → file_of file ≡ a → file_number a ≢ 4
     go (accepted_file p) e = λ z. omega arith
-    go (turned_down number line) e = (refusal-small file number line e).3
+    go (turned_down refusal line) e = (refusal-small file refusal line e).3
 
 open-not-four : (file store : List ℕ) → open_refusal (open_file file store).answer ≢ 4
 unfolding numbered open_places
@@ -463,18 +469,22 @@ open-c-not-four : (file store : List ℕ) → number_and_line (open_file file st
 unfolding number_and_line open_refusal
 open-c-not-four file store = go (open_file file store).answer refl
   where
-    go : (a : Opened) → (open_file file store).answer ≡ a → number_and_line a % 256 ≢ 4
-    go Ready e z = omega arith
-    go (Unopened number line) e z =
-        let four : number ≡ 4 = omega (arith, (opening-small file store number line e).1) in
+    go : (a : Result (Unit {0}) FileRefusal) → (open_file file store).answer ≡ a → number_and_line a % 256 ≢ 4
+    go (Ok u) e z = omega arith
+    go (Err r) e z =
+        let four : number_of r.refusal ≡ 4 = omega (arith, (opening-small file store r e).1) in
         open-not-four file store (ap open_refusal e ∙ four)
 
-read-not-four : (text : List ℕ) → read_of text ≢ Unread 4
-read-not-four text e = by (refused-number text 4 e)
+read-not-four : (text : List ℕ) → answer_of (read_of text) ≢ 4
+read-not-four text = go (read_of text) refl
   where
-    by : (◌≡◌ {A = ℕ} 4 2) ⊎ (◌≡◌ {A = ℕ} 4 3) → ⊥
-    by (inl h) = omega arith
-    by (inr h) = omega arith
+    by : (refusal : Refusal) → (refusal ≡ BadForm) ⊎ (refusal ≡ OutOfRange) → number_of refusal ≢ 4
+    by refusal (inl h) = rw h (λ z. omega arith)
+    by refusal (inr h) = rw h (λ z. omega arith)
+
+    go : (a : Result Line Refusal) → read_of text ≡ a → answer_of a ≢ 4
+    go (Ok l) e = λ z. omega arith
+    go (Err refusal) e = by refusal (refused-number text refusal e)
 
 pub never-four : NeverFour
 unfolding numbered step_places run_places write_places dispatch_places record_places deliver_places timers_places line_places table_places

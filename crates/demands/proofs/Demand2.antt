@@ -8,12 +8,12 @@ use native.Mathlib.Nat.{pow-le-pow_right}
 use native.Mathlib.Omega.{arith}
 use native.Mathlib.Decide.{dec_lt}
 use lib.Dec.{lit<}
-use borrow.Author.Tests.{eq-eqb, le-ltb}
+use borrow.Author.Tests.{le-ltb}
 use lib.ListN.{length, get_or, get_or-eq_default}
 use Rattle.limits.specs.Limits.{log_room, store_size, file_room}
 use Rattle.text.specs.Put.{put}
 use Rattle.logline.specs.declared.Line.{Line}
-use Rattle.logline.specs.declared.Read.TheVariants.{Accepted as Read}
+use Rattle.std.specs.Prelude.{Ok}
 use Rattle.logline.specs.Line.{letter_e, letter_f, ranges, line_text, read_of}
 use Rattle.logline.proofs.LineTrip.{text-accepted}
 use Rattle.plans.specs.Plan.{Plan}
@@ -30,7 +30,6 @@ use Rattle.model.proofs.RangesKept.{try_ok, left-range, after-range}
 use Rattle.store.specs.Store.{encode, plan_in, state_in, store_in_range}
 use Rattle.model.proofs.SettledNode.{crashed-lt}
 use Rattle.model.proofs.Lines.{lines-list, did-in-ranges, last-in-ranges, letter-long, letter-short}
-use Rattle.platform.specs.declared.Wrote.TheVariants.{Bytes}
 use Rattle.platform.specs.declared.Stepped.TheVariants.{Did, Done}
 use Rattle.platform.specs.declared.Ran.TheVariants.{Done as Finished, Spent}
 use Rattle.planner.specs.Answers.{step_letter, step_tick, step_node, step_other, step_size, run_events, run_spent, write_size}
@@ -104,10 +103,10 @@ module _ (file store : List ℕ) (p : Plan) (ok : file_of file ≡ accepted p) (
   pub next-events : NextEvents p s b
   next-events = next_of b p s held inside plan state
 
-  pub file-again : (out : List ℕ) → file_room ≤ length out → write_file b out ≡ record { answer = Bytes (length file); out = put out 0 file }
+  pub file-again : (out : List ℕ) → file_room ≤ length out → write_file b out ≡ record { answer = Ok (length file); out = put out 0 file }
   file-again out room =
       write-in b p s inside plan state out room
-      ∙ ap (λ (text : List ℕ). record { answer = Bytes (length text); out = put out 0 text }) (written_back file p ok)
+      ∙ ap (λ (text : List ℕ). record { answer = Ok (length text); out = put out 0 text }) (written_back file p ok)
 
 -- ---- every line of an event is one that the reader takes
 
@@ -134,7 +133,7 @@ deed-list p pl s s' r t (watch x) = list-small p pl s' r x
 deed-list p pl s s' r t (heartbeat x) = list-small p pl s' r x
 
 pub line_read : (file : List ℕ) (p : Plan) → file_of file ≡ accepted p → (k : ℕ) (e : Entry) (s' : State) → try p (after p k) ≡ did e s'
-    → (l : Line) → Memᴰ l (event_lines p (after p k) s' e) → read_of (line_text l) ≡ Read l
+    → (l : Line) → Memᴰ l (event_lines p (after p k) s' e) → read_of (line_text l) ≡ Ok l
 unfolding left
 line_read file p ok k e s' h l m =
     let pl : Plain p = plan-plain p (accepted-plan file p ok) in
@@ -147,7 +146,7 @@ line_read file p ok k e s' h l m =
 -- ---- and so is the last line
 
 pub last-read : (file : List ℕ) (p : Plan) → file_of file ≡ accepted p → (k : ℕ)
-    → let l : Line = last_line p (after p k) in read_of (line_text l) ≡ Read l
+    → let l : Line = last_line p (after p k) in read_of (line_text l) ≡ Ok l
 unfolding last_line
 last-read file p ok k =
     let pl : Plain p = plan-plain p (accepted-plan file p ok) in
@@ -168,20 +167,20 @@ last-ranges = refl
 
 -- ---- what stands behind the pointers of accepted calls from C
 
-pub step-puts : (l : Line) (size was : ℕ) → StepPuts (Did l size) l size was × StepPuts (Done l size) l size was
+pub step-puts : (l : Line) (size was : ℕ) → StepPuts (Ok (Did l size)) l size was × StepPuts (Ok (Done l size)) l size was
 unfolding step_letter step_tick step_node step_other step_size
 step-puts l size was = ((refl, refl, refl, refl, refl), (refl, refl, refl, refl, refl))
 
-pub run-puts : (n was : ℕ) → ((run_events (Finished n) was ≡ n) × (run_spent (Finished n) was ≡ 0))
-    × ((run_events (Spent n) was ≡ n) × (run_spent (Spent n) was ≡ 1))
+pub run-puts : (n was : ℕ) → ((run_events (Ok (Finished n)) was ≡ n) × (run_spent (Ok (Finished n)) was ≡ 0))
+    × ((run_events (Ok (Spent n)) was ≡ n) × (run_spent (Ok (Spent n)) was ≡ 1))
 unfolding run_events run_spent
 run-puts n was = ((refl, refl), (refl, refl))
 
-pub write-puts : (n was : ℕ) → write_size (Bytes n) was ≡ n
+pub write-puts : (n was : ℕ) → write_size (Ok n) was ≡ n
 unfolding write_size
 write-puts n was = refl
 
-pub dispatch-puts : (a : Dispatched) (was : ℕ) (wases : List ℕ) → a.number ≡ 0
-    → (dispatch_turns a was ≡ a.turns) × (dispatch_events a wases ≡ a.events) × (dispatch_stopped a was ≡ a.stopped)
+pub dispatch-puts : (a : Dispatched) (was : ℕ) (wases : List ℕ)
+    → (dispatch_turns (Ok a) was ≡ a.turns) × (dispatch_events (Ok a) wases ≡ a.events) × (dispatch_stopped (Ok a) was ≡ a.stopped)
 unfolding dispatch_turns dispatch_events dispatch_stopped
-dispatch-puts a was wases e = rw (eq-eqb a.number 0 e) (refl, refl, refl)
+dispatch-puts a was wases = (refl, refl, refl)

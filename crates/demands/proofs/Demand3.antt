@@ -17,7 +17,7 @@ use Rattle.plans.proofs.Facts.{plan-plain}
 use Rattle.model.proofs.Theorems.{crashed, logarithm, safety, settling, joining, completing}
 use Rattle.limits.specs.Limits.{store_size}
 use Rattle.store.specs.Store.{encode, plan_in, state_in, store_in_range}
-use Rattle.platform.specs.declared.Opened.TheVariants.{Ready}
+use Rattle.std.specs.Prelude.{Ok}
 use Rattle.platform.specs.Calls.{AfterOpen, open_plan, open_answer, open_file}
 use Rattle.platform.specs.CallLists.{Call, store_after_all, NoneAnswers, events_of}
 use Rattle.platform.proofs.Stores.{plan-of, state-of, in-range}
@@ -32,7 +32,7 @@ module _ (file store : List ℕ) (p : Plan) (ok : file_of file ≡ accepted p) (
   abbrev pub good : plan_test p ≡ true
   good = accepted-plan file p ok
 
-  pub opened : open_file file store ≡ record { answer = Ready; store = encode p (start p) }
+  pub opened : open_file file store ≡ record { answer = Ok tt; store = encode p (start p) }
   unfolding open_file open_answer open_plan
   opened = rw (ok, eq-eqb (length store) store_size size) refl
 

@@ -5,7 +5,7 @@ use Rattle.logline.proofs.LineTrip.{refused-number, written-of-read, read-of-wri
 use Rattle.logline.proofs.ColumnTrip.{five-columns}
 use Rattle.rehearsal.proofs.Parts.{whole-output}
 use Rattle.dispatcher.proofs.Theorems.{dispatches-lent}
-use Rattle.planner.proofs.Answered.{taken-apart}
+use Rattle.planner.proofs.Opening.{taken-apart}
 use Rattle.demands.specs.Demands.{Demand1, Demand2, Demand3, Request104}
 use Rattle.demands.proofs.Demand1.{start-taken, file-length, open-down, step_down, run_down, run-bad-store, write-down, dispatch-down}
 use Rattle.demands.proofs.Demand1.{open-line, step-numbers, run-numbers, write-numbers, dispatch-numbers}

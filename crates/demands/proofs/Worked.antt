@@ -16,7 +16,8 @@ use Rattle.node.specs.Node.{reports, opening, learnt, on_heartbeat, on_observer,
 use Rattle.node.specs.Range.{node_test, apart, live_test}
 use Rattle.host.specs.Record.{numbers_bytes, neighbours_bytes, ticks_bytes, mark_bytes, encode, decode, openable, in_range, sound}
 use Rattle.limits.specs.Limits.{record_size, part_size, store_size}
-use Rattle.limits.specs.Refusals.{bad_record, accepted as taken}
+use Rattle.limits.specs.declared.Refusal.TheVariants.{BadRecord}
+use Rattle.limits.specs.Refusals.{number_of, accepted as taken}
 use Rattle.host.specs.Call.{answer, tick_taken, timers_answer}
 use Rattle.plans.specs.Plan.{Plan, within, start_ranges, rising, hits, none_twice, crash_order, delay_order, few_delays, every, crash_test}
 use Rattle.plans.specs.Plan.{ring_order, order_of, ring_test, delay_test, plan_test}
@@ -58,12 +59,12 @@ unfolding two node keep numbers listed listing unlisting merging unlisted passin
     left steps after call_to tick_or ticked last_tick
 ninth = (refl, refl, refl)
 
-out-of-range : timers_answer (encode (record_of two 0 0 node)) 3 (replicate part_size 0) ≡ bad_record
+out-of-range : timers_answer (encode (record_of two 0 0 node)) 3 (replicate part_size 0) ≡ number_of BadRecord
 unfolding two node record_of bytes value field_at zeros numbers_bytes neighbours_bytes ticks_bytes mark_bytes encode decode
     openable node_test apart live_test in_range sound answer timers_answer listed
 out-of-range = refl
 
-pub early-tick-refused : timers_answer (encode (record_of two 0 0 (node_of (after two 8) 0))) 3 (replicate part_size 0) ≡ bad_record
+pub early-tick-refused : timers_answer (encode (record_of two 0 0 (node_of (after two 8) 0))) 3 (replicate part_size 0) ≡ number_of BadRecord
 early-tick-refused = ap (λ (n : Node). timers_answer (encode (record_of two 0 0 n)) 3 (replicate part_size 0)) ninth.0 ∙ out-of-range
 
 -- the record that has followed the run

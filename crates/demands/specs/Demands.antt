@@ -2,10 +2,13 @@
 -- which the calls' contracts promise for every input; what requests 106, 107 and 109 claim are parts of these. proofs/Theorems.antt proves them.
 -- Assumes nothing.
 use Rattle.std.specs.Prelude.{◌≡◌, ◌≢◌, ◌⊎◌, Bool, true, false, cond, not, ◌&&◌, ℕ, ◌+◌}
-use Rattle.std.specs.Prelude.{◌/◌, ◌%◌, ◌^◌, ◌≤◌, ◌<◌, eqb, leb, ltb, length, get_or, take}
+use Rattle.std.specs.Prelude.{◌/◌, ◌%◌, ◌^◌, ◌≤◌, ◌<◌, eqb, leb, ltb, length, get_or, take, Option, Some, None, Result, Ok, Err}
 use mathlib.Core.List.{List, [], ◌∷◌, Memᴰ}
-use Rattle.std.proofs.Math.Option.{Option, none, some}
+use Rattle.std.proofs.Math.Option.{Option as Maybe, none, some}
 use Rattle.limits.specs.Limits.{most_nodes, most_in_flight, log_room, record_size, store_size, file_room}
+use Rattle.limits.specs.declared.Refusal.{Refusal}
+use Rattle.limits.specs.declared.Refusal.TheVariants.{BadLength, BadForm, OutOfRange, NotRising, ManyDelays, TooMany, NotEachOnce}
+use Rattle.limits.specs.Refusals.{number_of, answer_of}
 use Rattle.ring.specs.Ring.{numbers, table_answer}
 use Rattle.text.specs.Put.{put}
 use Rattle.text.specs.Number.{decimal}
@@ -13,11 +16,9 @@ use Rattle.text.specs.Hex.{hex_of}
 use Rattle.plans.specs.Plan.{Plan, start_plan, order_of, plan_test}
 use Rattle.runfile.specs.Text.{plan_text}
 use Rattle.runfile.specs.File.{FileAnswer, accepted, turned_down, file_of}
+use Rattle.runfile.specs.declared.FileRefusal.{FileRefusal}
 use Rattle.logline.specs.declared.Line.{Line}
-use Rattle.logline.specs.declared.Read.TheVariants.{Accepted as LineRead, Refused as LineUnread}
-use Rattle.logline.specs.declared.Written.{Written}
-use Rattle.logline.specs.declared.Written.TheVariants.{Bytes as LineBytes, Refused as LineRefused}
-use Rattle.logline.specs.Line.{letter_e, letter_f, Ranges, up_to, unknown, ranges, within, read_of, fields as columns_of, line_text, written_of, out_of}
+use Rattle.logline.specs.Line.{letter_e, letter_f, ranges, within, read_of, fields as columns_of, line_text, written_of, out_of}
 use Rattle.model.specs.Platform.{State, Entry, next_event, apply, Outcome, did, ended, refused, try, steps, event_count, run_answer, first_events, after}
 use Rattle.model.specs.Lines.{line_of, event_lines, last_line, lines_text, lines_from}
 use Rattle.model.specs.Claims.{CrashedAre, Safe, LogRoundedUp, K, Settles, Joins, Completes}
@@ -25,14 +26,12 @@ use Rattle.host.specs.Record.{decode, openable, sound}
 use Rattle.host.specs.Call.{tick_taken, message_taken, open_answer, open_leaves, deliver_answer, deliver_leaves, deliver_sends}
 use Rattle.host.specs.Call.{timers_answer, timers_leaves, timers_sends}
 use Rattle.store.specs.Store.{encode, plan_in, state_in, store_in_range}
-use Rattle.platform.specs.declared.Opened.TheVariants.{Ready, Refused as Unopened}
 use Rattle.platform.specs.declared.Stepped.{Stepped}
-use Rattle.platform.specs.declared.Stepped.TheVariants.{Did, Done, Refused as Unstepped}
+use Rattle.platform.specs.declared.Stepped.TheVariants.{Did, Done}
 use Rattle.platform.specs.declared.Ran.{Ran}
 use Rattle.platform.specs.declared.Ran.TheVariants.{Done as Finished, Spent}
-use Rattle.platform.specs.declared.Wrote.{Wrote}
-use Rattle.platform.specs.declared.Wrote.TheVariants.{Bytes}
-use Rattle.platform.specs.Calls.{open_file, step, ran, run, write_file, open_refusal, step_refusal, run_refusal, events_done, write_refusal}
+use Rattle.platform.specs.declared.RunRefusal.{RunRefusal}
+use Rattle.platform.specs.Calls.{open_file, step, ran, run, write_file, open_refusal, run_refusal, events_done}
 use Rattle.platform.specs.CallLists.{Call, store_after_all, NoneAnswers, events_of}
 use Rattle.dispatcher.specs.declared.Dispatched.{Dispatched}
 use Rattle.dispatcher.specs.Dispatch.{part_in_range, dispatch}
@@ -67,7 +66,7 @@ pub record TurnsDown (number : ℕ) (places : List Place) (Untouched : Type 0) :
 -- opening: the file's own number, then the store's length
 unfoldable pub file_number : FileAnswer → ℕ
 file_number (accepted p) = 0
-file_number (turned_down number line) = number
+file_number (turned_down refusal line) = number_of refusal
 
 unfoldable pub open_places : List ℕ → List ℕ → List Place
 open_places file store =
@@ -75,7 +74,7 @@ open_places file store =
     place (not (eqb number 0)) number ∷ place (not (eqb (length store) store_size)) 7 ∷ []
 
 -- the next event would leave 'more than 2,048 in flight after it'
-unfoldable pub overfull_by : Plan → State → Option Entry → Bool
+unfoldable pub overfull_by : Plan → State → Maybe Entry → Bool
 overfull_by p s none = false
 overfull_by p s (some e) = ltb most_in_flight (length (apply p s e.tick e.event).flight)
 
@@ -131,21 +130,17 @@ record_after_all [] s = s
 record_after_all (c ∷ cs) s = record_after_all cs (leaves c.call c.tick s c.part)
 
 -- the log writer: letter, range, part
-unfoldable pub letter_unknown : Ranges → Bool
-letter_unknown (up_to node other) = false
-letter_unknown unknown = true
+unfoldable pub letter_unknown : Option (ℕ × ℕ) → Bool
+letter_unknown (Some highest) = false
+letter_unknown None = true
 
-unfoldable pub outside : Ranges → Line → Bool
-outside (up_to node other) l = not (within l node other)
-outside unknown l = true
+unfoldable pub outside : Option (ℕ × ℕ) → Line → Bool
+outside (Some (node, other)) l = not (within l node other)
+outside None l = true
 
 unfoldable pub line_places : Line → List ℕ → List Place
 line_places l out =
     place (letter_unknown (ranges l.letter)) 2 ∷ place (outside (ranges l.letter) l) 3 ∷ place (ltb (length out) 80) 9 ∷ []
-
-unfoldable pub line_refusal : Written → ℕ
-line_refusal (LineBytes size) = 0
-line_refusal (LineRefused number) = number
 
 -- 'N outside 1 to 64, or a list with a bit from N on, is refused by 3'
 unfoldable pub table_places : ℕ → ℕ → List Place
@@ -156,16 +151,16 @@ pub record NeverFour : Type 0 where
   pub reading : (file : List ℕ) → file_number (file_of file) ≢ 4
   pub opening : (file store : List ℕ) → open_refusal (open_file file store).answer ≢ 4
   pub opening_c : (file store : List ℕ) → number_and_line (open_file file store).answer % 256 ≢ 4
-  pub stepping : (store log : List ℕ) → step_refusal (step store log).answer ≢ 4
+  pub stepping : (store log : List ℕ) → answer_of (step store log).answer ≢ 4
   pub running : (store : List ℕ) (budget : ℕ) → run_refusal (run store budget).answer ≢ 4
-  pub writing : (store out : List ℕ) → write_refusal (write_file store out).answer ≢ 4
-  pub dispatching : (part : List ℕ) (turn_length turns : ℕ) → (dispatch part turn_length turns).answer.number ≢ 4
+  pub writing : (store out : List ℕ) → answer_of (write_file store out).answer ≢ 4
+  pub dispatching : (part : List ℕ) (turn_length turns : ℕ) → answer_of (dispatch part turn_length turns).answer ≢ 4
   pub node_open : (s : List ℕ) (number nodes h w : ℕ) → open_answer s number nodes h w ≢ 4
   pub node_deliver : (s : List ℕ) (tick kind sender subject list : ℕ) (part : List ℕ) → deliver_answer s tick kind sender subject list part ≢ 4
   pub node_timers : (s : List ℕ) (tick : ℕ) (part : List ℕ) → timers_answer s tick part ≢ 4
-  pub line_reading : (text : List ℕ) → read_of text ≢ LineUnread 4
-  pub line_writing : (l : Line) (out : List ℕ) → line_refusal (written_of l (length out)) ≢ 4
-  pub table : (n d : ℕ) → table_answer n d ≢ 4
+  pub line_reading : (text : List ℕ) → answer_of (read_of text) ≢ 4
+  pub line_writing : (l : Line) (out : List ℕ) → answer_of (written_of l (length out)) ≢ 4
+  pub table : (n d : ℕ) → answer_of (table_answer n d) ≢ 4
 
 pub record Demand1 : Type 0 where
   -- a run file is accepted exactly where it is the text of a plan that the rules allow
@@ -175,34 +170,35 @@ pub record Demand1 : Type 0 where
       → end ≤ 1000000
       → file_of (plan_text (start_plan n h w d end)) ≡ accepted (start_plan n h w d end)
   -- 'run file, length: 0 or above 65,536 bytes' is refused by 1 and line 0, and any other bad file by 2, 3, 5, 6 or 13 and a line from 1 on
-  pub file_length : (file : List ℕ) → (leb 1 (length file) && leb (length file) 65536) ≡ false → file_of file ≡ turned_down 1 0
-  pub file_number : (file : List ℕ) (number line : ℕ) → file_of file ≡ turned_down number line
+  pub file_length : (file : List ℕ) → (leb 1 (length file) && leb (length file) 65536) ≡ false → file_of file ≡ turned_down BadLength 0
+  pub file_number : (file : List ℕ) (refusal : Refusal) (line : ℕ) → file_of file ≡ turned_down refusal line
       → (leb 1 (length file) && leb (length file) 65536) ≡ true
-      → Memᴰ number (2 ∷ 3 ∷ 5 ∷ 6 ∷ 13 ∷ []) × (1 ≤ line) × (line ≤ 65536)
+      → Memᴰ refusal (BadForm ∷ OutOfRange ∷ NotRising ∷ ManyDelays ∷ NotEachOnce ∷ []) × (1 ≤ line) × (line ≤ 65536)
   pub file_only : (file : List ℕ) (p : Plan) → file_of file ≡ accepted p → (plan_text p ≡ file) × (plan_test p ≡ true)
   -- the platform's calls
   pub opening : (file store : List ℕ)
       → TurnsDown (open_refusal (open_file file store).answer) (open_places file store) ((open_file file store).store ≡ store)
   pub stepping : (store log : List ℕ)
-      → TurnsDown (step_refusal (step store log).answer) (step_places store log) (((step store log).store ≡ store) × ((step store log).log ≡ log))
+      → TurnsDown (answer_of (step store log).answer) (step_places store log) (((step store log).store ≡ store) × ((step store log).log ≡ log))
   pub running : (store : List ℕ) (budget : ℕ) → TurnsDown (run_refusal (run store budget).answer) (run_places store budget) (KeepsEarlier store budget)
   pub bad_store : (store : List ℕ) (budget : ℕ) → store_in_range store ≡ false → (run store budget).store ≡ store
-  pub writing : (store out : List ℕ) → TurnsDown (write_refusal (write_file store out).answer) (write_places store out) ((write_file store out).out ≡ out)
+  pub writing : (store out : List ℕ) → TurnsDown (answer_of (write_file store out).answer) (write_places store out) ((write_file store out).out ≡ out)
   -- the dispatcher's call, which 7 refuses whole: no store in its part changes
   pub dispatching : (part : List ℕ) (turn_length turns : ℕ)
-      → TurnsDown (dispatch part turn_length turns).answer.number (dispatch_places part turn_length) ((dispatch part turn_length turns).part ≡ part)
+      → TurnsDown (answer_of (dispatch part turn_length turns).answer) (dispatch_places part turn_length) ((dispatch part turn_length turns).part ≡ part)
   -- for files the line is answered too, in C both in one number
-  pub opening_line : (file store : List ℕ) (number line : ℕ) → file_of file ≡ turned_down number line
-      → (open_file file store).answer ≡ Unopened number line
-  pub opening_number : (file store : List ℕ) (number line : ℕ) → (open_file file store).answer ≡ Unopened number line
-      → (1 ≤ number) × (number_and_line (open_file file store).answer % 256 ≡ number) × (number_and_line (open_file file store).answer / 256 ≡ line)
+  pub opening_line : (file store : List ℕ) (refusal : Refusal) (line : ℕ) → file_of file ≡ turned_down refusal line
+      → (open_file file store).answer ≡ Err (record { refusal = refusal; line = line })
+  pub opening_number : (file store : List ℕ) (r : FileRefusal) → (open_file file store).answer ≡ Err r
+      → (1 ≤ number_of r.refusal) × (number_and_line (open_file file store).answer % 256 ≡ number_of r.refusal)
+      × (number_and_line (open_file file store).answer / 256 ≡ r.line)
   -- the numbers behind the pointers of the calls from C stay as they were, but for a run's earlier events
-  pub step_numbers : (a : Stepped) (was : ℕ) → step_refusal a ≢ 0
+  pub step_numbers : (a : Result Stepped Refusal) (was : ℕ) → answer_of a ≢ 0
       → (step_letter a was ≡ was) × (step_tick a was ≡ was) × (step_node a was ≡ was) × (step_other a was ≡ was) × (step_size a was ≡ was)
-  pub run_numbers : (a : Ran) (was : ℕ) → run_refusal a ≢ 0
+  pub run_numbers : (a : Result Ran RunRefusal) (was : ℕ) → run_refusal a ≢ 0
       → (run_spent a was ≡ was) × (run_events a was ≡ cond (eqb (run_refusal a) 8) (events_done a) was)
-  pub write_numbers : (a : Wrote) (was : ℕ) → write_refusal a ≢ 0 → write_size a was ≡ was
-  pub dispatch_numbers : (a : Dispatched) (was : ℕ) (wases : List ℕ) → a.number ≢ 0
+  pub write_numbers : (a : Result ℕ Refusal) (was : ℕ) → answer_of a ≢ 0 → write_size a was ≡ was
+  pub dispatch_numbers : (a : Result Dispatched Refusal) (was : ℕ) (wases : List ℕ) → answer_of a ≢ 0
       → (dispatch_turns a was ≡ was) × (dispatch_events a wases ≡ wases) × (dispatch_stopped a was ≡ was)
   -- a host's calls
   pub node_open : (s : List ℕ) (number nodes h w : ℕ)
@@ -217,12 +213,12 @@ pub record Demand1 : Type 0 where
       → (cs : List RecordCall) → sound (record_after_all cs (open_leaves s number nodes h w)) ≡ true
   -- log lines and forwarding tables
   pub line_taken : (l : Line) → letter_unknown (ranges l.letter) ≡ false → outside (ranges l.letter) l ≡ false → l.list < 2 ^ 64
-      → read_of (line_text l) ≡ LineRead l
-  pub line_number : (text : List ℕ) (number : ℕ) → read_of text ≡ LineUnread number → (number ≡ 2) ⊎ (number ≡ 3)
-  pub line_only : (text : List ℕ) (l : Line) → read_of text ≡ LineRead l
+      → read_of (line_text l) ≡ Ok l
+  pub line_number : (text : List ℕ) (refusal : Refusal) → read_of text ≡ Err refusal → (refusal ≡ BadForm) ⊎ (refusal ≡ OutOfRange)
+  pub line_only : (text : List ℕ) (l : Line) → read_of text ≡ Ok l
       → (line_text l ≡ text) × (letter_unknown (ranges l.letter) ≡ false) × (outside (ranges l.letter) l ≡ false)
-  pub line_writing : (l : Line) (out : List ℕ) → TurnsDown (line_refusal (written_of l (length out))) (line_places l out) (out_of l out ≡ out)
-  pub table : (n d : ℕ) → table_answer n d ≡ first_broken (table_places n d)
+  pub line_writing : (l : Line) (out : List ℕ) → TurnsDown (answer_of (written_of l (length out))) (line_places l out) (out_of l out ≡ out)
+  pub table : (n d : ℕ) → answer_of (table_answer n d) ≡ first_broken (table_places n d)
   -- REQUEST 109: 'Number 4 is given no longer, and that shall be shown'
   pub never_four : NeverFour
 
@@ -234,10 +230,10 @@ abbrev pub store_of : List ℕ → List ℕ → List Call → List ℕ
 store_of file store cs = store_after_all cs (open_file file store).store
 
 -- 'A step does one event, answers it and writes its line, or answers done': the event's own line, and how many bytes all its lines have
-unfoldable pub step_answer : Plan → State → Outcome → Stepped
-step_answer p s (did e s') = Did (line_of p s s' e.tick e.event) (length (lines_text (event_lines p s s' e)))
-step_answer p s ended = Done (last_line p s) (length (line_text (last_line p s)))
-step_answer p s refused = Unstepped 8
+unfoldable pub step_answer : Plan → State → Outcome → Result Stepped Refusal
+step_answer p s (did e s') = Ok (Did (line_of p s s' e.tick e.event) (length (lines_text (event_lines p s s' e))))
+step_answer p s ended = Ok (Done (last_line p s) (length (line_text (last_line p s))))
+step_answer p s refused = Err TooMany
 
 -- the next call on a store, whose plan is p and whose state is s, does the next events that 01 fixes
 pub record NextEvents (p : Plan) (s : State) (store : List ℕ) : Type 0 where
@@ -250,7 +246,7 @@ pub record NextEvents (p : Plan) (s : State) (store : List ℕ) : Type 0 where
   pub run_answers : (budget : ℕ) → (run store budget).answer ≡ ran (run_answer p budget s) (event_count p budget s)
 
 -- behind the pointers of an accepted step from C stand its own line's letter, tick, node and other and the length of all its lines
-abbrev pub StepPuts : Stepped → Line → ℕ → ℕ → Type 0
+abbrev pub StepPuts : Result Stepped Refusal → Line → ℕ → ℕ → Type 0
 StepPuts a l size was =
     (step_letter a was ≡ l.letter) × (step_tick a was ≡ l.tick) × (step_node a was ≡ l.node) × (step_other a was ≡ l.other)
     × (step_size a was ≡ size)
@@ -266,35 +262,35 @@ pub record Demand2 : Type 0 where
   pub lent_events : (store : List ℕ) → ((i : ℕ) → get_or store i 0 < 256) → store_in_range store ≡ true
       → NextEvents (plan_in store) (state_in store) store
   -- what an accepted call from C puts behind its pointers
-  pub step_puts : (l : Line) (size was : ℕ) → StepPuts (Did l size) l size was × StepPuts (Done l size) l size was
-  pub run_puts : (n was : ℕ) → ((run_events (Finished n) was ≡ n) × (run_spent (Finished n) was ≡ 0))
-      × ((run_events (Spent n) was ≡ n) × (run_spent (Spent n) was ≡ 1))
-  pub write_puts : (n was : ℕ) → write_size (Bytes n) was ≡ n
-  pub dispatch_puts : (a : Dispatched) (was : ℕ) (wases : List ℕ) → a.number ≡ 0
-      → (dispatch_turns a was ≡ a.turns) × (dispatch_events a wases ≡ a.events) × (dispatch_stopped a was ≡ a.stopped)
+  pub step_puts : (l : Line) (size was : ℕ) → StepPuts (Ok (Did l size)) l size was × StepPuts (Ok (Done l size)) l size was
+  pub run_puts : (n was : ℕ) → ((run_events (Ok (Finished n)) was ≡ n) × (run_spent (Ok (Finished n)) was ≡ 0))
+      × ((run_events (Ok (Spent n)) was ≡ n) × (run_spent (Ok (Spent n)) was ≡ 1))
+  pub write_puts : (n was : ℕ) → write_size (Ok n) was ≡ n
+  pub dispatch_puts : (a : Dispatched) (was : ℕ) (wases : List ℕ)
+      → (dispatch_turns (Ok a) was ≡ a.turns) × (dispatch_events (Ok a) wases ≡ a.events) × (dispatch_stopped (Ok a) was ≡ a.stopped)
   -- every line of an event, and the last line, is one that the log reader takes, and such a line has five columns
   pub lines : (file : List ℕ) (p : Plan) → file_of file ≡ accepted p → (k : ℕ) (e : Entry) (s' : State) → try p (after p k) ≡ did e s'
-      → (l : Line) → Memᴰ l (event_lines p (after p k) s' e) → read_of (line_text l) ≡ LineRead l
+      → (l : Line) → Memᴰ l (event_lines p (after p k) s' e) → read_of (line_text l) ≡ Ok l
   pub last_lines : (file : List ℕ) (p : Plan) → file_of file ≡ accepted p → (k : ℕ)
-      → let l : Line = last_line p (after p k) in read_of (line_text l) ≡ LineRead l
+      → let l : Line = last_line p (after p k) in read_of (line_text l) ≡ Ok l
   -- REQUEST 109: its letter is E where W is at least H + D, and otherwise F, whatever came before
   pub last_letters : (p : Plan) (s : State)
       → (p.h + p.d ≤ p.w → (last_line p s).letter ≡ letter_e) × (p.w < p.h + p.d → (last_line p s).letter ≡ letter_f)
   -- 'the log reader takes F as E', and so do the writer and the columns, which go by the same ranges
   pub last_ranges : ranges letter_f ≡ ranges letter_e
-  pub columns : (text : List ℕ) (l : Line) → read_of text ≡ LineRead l
+  pub columns : (text : List ℕ) (l : Line) → read_of text ≡ Ok l
       → columns_of text ≡ (l.letter ∷ []) ∷ decimal l.tick ∷ decimal l.node ∷ decimal l.other ∷ hex_of 16 l.list ∷ []
   -- the rehearsal program: all that it writes of an input is the refusal's number and line, or the whole log
   pub program : WholeOutput
   -- a run file that is read and written again, whatever calls came between
   pub file_again : (file store : List ℕ) (p : Plan) → file_of file ≡ accepted p → length store ≡ store_size
       → (cs : List Call) (out : List ℕ) → file_room ≤ length out
-      → write_file (store_of file store cs) out ≡ record { answer = Bytes (length file); out = put out 0 file }
+      → write_file (store_of file store cs) out ≡ record { answer = Ok (length file); out = put out 0 file }
   -- a log's line that is read and written again, and one that is written and read
-  pub line_again : (text : List ℕ) (l : Line) (out : List ℕ) → read_of text ≡ LineRead l → log_room ≤ length out
-      → (written_of l (length out) ≡ LineBytes (length text)) × (out_of l out ≡ put out 0 text)
-  pub line_back : (l : Line) (out : List ℕ) (size : ℕ) → written_of l (length out) ≡ LineBytes size → l.list < 2 ^ 64
-      → read_of (take size (out_of l out)) ≡ LineRead l
+  pub line_again : (text : List ℕ) (l : Line) (out : List ℕ) → read_of text ≡ Ok l → log_room ≤ length out
+      → (written_of l (length out) ≡ Ok (length text)) × (out_of l out ≡ put out 0 text)
+  pub line_back : (l : Line) (out : List ℕ) (size : ℕ) → written_of l (length out) ≡ Ok size → l.list < 2 ^ 64
+      → read_of (take size (out_of l out)) ≡ Ok l
 
 -- ---- DEMAND 3: 'Between two crashes, the platform settles and no live node is ever listed'
 
@@ -342,7 +338,7 @@ AllOpened plans bs = (i : ℕ) → i < length bs → JustOpened (plans i) (get_o
 pub record Demand3 : Type 0 where
   -- K in S is the base-two logarithm, rounded up, 0 for none
   pub logarithm : (m : ℕ) → LogRoundedUp m (K m)
-  pub opens : (file store : List ℕ) (p : Plan) → file_of file ≡ accepted p → length store ≡ store_size → (open_file file store).answer ≡ Ready
+  pub opens : (file store : List ℕ) (p : Plan) → file_of file ≡ accepted p → length store ≡ store_size → (open_file file store).answer ≡ Ok tt
   -- what opening any accepted file leaves is a store just opened, as `parts` takes them
   pub just_opened : (file store : List ℕ) (p : Plan) → file_of file ≡ accepted p → length store ≡ store_size
       → JustOpened p (open_file file store).store
@@ -368,4 +364,4 @@ pub record Request104 : Type 0 where
   -- of every lent part that is not refused, also of stores that no file leads to: the turns that the call gives, whose they are, how long a store
   -- waits for its own, and what it holds after them
   pub dispatched : (part : List ℕ) → ((i : ℕ) → get_or part i 0 < 256) → (turn_length turns : ℕ)
-      → (dispatch part turn_length turns).answer.number ≡ 0 → Dispatches part turn_length turns
+      → (a : Dispatched) → (dispatch part turn_length turns).answer ≡ Ok a → Dispatches part turn_length turns a

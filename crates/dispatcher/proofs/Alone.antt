@@ -1,6 +1,6 @@
 -- A store's turns come to one run of it by itself, with the length of all its turns as budget. Assumes nothing.
 use mathlib.Core.Path.{◌≡◌, refl, sym, ap, ◌∙◌}
-use mathlib.Core.Bool.{Bool, true, false, cond, not, ◌&&◌}
+use mathlib.Core.Bool.{Bool, false, cond, not, ◌&&◌}
 use mathlib.Core.List.{List, [], ◌∷◌}
 use mathlib.Core.Option.{Option, none, some}
 use Prim.Native.Nat.{ℕ, ◌+◌, ◌*◌, ◌^◌, ◌<◌}
@@ -10,7 +10,8 @@ use borrow.Author.Tests.{eq-eqb, ne_eqb}
 use lib.Dec.{eqb}
 use lib.ListN.{length}
 use lib.Seq.{get_or-set_same}
-use Rattle.limits.specs.Refusals.{too_many}
+use Rattle.limits.specs.declared.Refusal.TheVariants.{TooMany}
+use Rattle.limits.specs.Refusals.{number_of}
 use Rattle.plans.specs.Plan.{Plan}
 use Rattle.plans.proofs.Facts.{plan-plain}
 use Rattle.plans.proofs.Few.{crashes-few}
@@ -19,13 +20,11 @@ use Rattle.model.proofs.Calls.{steps-add, count_add, answer-add, finished-none, 
 use Rattle.model.proofs.NextNumber.{events-bound}
 use Rattle.store.specs.Store.{encode, plan_in, state_in}
 use Rattle.store.proofs.Store.{plan-encode, state-encode}
-use Rattle.event.specs.declared.Next.{Next}
-use Rattle.event.specs.declared.Next.TheVariants.{Nothing}
+use Rattle.std.specs.Prelude.{is_some}
 use Rattle.event.specs.Event.{next_of}
 use Rattle.event.specs.Ready.{Ready}
 use Rattle.event.proofs.Readiness.{steps-fit, steps-ready, ready-sound}
 use Rattle.platform.specs.Calls.{ran, AfterRun, run_state, run_next, run_refusal, events_done}
-use Rattle.platform.proofs.Running.{nothing_left, event-left}
 use Rattle.platform.proofs.Stores.{ran-done, ran-number}
 use Rattle.dispatcher.specs.Dispatch.{Standing, fresh, is_left, event_left, can_go, after_turn, standing_at, turn_of, after_turns}
 use Rattle.dispatcher.specs.Claims.{turns_at}
@@ -34,19 +33,16 @@ use Rattle.dispatcher.proofs.Round.{turn-length, turn-other}
 
 -- ---- whether an event is left, as the search says
 
-pub none_left : (b : List ℕ) → Nothing ≡ next_of (next_event (plan_in b) (state_in b)) → false ≡ event_left b
-unfolding event_left is_left
-none_left b e = sym (ap is_left (nothing_left (next_event (plan_in b) (state_in b)) e))
-
-pub one_left : (b : List ℕ) {r : Next} → r ≡ next_of (next_event (plan_in b) (state_in b)) → (r ≡ Nothing → ⊥) → true ≡ event_left b
-unfolding event_left is_left
-one_left b e more = sym (ap is_left (event-left (next_event (plan_in b) (state_in b)) e more).1)
+pub some-left : (o : Option Entry) → is_some (next_of o) ≡ is_left o
+unfolding next_of is_left
+some-left none = refl
+some-left (some e) = refl
 
 -- how a store stands after a run of it by itself
 abbrev pub alone : List ℕ → ℕ → Standing
 alone b k =
     let r : AfterRun = run_next b k in
-    record { store = r.store; events = events_done r.answer; stopped = eqb (run_refusal r.answer) too_many }
+    record { store = r.store; events = events_done r.answer; stopped = eqb (run_refusal r.answer) (number_of TooMany) }
 
 standing : {b c : List ℕ} {m n : ℕ} {x y : Bool} → b ≡ c → m ≡ n → x ≡ y
     → ◌≡◌ {A = Standing} (record { store = b; events = m; stopped = x }) (record { store = c; events = n; stopped = y })
@@ -92,7 +88,7 @@ module _ (b : List ℕ) (r : Ready b) where
   unfolding fresh run_state steps event_count run_answer ran run_refusal
   at_first = standing r.held.canonical (sym (ran-done (run_answer p 0 s) 0)) (not_yet (next_event p s))
     where
-      not_yet : (o : Option Entry) → false ≡ eqb (run_refusal (ran (elim o [ none ↦ finished | some e ↦ spent ]) 0)) too_many
+      not_yet : (o : Option Entry) → false ≡ eqb (run_refusal (ran (elim o [ none ↦ finished | some e ↦ spent ]) 0)) (number_of TooMany)
       not_yet none = refl
       not_yet (some e) = refl
 
@@ -119,7 +115,7 @@ module _ (b : List ℕ) (r : Ready b) where
         ran-done (run_answer p (k + l) s) (event_count p (k + l) s),
         count_add p k l s,
       ))
-      (ap (λ (k : ℕ). eqb k too_many) number)
+      (ap (λ (k : ℕ). eqb k (number_of TooMany)) number)
 
 -- ---- what a turn does, by its run's answer
 
@@ -138,7 +134,7 @@ module _ (l : ℕ) (x : Standing) (r : Ready x.store) where
   unfolding after_turn run_state is_stopped ran run_refusal
   turn_stopped = go (run_answer q l u)
     where
-      go : (e : Ending) → eqb (run_refusal (ran e n)) too_many ≡ is_stopped (ran e n)
+      go : (e : Ending) → eqb (run_refusal (ran e n)) (number_of TooMany) ≡ is_stopped (ran e n)
       go spent = refl
       go finished = refl
       go overfull = refl
@@ -150,7 +146,7 @@ module _ (l : ℕ) (x : Standing) (r : Ready x.store) where
       rw (reached-plan x.store r l, reached-state x.store r l) (go (run_answer q l u) refl (next_event q (steps q l u)) refl)
     where
       go : (e : Ending) → run_answer q l u ≡ e → (o : Option Entry) → next_event q (steps q l u) ≡ o
-          → (is_left o && not (eqb (run_refusal (ran e n)) too_many)) ≡ goes_on (ran e n)
+          → (is_left o && not (eqb (run_refusal (ran e n)) (number_of TooMany))) ≡ goes_on (ran e n)
       go spent h none k = absurd ((spent-full q l u h).1 k)
       go spent h (some e) k = refl
       go finished h none k = refl

@@ -2,15 +2,15 @@
 -- leave that they come to. Assumes nothing.
 use mathlib.Core.Path.{◌≡◌, refl, sym, ap, ◌∙◌, subst}
 use mathlib.Core.Logic.{◌⊎◌, inl, inr}
+use mathlib.Core.Bool.{Bool, true, false}
 use mathlib.Core.List.{List, [], ◌∷◌, ◌++◌}
 use Prim.Native.Nat.{ℕ, ◌+◌, ◌*◌, ◌-◌, ◌/◌, ◌%◌, ◌≤◌, ◌<◌}
 use native.Mathlib.Omega.{arith}
-use native.Mathlib.Decide.{dec_lt, ℕ_discrete}
-use borrow.Author.Tests.{eq-eqb, ne_eqb}
+use native.Mathlib.Decide.{dec_lt}
 use lib.ListN.{length, get_or, take, drop, length-append, get_or-append}
 use lib.Seq.{drop-append_seam, take_at, get_or-append-add}
 use Rattle.limits.specs.Limits.{store_size}
-use Rattle.limits.specs.Refusals.{accepted}
+use Rattle.std.specs.Prelude.{is_ok}
 use Rattle.plans.specs.Plan.{Plan}
 use Rattle.event.specs.Ready.{Ready}
 use Rattle.platform.specs.CallLists.{a_run, store_after, store_after_all}
@@ -96,7 +96,7 @@ module _ (before b after : List ℕ) (sized : length b ≡ store_size) (whole : 
         -- the store at that index, before the call and after it
         was-there : get_or (stores_in part) at [] ≡ b
         was-there =
-            sym (piece_is (length part / store_size) part at (record { whole = a.whole; within = omega (arith, inside) }) inside) ∙ piece-in-place
+            sym (piece_is (length part / store_size) part a.whole at inside) ∙ piece-in-place
 
         is-there : take store_size (drop (length before) after_call.part) ≡ get_or (stores_in after_call.part) at []
         unfolding stores_in
@@ -114,13 +114,13 @@ module _ (before b after : List ℕ) (sized : length b ≡ store_size) (whole : 
       -- a refused one leaves the store
       among-leaves : store_after_lent (among before after turn_length turns) b ≡ store_after_all (comes_to (among before after turn_length turns) b) b
       unfolding store_after_lent comes_to store_after_all
-      among-leaves = go (ℕ_discrete after_call.answer.number accepted)
+      among-leaves = go (is_ok after_call.answer) refl
         where
-          go : Dec (after_call.answer.number ≡ accepted)
+          go : (r : Bool) → is_ok after_call.answer ≡ r
               → take store_size (drop (length before) after_call.part) ≡ store_after_all (comes_to (among before after turn_length turns) b) b
-          go (yes e) = rw (eq-eqb after_call.answer.number accepted e) (run-there (accepts part turn_length turns e))
-          go (no e) =
-              rw (ne_eqb after_call.answer.number accepted e)
+          go true e = rw e (run-there (accepts part turn_length turns e))
+          go false e =
+              rw e
               (ap (λ (l : List ℕ). take store_size (drop (length before) l)) (part_left part turn_length turns e) ∙ in_place)
 
 -- ---- ONE CALL, and ANY LIST OF CALLS

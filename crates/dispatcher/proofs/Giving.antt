@@ -1,41 +1,38 @@
--- The turns of a call, one after another, as the code keeps them: the tally, the stores in the part, and the turns that are still to be given.
--- Assumes nothing.
+-- The turns of a call, one after another, as the code keeps them: the tallies, the stores in the part, and how many turns were given. Assumes
+-- nothing.
 use mathlib.Core.Path.{◌≡◌, refl, sym, ap, ◌∙◌, subst}
 use mathlib.Core.Bool.{Bool, true, false, not, ◌&&◌}
 use mathlib.Core.List.{List, [], ◌∷◌, ◌++◌, map, append_assoc, append-nil}
-use mathlib.Core.Option.{Option, none, some}
 use Prim.Native.Nat.{ℕ, zero, suc, ◌+◌, ◌*◌, ◌-◌, ◌^◌, ◌≤◌, ◌<◌}
 use native.Mathlib.Nat.{zero-add}
 use native.Mathlib.Omega.{arith}
-use lib.ListN.{length, get_or, set, take, drop, replicate, length-append, length-map, get_or-map, length-replicate, replicate-append-replicate}
+use lib.ListN.{length, get_or, set, take, drop, length-append, length-map, get_or-map}
+use Rattle.std.specs.Prelude.{Option, Some, None, Result}
+use Rattle.std.proofs.lemmas.Simd.{map-map}
 use Rattle.limits.specs.Limits.{store_size, most_stores}
-use Rattle.limits.specs.Refusals.{accepted}
 use Rattle.ring.specs.Ring.{numbers, round}
 use Rattle.event.specs.Ready.{Ready}
 use Rattle.platform.specs.declared.Ran.{Ran}
+use Rattle.platform.specs.declared.RunRefusal.{RunRefusal}
 use Rattle.platform.specs.Calls.{AfterRun, run_next, events_done}
 use Rattle.dispatcher.specs.declared.Dispatched.{Dispatched}
 use Rattle.dispatcher.specs.declared.tally.Tally.{Tally}
-use Rattle.dispatcher.specs.declared.tally.Index.{Index}
-use Rattle.dispatcher.specs.declared.tally.Index.TheVariants.{At, Nowhere}
 use Rattle.dispatcher.specs.Dispatch.{pieces, joined, stores_in, Standing, fresh, event_left, can_go, after_turn, standing_at, turn_of, after_turns}
 use Rattle.dispatcher.specs.Dispatch.{first_marked, next_able, turns_from, standings, turns_of, standings_after, for_eight, bits, given, part_after}
-use Rattle.dispatcher.specs.Tally.{index_of, tallied, answer_of, Whole, AllReady}
+use Rattle.dispatcher.specs.Tally.{tally_of, new_tally, able_marks, stopped_marks, after_ran, answer_of, Whole, AllReady}
 use Rattle.dispatcher.specs.Claims.{turns_at}
 use Rattle.dispatcher.proofs.Pieces.{piece-at, pieces-joined, replaced, replaced-pieces, length-replaced}
 use Rattle.dispatcher.proofs.Parts.{cut, stores-count, lent-piece}
-use Rattle.dispatcher.proofs.Marks.{index-some, index-none, eight-at, eight-set, eight-marked, eight-bits}
+use Rattle.dispatcher.proofs.Marks.{eight-at, eight-set, eight-map, eight-marked, eight-bits}
 use Rattle.dispatcher.proofs.Round.{turns-length, turns_then, turns-none, next-able, turns-some}
 use Rattle.dispatcher.proofs.Alone.{alone, at_first, goes-on, after-turns, alone-ready, alone-few}
 use Rattle.dispatcher.proofs.Alone.{turn_stopped, turn-able}
 
 -- ---- the tally
 
--- it tells how the stores stand
-pub record Tells (t : Tally) (xs : List Standing) : Type 0 where
-  pub able : t.able ≡ for_eight false (map can_go xs)
-  pub stopped : t.stopped ≡ for_eight false (map (λ (x : Standing). x.stopped) xs)
-  pub events : t.events ≡ for_eight 0 (map (λ (x : Standing). x.events) xs)
+-- they tell how the stores stand
+abbrev pub Tells : List Tally → List Standing → Type 0
+Tells ts xs = ts ≡ for_eight (new_tally false) (map tally_of xs)
 
 map-set : {A : Type 0} (f : Standing → A) (xs : List Standing) (i : ℕ) (x : Standing) → map f (set xs i x) ≡ set (map f xs) i (f x)
 map-set f [] i x = refl
@@ -58,25 +55,33 @@ module _ {A : Type 0} (z : A) (f : Standing → A) (xs : List Standing) (i : ℕ
       let inside : i < length (map f xs) = rw (length-map xs f) h in
       rw (same, e) (sym (ap (for_eight z) (map-set f xs i x) ∙ eight-set z (map f xs) i (f x) inside))
 
-module _ (each : ℕ) (xs : List Standing) (i : ℕ) (h : i < length xs) (ready : Ready (standing_at xs i).store) {t : Tally} (w : Tells t xs) where
+-- what the tallies tell of each store
+told-all : {A : Type 0} (f : Tally → A) {ts : List Tally} (xs : List Standing) → Tells ts xs
+    → map f ts ≡ for_eight (f (new_tally false)) (map (λ (x : Standing). f (tally_of x)) xs)
+told-all f xs w = ap (map f) w ∙ eight-map f (new_tally false) (map tally_of xs) ∙ ap (for_eight (f (new_tally false))) (map-map f tally_of xs)
+
+module _ (each : ℕ) (xs : List Standing) (i : ℕ) (h : i < length xs) (ready : Ready (standing_at xs i).store) {ts : List Tally} (w : Tells ts xs) where
   abbrev stood : Standing
   stood = standing_at xs i
 
   -- a turn, by its run's answer
-  abbrev a : Ran
+  abbrev a : Result Ran RunRefusal
   a = (run_next stood.store each).answer
 
-  pub tells-turn : Tells (tallied t i a) (turn_of each i xs)
-  unfolding tallied turn_of after_turn
+  pub told : get_or ts i (new_tally false) ≡ tally_of stood
+  told = told_at (new_tally false) tally_of xs i h ts w
+
+  pub tells-turn : Tells (set ts i (after_ran (get_or ts i (new_tally false)) a)) (turn_of each i xs)
+  unfolding after_ran tally_of turn_of after_turn
   tells-turn =
       let now : Standing = after_turn each stood in
-      let sum : get_or t.events i 0 + events_done a ≡ now.events =
-      ap (λ (k : ℕ). k + events_done a) (told_at 0 (λ (x : Standing). x.events) xs i h t.events w.events) in
-      record {
-        able = told-anew false can_go xs i h t.able w.able now (sym (turn-able each stood ready));
-        stopped = told-anew false (λ (x : Standing). x.stopped) xs i h t.stopped w.stopped now (sym (turn_stopped each stood ready));
-        events = told-anew 0 (λ (x : Standing). x.events) xs i h t.events w.events now sum;
-      }
+      let same : after_ran (get_or ts i (new_tally false)) a ≡ tally_of now =
+      ap (λ (t : Tally). after_ran t a) told ∙ tallied (sym (turn-able each stood ready)) (sym (turn_stopped each stood ready)) in
+      told-anew (new_tally false) tally_of xs i h ts w now same
+    where
+      tallied : {able stopped : Bool} {events : ℕ} {c d : Bool} → able ≡ c → stopped ≡ d
+          → ◌≡◌ {A = Tally} (record { able = able; stopped = stopped; events = events }) (record { able = c; stopped = d; events = events })
+      tallied e f = rw (e, f)
 
 -- ---- before the first turn
 
@@ -85,42 +90,26 @@ unfolding fresh
 fresh-stores [] = refl
 fresh-stores (b ∷ bs) = ap (λ (l : List (List ℕ)). b ∷ l) (fresh-stores bs)
 
-fresh-able : (bs : List (List ℕ)) → map can_go (map fresh bs) ≡ map event_left bs
-unfolding fresh can_go
-fresh-able [] = refl
-fresh-able (b ∷ bs) =
-    ap (λ (l : List Bool). can_go (fresh b) ∷ l) (fresh-able bs) ∙ ap (λ (c : Bool). c ∷ map event_left bs) (not_stopped (event_left b))
+fresh-tallies : (bs : List (List ℕ)) → map tally_of (map fresh bs) ≡ map (λ (b : List ℕ). new_tally (event_left b)) bs
+unfolding fresh can_go tally_of
+fresh-tallies [] = refl
+fresh-tallies (b ∷ bs) =
+    ap (λ (l : List Tally). tally_of (fresh b) ∷ l) (fresh-tallies bs)
+    ∙ ap (λ (c : Bool). new_tally c ∷ map (λ (b : List ℕ). new_tally (event_left b)) bs) (not_stopped (event_left b))
   where
     not_stopped : (c : Bool) → (c && not false) ≡ c
     not_stopped true = refl
     not_stopped false = refl
 
-fresh-stopped : (bs : List (List ℕ)) → map (λ (x : Standing). x.stopped) (map fresh bs) ≡ replicate (length bs) false
-unfolding fresh
-fresh-stopped [] = refl
-fresh-stopped (b ∷ bs) = ap (λ (l : List Bool). false ∷ l) (fresh-stopped bs)
-
-fresh-events : (bs : List (List ℕ)) → map (λ (x : Standing). x.events) (map fresh bs) ≡ replicate (length bs) 0
-unfolding fresh
-fresh-events [] = refl
-fresh-events (b ∷ bs) = ap (λ (l : List ℕ). 0 ∷ l) (fresh-events bs)
-
--- the same for all of eight
-eight-same : {A : Type 0} (z : A) (k : ℕ) → k ≤ most_stores → for_eight z (replicate k z) ≡ replicate most_stores z
-unfolding for_eight
-eight-same z k h =
-    let rest : k + (most_stores - k) ≡ most_stores = omega arith in
-    rw (length-replicate k z) (replicate-append-replicate k (most_stores - k) z ∙ ap (λ (m : ℕ). replicate m z) rest)
-
 -- ---- the turns of a call
 
 -- no store's turn, and a store's turn, whatever the number of turns is
-turns-end : (each k at : ℕ) (xs : List Standing) → next_able xs at ≡ none → turns_from each k at xs ≡ []
+turns-end : (each k at : ℕ) (xs : List Standing) → next_able xs at ≡ None → turns_from each k at xs ≡ []
 unfolding turns_from
 turns-end each zero at xs e = refl
 turns-end each (suc k) at xs e = turns-none each k at xs e
 
-turns_next : (each k at : ℕ) (xs : List Standing) (i : ℕ) → 0 < k → next_able xs at ≡ some i
+turns_next : (each k at : ℕ) (xs : List Standing) (i : ℕ) → 0 < k → next_able xs at ≡ Some i
     → turns_from each k at xs ≡ i ∷ turns_from each (k - 1) (i + 1) (turn_of each i xs)
 turns_next each zero at xs i h e = absurd (omega arith)
 turns_next each (suc k) at xs i h e =
@@ -164,71 +153,65 @@ module _ (part : List ℕ) (n : ℕ) (whole : Whole n part) (ready : AllReady (s
 
   -- an answer, number by number
   answered : {k m : ℕ} {es fs : List ℕ} {c d : ℕ} → k ≡ m → es ≡ fs → c ≡ d
-      → ◌≡◌ {A = Dispatched} (record { number = accepted; turns = k; events = es; stopped = c })
-      (record { number = accepted; turns = m; events = fs; stopped = d })
+      → ◌≡◌ {A = Dispatched} (record { turns = k; events = es; stopped = c }) (record { turns = m; events = fs; stopped = d })
   answered e f g = rw (e, f, g)
 
   -- so far: the turns given, and how the stores stand after them
-  pub record Gives (left at : ℕ) (b : List ℕ) (t : Tally) : Type 0 where
+  pub record Gives (done at : ℕ) (b : List ℕ) (ts : List Tally) : Type 0 where
     pub past : List ℕ
-    pub order : turns_of part each turns ≡ past ++ turns_from each left at (stand past)
-    pub count : length past + left ≡ turns
+    pub order : turns_of part each turns ≡ past ++ turns_from each (turns - done) at (stand past)
+    pub count : length past ≡ done
     pub place : at ≤ n
-    pub tells : Tells t (stand past)
+    pub tells : Tells ts (stand past)
     pub stores : pieces store_size n b ≡ map (λ (x : Standing). x.store) (stand past)
     pub size : length b ≡ n * store_size
 
   -- before the first turn
-  pub gives-first : (t : Tally) → t.able ≡ for_eight false (map event_left (stores_in part)) → t.stopped ≡ replicate most_stores false
-      → t.events ≡ replicate most_stores 0 → Gives turns 0 part t
+  pub gives-first : (ts : List Tally) → ts ≡ for_eight (new_tally false) (map (λ (b : List ℕ). new_tally (event_left b)) (stores_in part)) → Gives 0 0 part ts
   unfolding turns_of after_turns standings
-  gives-first t able stopped events =
+  gives-first ts tells =
       let bs : List (List ℕ) = stores_in part in
-      let few : length bs ≤ most_stores = rw (stores-count n part whole) whole.most in
+      let all : turns - 0 ≡ turns = omega arith in
       record {
         past = [];
-        order = refl;
-        count = omega arith;
+        order = rw all;
+        count = refl;
         place = omega arith;
-        tells = record {
-          able = able ∙ ap (for_eight false) (sym (fresh-able bs));
-          stopped = stopped ∙ sym (ap (for_eight false) (fresh-stopped bs) ∙ eight-same false (length bs) few);
-          events = events ∙ sym (ap (for_eight 0) (fresh-events bs) ∙ eight-same 0 (length bs) few);
-        };
+        tells = tells ∙ ap (for_eight (new_tally false)) (sym (fresh-tallies bs));
         stores = sym (cut n part whole) ∙ sym (fresh-stores bs);
         size = whole.size;
       }
 
-  module _ (left at : ℕ) (b : List ℕ) (t : Tally) (w : Gives left at b t) where
+  module _ (done at : ℕ) (b : List ℕ) (ts : List Tally) (w : Gives done at b ts) where
     abbrev xs : List Standing
     xs = stand w.past
 
     -- whose turn it is, by the code's marks
-    pub next-index : first_marked t.able (round (numbers 0 n) at) ≡ next_able xs at
-    unfolding next_able
+    pub next-index : first_marked (able_marks ts) (round (numbers 0 n) at) ≡ next_able xs at
+    unfolding next_able tally_of
     next-index =
-        rw (w.tells.able, eight-marked (map can_go xs) (round (numbers 0 n) at))
+        rw (told-all (λ (t : Tally). t.able) xs w.tells, eight-marked (map can_go xs) (round (numbers 0 n) at))
         (ap (λ (k : ℕ). first_marked (map can_go xs) (round (numbers 0 k) at)) (sym (stand-count w.past)))
 
     -- no turn is left to give
-    pub used-up : left ≤ 0 → turns_from each left at xs ≡ []
+    pub used-up : turns ≤ done → turns_from each (turns - done) at xs ≡ []
     unfolding turns_from
-    used-up h = let none_left : left ≡ 0 = omega arith in rw none_left refl
+    used-up h = let none_left : turns - done ≡ 0 = omega arith in rw none_left refl
 
-    pub none-able : next_able xs at ≡ none → turns_from each left at xs ≡ []
-    none-able e = turns-end each left at xs e
+    pub none-able : next_able xs at ≡ None → turns_from each (turns - done) at xs ≡ []
+    none-able e = turns-end each (turns - done) at xs e
 
     -- what the call then answers and leaves
-    module _ (all : turns_from each left at xs ≡ []) where
+    module _ (all : turns_from each (turns - done) at xs ≡ []) where
       past_all : turns_of part each turns ≡ w.past
       past_all = w.order ∙ ap (λ (is : List ℕ). w.past ++ is) all ∙ append-nil w.past
 
-      pub gave-answer : answer_of t (turns - left) ≡ given (length (turns_of part each turns)) (standings_after part each turns)
-      unfolding answer_of given standings_after
+      pub gave-answer : answer_of ts done ≡ given (length (turns_of part each turns)) (standings_after part each turns)
+      unfolding answer_of given standings_after tally_of
       gave-answer =
-          let few : turns - left ≡ length w.past = omega (arith, w.count) in
-          let stops : bits t.stopped ≡ bits (map (λ (x : Standing). x.stopped) xs) = ap bits w.tells.stopped ∙ eight-bits _ in
-          answered few w.tells.events stops ∙ ap (λ (is : List ℕ). given (length is) (stand is)) (sym past_all)
+          let stops : bits (stopped_marks ts) ≡ bits (map (λ (x : Standing). x.stopped) xs) =
+          ap bits (told-all (λ (t : Tally). t.stopped) xs w.tells) ∙ eight-bits _ in
+          answered (sym w.count) (told-all (λ (t : Tally). t.events) xs w.tells) stops ∙ ap (λ (is : List ℕ). given (length is) (stand is)) (sym past_all)
 
       pub gave-part : b ≡ part_after (standings_after part each turns)
       unfolding part_after standings_after
@@ -237,7 +220,7 @@ module _ (part : List ℕ) (n : ℕ) (whole : Whole n part) (ready : AllReady (s
           ∙ ap (λ (is : List ℕ). joined (map (λ (x : Standing). x.store) (stand is))) (sym past_all)
 
     -- the next turn is of store i
-    module _ (more : 0 < left) (i : ℕ) (e : next_able xs at ≡ some i) where
+    module _ (more : done < turns) (i : ℕ) (e : next_able xs at ≡ Some i) where
       here : (i < length xs) × (can_go (standing_at xs i) ≡ true)
       here = next-able xs at i e
 
@@ -259,25 +242,28 @@ module _ (part : List ℕ) (n : ℕ) (whole : Whole n part) (ready : AllReady (s
       abbrev ran-there : AfterRun
       ran-there = run_next piece each
 
-      pub events-fit : get_or t.events i 0 + events_done ran-there.answer < 2 ^ 64
-      unfolding after_turn
+      pub events-fit : (get_or ts i (new_tally false)).events + events_done ran-there.answer < 2 ^ 64
+      unfolding after_turn tally_of
       events-fit =
           let sum : (after_turn each (standing_at xs i)).events < 2 ^ 64 =
           subst (λ (x : Standing). x.events < 2 ^ 64) (sym (stand-next i inside w.past))
           (alone-few (first i inside) (first-ready i inside) (turns_at i w.past * each + each)) in
-          rw (told_at 0 (λ (x : Standing). x.events) xs i here.0 t.events w.tells.events, piece_is) sum
+          rw (told_at (new_tally false) tally_of xs i here.0 ts w.tells, piece_is) sum
 
-      pub goes-round : Gives (left - 1) (i + 1) (replaced store_size i ran-there.store b) (tallied t i ran-there.answer)
+      pub goes-round : Gives (done + 1) (i + 1) (replaced store_size i ran-there.store b)
+          (set ts i (after_ran (get_or ts i (new_tally false)) ran-there.answer))
       unfolding after_turn turn_of
       goes-round =
-          let rest : List ℕ = turns_from each (left - 1) (i + 1) (turn_of each i xs) in
+          let fewer : (turns - done) - 1 ≡ turns - (done + 1) = omega arith in
+          let rest : List ℕ = turns_from each (turns - (done + 1)) (i + 1) (turn_of each i xs) in
+          let turn = rw fewer at (turns_next each (turns - done) at xs i (omega arith) e) in
           let later : stand (w.past ++ (i ∷ [])) ≡ turn_of each i xs = turns_then each i w.past (standings part) in
           let fits : length ran-there.store ≡ store_size = (alone-ready piece piece-ready each).held.size in
           record {
             past = w.past ++ (i ∷ []);
             order =
-                w.order ∙ ap (λ (is : List ℕ). w.past ++ is) (turns_next each left at xs i more e) ∙ sym (append_assoc w.past (i ∷ []) rest)
-                ∙ ap (λ (ys : List Standing). (w.past ++ (i ∷ [])) ++ turns_from each (left - 1) (i + 1) ys) (sym later);
+                w.order ∙ ap (λ (is : List ℕ). w.past ++ is) turn ∙ sym (append_assoc w.past (i ∷ []) rest)
+                ∙ ap (λ (ys : List Standing). (w.past ++ (i ∷ [])) ++ turns_from each (turns - (done + 1)) (i + 1) ys) (sym later);
             count = rw (length-append w.past (i ∷ [])) (omega (arith, w.count));
             place = omega (arith, inside);
             tells = rw later (rw piece_is (tells-turn each xs i here.0 (stand-ready i inside w.past) w.tells));
@@ -292,23 +278,22 @@ module _ (part : List ℕ) (n : ℕ) (whole : Whole n part) (ready : AllReady (s
 
 -- ---- what the code knows at each turn
 
-pub record Turning (part : List ℕ) (n each turns left at : ℕ) (b : List ℕ) (t : Tally) : Type 0 where
+pub record Turning (part : List ℕ) (n each turns done at : ℕ) (b : List ℕ) (ts : List Tally) : Type 0 where
   pub whole : Whole n part
   pub ready : AllReady (stores_in part)
   pub long : 1 ≤ each
-  pub gives : Gives part n whole ready each turns long left at b t
+  pub gives : Gives part n whole ready each turns long done at b ts
 
-pub turning-first : (part : List ℕ) (n each turns : ℕ) (able : List Bool) → Whole n part → AllReady (stores_in part) → 1 ≤ each
-    → able ≡ for_eight false (map event_left (stores_in part))
-    → Turning part n each turns turns 0 part (record { able = able; stopped = replicate most_stores false; events = replicate most_stores 0 })
-turning-first part n each turns able whole ready long e = record {
+pub turning-first : (part : List ℕ) (n each turns : ℕ) (ts : List Tally) → Whole n part → AllReady (stores_in part) → 1 ≤ each
+    → ts ≡ for_eight (new_tally false) (map (λ (b : List ℕ). new_tally (event_left b)) (stores_in part)) → Turning part n each turns 0 0 part ts
+turning-first part n each turns ts whole ready long e = record {
   whole = whole;
   ready = ready;
   long = long;
-  gives = gives-first part n whole ready each turns long _ e refl refl;
+  gives = gives-first part n whole ready each turns long ts e;
 }
 
-module _ {part : List ℕ} {n each turns left at : ℕ} {b : List ℕ} {t : Tally} (w : Turning part n each turns left at b t) where
+module _ {part : List ℕ} {n each turns done at : ℕ} {b : List ℕ} {ts : List Tally} (w : Turning part n each turns done at b ts) where
   pub turning-place : (at ≤ n) × (n ≤ most_stores)
   turning-place = (w.gives.place, w.whole.most)
 
@@ -319,35 +304,38 @@ module _ {part : List ℕ} {n each turns left at : ℕ} {b : List ℕ} {t : Tall
   abbrev Ends : Dispatched → Type 0
   Ends a = (a ≡ given (length (turns_of part each turns)) (standings_after part each turns)) × (b ≡ part_after (standings_after part each turns))
 
-  ended : turns_from each left at (stand part n w.whole w.ready each turns w.long w.gives.past) ≡ [] → Ends (answer_of t (turns - left))
+  ended : turns_from each (turns - done) at (stand part n w.whole w.ready each turns w.long w.gives.past) ≡ [] → Ends (answer_of ts done)
   ended all = (
-    gave-answer part n w.whole w.ready each turns w.long left at b t w.gives all,
-    gave-part part n w.whole w.ready each turns w.long left at b t w.gives all,
+    gave-answer part n w.whole w.ready each turns w.long done at b ts w.gives all,
+    gave-part part n w.whole w.ready each turns w.long done at b ts w.gives all,
   )
 
-  pub ends-used : left ≤ 0 → {a : Dispatched} → a ≡ answer_of t turns → Ends a
-  ends-used h e =
-      let all : turns - left ≡ turns = omega arith in
-      let u = ended (used-up part n w.whole w.ready each turns w.long left at b t w.gives h) in
-      (e ∙ ap (answer_of t) (sym all) ∙ u.0, u.1)
+  pub ends-used : done ≤ turns → turns ≤ done → {a : Dispatched} → a ≡ answer_of ts turns → Ends a
+  ends-used g h e =
+      let all : done ≡ turns = omega arith in
+      let u = ended (used-up part n w.whole w.ready each turns w.long done at b ts w.gives h) in
+      (e ∙ ap (answer_of ts) (sym all) ∙ u.0, u.1)
 
   -- whose turn the code finds
-  module _ {r : Index} (e : r ≡ index_of (first_marked t.able (round (numbers 0 n) at))) where
-    abbrev found : Option ℕ
-    found = first_marked t.able (round (numbers 0 n) at)
+  module _ {r : Option ℕ} (e : r ≡ first_marked (able_marks ts) (round (numbers 0 n) at)) where
+    found : r ≡ next_able (stand part n w.whole w.ready each turns w.long w.gives.past) at
+    found = e ∙ next-index part n w.whole w.ready each turns w.long done at b ts w.gives
 
-    pub ends-none : r ≡ Nowhere → {a : Dispatched} → a ≡ answer_of t (turns - left) → Ends a
+    pub ends-none : ((i : ℕ) → r ≡ Some i → ⊥) → {a : Dispatched} → a ≡ answer_of ts done → Ends a
     ends-none f g =
-        let nobody = sym (next-index part n w.whole w.ready each turns w.long left at b t w.gives) ∙ index-none found (sym f ∙ e) in
-        let u = ended (none-able part n w.whole w.ready each turns w.long left at b t w.gives nobody) in
+        let u = ended (none-able part n w.whole w.ready each turns w.long done at b ts w.gives (sym found ∙ nobody r f)) in
         (g ∙ u.0, u.1)
+      where
+        nobody : (o : Option ℕ) → ((i : ℕ) → o ≡ Some i → ⊥) → o ≡ None
+        nobody None h = refl
+        nobody (Some i) h = absurd (h i refl)
 
-    module _ (more : 0 < left) {i : ℕ} (f : r ≡ At i) where
-      its : next_able (stand part n w.whole w.ready each turns w.long w.gives.past) at ≡ some i
-      its = sym (next-index part n w.whole w.ready each turns w.long left at b t w.gives) ∙ index-some found (sym f ∙ e)
+    module _ (more : done < turns) {i : ℕ} (f : r ≡ Some i) where
+      its : next_able (stand part n w.whole w.ready each turns w.long w.gives.past) at ≡ Some i
+      its = sym found ∙ f
 
       pub turn_inside : i < n
-      turn_inside = inside part n w.whole w.ready each turns w.long left at b t w.gives more i its
+      turn_inside = inside part n w.whole w.ready each turns w.long done at b ts w.gives more i its
 
       -- the bytes that are lent to its run
       abbrev pub lent : List ℕ
@@ -355,21 +343,21 @@ module _ {part : List ℕ} {n each turns left at : ℕ} {b : List ℕ} {t : Tall
 
       pub turn-ready : Ready lent
       turn-ready =
-          subst Ready (sym (lent-piece b i)) (piece-ready part n w.whole w.ready each turns w.long left at b t w.gives more i its)
+          subst Ready (sym (lent-piece b i)) (piece-ready part n w.whole w.ready each turns w.long done at b ts w.gives more i its)
 
-      pub turn-fits : {a : Ran} → a ≡ (run_next lent each).answer → get_or t.events i 0 + events_done a < 2 ^ 64
+      pub turn-fits : {a : Result Ran RunRefusal} → a ≡ (run_next lent each).answer → (get_or ts i (new_tally false)).events + events_done a < 2 ^ 64
       turn-fits g =
-          rw (g, lent-piece b i) (events-fit part n w.whole w.ready each turns w.long left at b t w.gives more i its)
+          rw (g, lent-piece b i) (events-fit part n w.whole w.ready each turns w.long done at b ts w.gives more i its)
 
-      pub turning-on : {a : Ran} {back : List ℕ} {t' : Tally} → a ≡ (run_next lent each).answer → back ≡ (run_next lent each).store
-          → t' ≡ tallied t i a
-          → Turning part n each turns (left - 1) (i + 1)
-          (take (i * store_size) b ++ (back ++ drop ((i * store_size + store_size) - i * store_size) (drop (i * store_size) b))) t'
+      pub turning-on : {a : Result Ran RunRefusal} {back : List ℕ} {t : Tally} → a ≡ (run_next lent each).answer → back ≡ (run_next lent each).store
+          → t ≡ after_ran (get_or ts i (new_tally false)) a
+          → Turning part n each turns (done + 1) (i + 1)
+          (take (i * store_size) b ++ (back ++ drop ((i * store_size + store_size) - i * store_size) (drop (i * store_size) b))) (set ts i t)
       turning-on g k h =
           let size : (i * store_size + store_size) - i * store_size ≡ store_size = omega arith in
           record {
             whole = w.whole;
             ready = w.ready;
             long = w.long;
-            gives = rw (h, g, k, size) (goes-round part n w.whole w.ready each turns w.long left at b t w.gives more i its);
+            gives = rw (h, g, k, size) (goes-round part n w.whole w.ready each turns w.long done at b ts w.gives more i its);
           }

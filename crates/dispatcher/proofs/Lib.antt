@@ -1,8 +1,8 @@
--- In reading order.
 pub mod Pieces
-pub mod Marks
-pub mod Parts
 pub mod Round
+pub mod Marks
+pub mod Chunks
+pub mod Parts
 pub mod Alone
 pub mod Giving
 pub mod Answering

@@ -1,61 +1,72 @@
 -- Marks of eight stores: the first marked index of a range and of a round, marks that the code keeps, and marks as bits. Assumes nothing.
 use mathlib.Core.Path.{◌≡◌, refl, sym, ap, ◌∙◌}
 use mathlib.Core.Bool.{Bool, true, false, cond}
-use mathlib.Core.List.{List, [], ◌∷◌, ◌++◌}
-use mathlib.Core.Option.{Option, none, some}
+use mathlib.Core.List.{List, [], ◌∷◌, ◌++◌, map, map-append, append_assoc, append-nil}
 use Prim.Native.Nat.{ℕ, zero, suc, ◌+◌, ◌*◌, ◌-◌, ◌/◌, ◌%◌, ◌^◌, ◌≤◌, ◌<◌}
 use native.Mathlib.Nat.{add-zero, zero-add, pow-suc, pow-le-pow_right}
 use native.Mathlib.Omega.{arith}
+use mir.Val.{bool_byte}
 use lib.Dec.{eqb, lit<}
-use lib.ListN.{length, get_or, set, drop, replicate, length-append, length-replicate, length-set, length-drop}
-use lib.Seq.{append_snoc, set-append_seam, set-append_left, drop-length, drop-cons}
+use lib.ListN.{length, get_or, set, take, drop, replicate, length-append, length-map, length-replicate, length-set, get_or-map}
+use lib.Seq.{append_snoc, set-append_seam, set-append_left, drop-cons}
+use Rattle.std.specs.Prelude.{Option, Some, None, option_map}
+use Rattle.std.specs.List.{position_from}
+use Rattle.std.proofs.lemmas.Grind.{same_number_lists}
 use Rattle.limits.specs.Limits.{most_stores}
 use Rattle.ring.specs.Ring.{numbers, round, listed}
 use Rattle.ring.proofs.Rows.{take-numbers}
 use Rattle.ring.proofs.Lists.{listed-none, listed-half, listed-last}
-use Rattle.dispatcher.specs.declared.tally.Index.{Index}
-use Rattle.dispatcher.specs.declared.tally.Index.TheVariants.{At, Nowhere}
+use Rattle.dispatcher.specs.declared.tally.Tally.{Tally}
 use Rattle.dispatcher.specs.Dispatch.{first_marked, for_eight, bits}
-use Rattle.dispatcher.specs.Tally.{index_of}
+use Rattle.dispatcher.specs.Tally.{new_tally, able_marks, stopped_marks}
 
--- ---- the first marked index
+-- ---- the first store that can go on, as the code finds it
 
-module _ (marks : List Bool) where
-  -- of the indexes from i on and below `to`
-  abbrev pub from : ℕ → ℕ → Option ℕ
-  from i to = first_marked marks (numbers i (to - i))
+-- the first element that passes, from index i on
+module _ {A : Type 0} (test : A → Bool) where
+  shifted : (k i : ℕ) (l : List A) → position_from test (k + i) l ≡ option_map (λ j. k + j) (position_from test i l)
+  shifted k i [] = refl
+  shifted k i (x ∷ l) = let next : (k + i) + 1 ≡ k + (i + 1) = omega arith in rw next (go (test x) (shifted k (i + 1) l))
+    where
+      go : (b : Bool) → position_from test (k + (i + 1)) l ≡ option_map (λ j. k + j) (position_from test (i + 1) l)
+          → cond b (Some (k + i)) (position_from test (k + (i + 1)) l) ≡ option_map (λ j. k + j) (cond b (Some i) (position_from test (i + 1) l))
+      go true e = refl
+      go false e = e
 
-  more : (i to : ℕ) → i < to → from i to ≡ cond (get_or marks i false) (some i) (from (i + 1) to)
+module _ (ts : List Tally) where
+  -- of the stores from index i on, n in a row
+  abbrev pub row : ℕ → ℕ → List Tally
+  row i n = take n (drop i ts)
+
+  row-marked : (i n : ℕ) → i + n ≤ length ts → position_from (λ (t : Tally). t.able) i (row i n) ≡ first_marked (able_marks ts) (numbers i n)
   unfolding first_marked numbers
-  more i to h =
-      let one : to - i ≡ suc (to - (i + 1)) = omega arith in
+  row-marked i zero h = refl
+  row-marked i (suc n) h =
+      let mark : get_or (able_marks ts) i false ≡ (get_or ts i (new_tally false)).able = get_or-map (λ (t : Tally). t.able) ts i (new_tally false) in
+      let rest = row-marked (suc i) n (omega arith) in
       let next : suc i ≡ i + 1 = omega arith in
-      ap (λ (k : ℕ). first_marked marks (numbers i k)) one
-      ∙ ap (λ (k : ℕ). cond (get_or marks i false) (some i) (first_marked marks (numbers k (to - (i + 1))))) next
+      rw (drop-cons ts i (new_tally false) (omega arith), mark, ← next) (ap (cond (get_or ts i (new_tally false)).able (Some i)) rest)
 
-  pub marked-here : (i to : ℕ) → i < to → get_or marks i false ≡ true → from i to ≡ some i
-  marked-here i to h e = more i to h ∙ rw e refl
-
-  pub marked-later : (i to : ℕ) → i < to → get_or marks i false ≡ false → from i to ≡ from (i + 1) to
-  marked-later i to h e = more i to h ∙ rw e refl
-
-  pub marked-nowhere : (i to : ℕ) → to ≤ i → from i to ≡ none
-  unfolding first_marked numbers
-  marked-nowhere i to h = let none_left : to - i ≡ 0 = omega arith in rw none_left refl
+  -- as the code finds it, counted from the row's first store
+  row-found : (i n : ℕ) → i + n ≤ length ts
+      → option_map (λ k. i + k) (position_from (λ (t : Tally). t.able) 0 (row i n)) ≡ first_marked (able_marks ts) (numbers i n)
+  row-found i n h =
+      sym (shifted (λ (t : Tally). t.able) i 0 (row i n)) ∙ ap (λ (k : ℕ). position_from (λ (t : Tally). t.able) k (row i n)) (add-zero i)
+      ∙ row-marked i n h
 
 -- the first, or else the second
 abbrev or_else : Option ℕ → Option ℕ → Option ℕ
-or_else none o = o
-or_else (some i) o = some i
+or_else None o = o
+or_else (Some i) o = Some i
 
 -- of two lists of indexes, one after the other
 first-append : (marks : List Bool) (is js : List ℕ) → first_marked marks (is ++ js) ≡ or_else (first_marked marks is) (first_marked marks js)
 unfolding first_marked
 first-append marks [] js = refl
-first-append marks (i ∷ is) js = ap (cond (get_or marks i false) (some i)) (first-append marks is js) ∙ go (get_or marks i false)
+first-append marks (i ∷ is) js = ap (cond (get_or marks i false) (Some i)) (first-append marks is js) ∙ go (get_or marks i false)
   where
-    go : (b : Bool) → cond b (some i) (or_else (first_marked marks is) (first_marked marks js))
-        ≡ or_else (cond b (some i) (first_marked marks is)) (first_marked marks js)
+    go : (b : Bool) → cond b (Some i) (or_else (first_marked marks is) (first_marked marks js))
+        ≡ or_else (cond b (Some i) (first_marked marks is)) (first_marked marks js)
     go true = refl
     go false = refl
 
@@ -75,34 +86,31 @@ round-numbers n at h =
     let all : at - 0 ≡ at = omega arith in
     rw (drop-numbers at n 0, zero-add at, take-numbers at n 0 h, all) refl
 
--- what the code's answer says of an index
-pub index-some : {i : ℕ} (o : Option ℕ) → At i ≡ index_of o → o ≡ some i
-unfolding index_of
-index-some none q = let z : ◌≡◌ {A = ℕ} 0 1 = cc q in absurd (omega arith)
-index-some (some j) q = sym (ap (λ (k : Index). elim k [ At m ↦ some m | Nowhere ↦ none ]) q)
-
-pub index-none : (o : Option ℕ) → Nowhere ≡ index_of o → o ≡ none
-unfolding index_of
-index-none none q = refl
-index-none (some j) q = let z : ◌≡◌ {A = ℕ} 0 1 = cc q in absurd (omega arith)
-
 -- what a search from an index on, and then from 0, finds
-module _ (marks : List Bool) (n at : ℕ) (h : at ≤ n) where
-  round-first : first_marked marks (round (numbers 0 n) at) ≡ or_else (from marks at n) (from marks 0 at)
-  round-first = rw (round-numbers n at h) (first-append marks (numbers at (n - at)) (numbers 0 (at - 0)))
+module _ (ts : List Tally) (eight : length ts ≡ most_stores) (n at : ℕ) (h : at ≤ n) (most : n ≤ most_stores) where
+  abbrev able : Tally → Bool
+  able t = t.able
 
-  pub found-later : {r : Index} {i : ℕ} → r ≡ index_of (from marks at n) → r ≡ At i
-      → At i ≡ index_of (first_marked marks (round (numbers 0 n) at))
-  unfolding index_of
+  round-first : first_marked (able_marks ts) (round (numbers 0 n) at)
+      ≡ or_else (first_marked (able_marks ts) (numbers at (n - at))) (first_marked (able_marks ts) (numbers 0 (at - 0)))
+  round-first = rw (round-numbers n at h) (first-append (able_marks ts) (numbers at (n - at)) (numbers 0 (at - 0)))
+
+  later : {r : Option ℕ} → r ≡ position_from able 0 (row ts at (n - at)) → option_map (λ k. at + k) r ≡ first_marked (able_marks ts) (numbers at (n - at))
+  later e = ap (option_map (λ k. at + k)) e ∙ row-found ts at (n - at) (rw eight (omega arith))
+
+  pub found-later : {r : Option ℕ} {k : ℕ} → r ≡ position_from able 0 (row ts at (n - at)) → r ≡ Some k
+      → Some (at + k) ≡ first_marked (able_marks ts) (round (numbers 0 n) at)
   found-later e f =
-      let here = index-some (from marks at n) (sym f ∙ e) in
-      sym (ap index_of (round-first ∙ ap (λ (o : Option ℕ). or_else o (from marks 0 at)) here))
+      let here = ap (option_map (λ k. at + k)) (sym f) ∙ later e in
+      sym (round-first ∙ ap (λ (o : Option ℕ). or_else o (first_marked (able_marks ts) (numbers 0 (at - 0)))) (sym here))
 
-  pub found-earlier : {r : Index} → r ≡ index_of (from marks at n) → r ≡ Nowhere
-      → index_of (from marks 0 at) ≡ index_of (first_marked marks (round (numbers 0 n) at))
-  found-earlier e f =
-      let nowhere = index-none (from marks at n) (sym f ∙ e) in
-      sym (ap index_of (round-first ∙ ap (λ (o : Option ℕ). or_else o (from marks 0 at)) nowhere))
+  pub found-earlier : {r q : Option ℕ} → r ≡ position_from able 0 (row ts at (n - at)) → r ≡ None → q ≡ position_from able 0 (row ts 0 at)
+      → q ≡ first_marked (able_marks ts) (round (numbers 0 n) at)
+  found-earlier {r} {q} e f g =
+      let nowhere = ap (option_map (λ k. at + k)) (sym f) ∙ later e in
+      let all : at - 0 ≡ at = omega arith in
+      g ∙ row-marked ts 0 at (rw eight (omega arith)) ∙ ap (λ (k : ℕ). first_marked (able_marks ts) (numbers 0 k)) (sym all)
+      ∙ sym (round-first ∙ ap (λ (o : Option ℕ). or_else o (first_marked (able_marks ts) (numbers 0 (at - 0)))) (sym nowhere))
 
 -- ---- for each of eight stores
 
@@ -133,6 +141,17 @@ module _ {A : Type 0} (z : A) where
       let k : ℕ = most_stores - length (l ++ (x ∷ [])) in
       let one : most_stores - length l ≡ suc k = rw (length-append l (x ∷ [])) (omega arith) in
       ap (λ (m : ℕ). set (l ++ replicate m z) (length l) x) one ∙ set-append_seam l z (replicate k z) x ∙ sym (append_snoc l x (replicate k z))
+
+-- what each of eight tells
+map-same : {A B : Type 0} (f : A → B) (z : A) (k : ℕ) → map f (replicate k z) ≡ replicate k (f z)
+map-same f z zero = refl
+map-same f z (suc k) = ap (λ l. f z ∷ l) (map-same f z k)
+
+pub eight-map : {A B : Type 0} (f : A → B) (z : A) (l : List A) → map f (for_eight z l) ≡ for_eight (f z) (map f l)
+unfolding for_eight
+eight-map f z l =
+    map-append f l (replicate (most_stores - length l) z)
+    ∙ ap (λ m. map f l ++ m) (map-same f z (most_stores - length l) ∙ ap (λ k. replicate (most_stores - k) (f z)) (sym (length-map l f)))
 
 -- marks of eight stores mark what those of the stores mark
 pub eight-marked : (marks : List Bool) (is : List ℕ) → first_marked (for_eight false marks) is ≡ first_marked marks is
@@ -171,7 +190,7 @@ bit_at (b ∷ l) (suc i) = listed-half (cond b 1 0 + 2 * bits l) i ∙ ap (λ (d
     go true = omega arith
     go false = omega arith
 
--- ---- bits of the marks from an index on, from the last index down
+-- ---- bits of the last marks, from the last on
 
 bits-few : (l : List Bool) → bits l < 2 ^ length l
 unfolding bits
@@ -182,41 +201,50 @@ bits-few (b ∷ l) = go b (bits-few l)
     go true h = omega (arith, pow-suc 2 (length l))
     go false h = omega (arith, pow-suc 2 (length l))
 
--- so far: those from index i on
-pub record BitsFrom (l : List Bool) (sum i : ℕ) : Type 0 where
-  pub size : length l ≡ most_stores
-  pub within : i ≤ most_stores
-  pub sums : sum ≡ bits (drop i l)
+-- so far: those of the last stores, and the others are left
+pub record BitsFrom (ts left : List Tally) (sum : ℕ) : Type 0 where
+  pub past : List Tally
+  pub whole : ts ≡ left ++ past
+  pub eight : length ts ≡ most_stores
+  pub sums : sum ≡ bits (stopped_marks past)
 
-pub bits_none : (l : List Bool) → length l ≡ most_stores → BitsFrom l 0 most_stores
+pub bits_none : (ts : List Tally) → length ts ≡ most_stores → BitsFrom ts ts 0
 unfolding bits
-bits_none l size =
-    record { size = size; within = omega arith; sums = sym (ap (λ (k : ℕ). bits (drop k l)) (sym size) ∙ ap bits (drop-length l)) }
+bits_none ts size = record { past = []; whole = sym (append-nil ts); eight = size; sums = refl }
 
-pub bits-all : (l : List Bool) (sum i : ℕ) → BitsFrom l sum i → i ≤ 0 → sum ≡ bits l
-bits-all l sum i w h = let first : i ≡ 0 = omega arith in w.sums ∙ ap (λ (k : ℕ). bits (drop k l)) first
+pub bits-all : (ts left : List Tally) (sum : ℕ) → length left ≡ 0 → BitsFrom ts left sum → sum ≡ bits (stopped_marks ts)
+bits-all ts [] sum e w = w.sums ∙ ap (λ (l : List Tally). bits (stopped_marks l)) (sym w.whole)
+bits-all ts (t ∷ left) sum e w = absurd (omega (arith, e))
 
-module _ (l : List Bool) (sum i : ℕ) (w : BitsFrom l sum i) (h : 0 < i) where
+-- a mark as a number
+byte-is : (b : Bool) → bool_byte b ≡ cond b 1 0
+byte-is true = refl
+byte-is false = refl
+
+pub byte-small : {one : ℕ} (b : Bool) → one ≡ bool_byte b → one ≤ 1
+byte-small true e = omega (arith, e)
+byte-small false e = omega (arith, e)
+
+module _ (ts left : List Tally) (t : Tally) (sum : ℕ) (w : BitsFrom ts (left ++ (t ∷ [])) sum) where
   -- there is room for one more
   pub bits_fit : sum < 2 ^ 8
   bits_fit =
-      let rest : length (drop i l) ≤ 8 = rw (length-drop i l, w.size) (omega arith) in
-      omega (arith, w.sums, bits-few (drop i l), pow-le-pow_right {n = 2} (lit< tt) rest)
+      let few : length (stopped_marks w.past) ≤ 8 = rw length-map (omega (arith, w.eight, ap length w.whole, length-append (left ++ (t ∷ [])) w.past)) in
+      omega (arith, w.sums, bits-few (stopped_marks w.past), pow-le-pow_right {n = 2} (lit< tt) few)
 
-  more-bits : bits (drop (i - 1) l) ≡ cond (get_or l (i - 1) false) 1 0 + 2 * sum
+  pub bits-next : {one : ℕ} → one ≡ bool_byte t.stopped → BitsFrom ts left (2 * sum + one)
   unfolding bits
-  more-bits =
-      let next : suc (i - 1) ≡ i = omega arith in
-      ap bits (drop-cons l (i - 1) false (rw w.size (omega (arith, w.within))))
-      ∙ ap (λ (k : ℕ). cond (get_or l (i - 1) false) 1 0 + 2 * bits (drop k l)) next
-      ∙ ap (λ (k : ℕ). cond (get_or l (i - 1) false) 1 0 + 2 * k) (sym w.sums)
+  bits-next {one} e = record {
+    past = t ∷ w.past;
+    whole = w.whole ∙ append_assoc left (t ∷ []) w.past;
+    eight = w.eight;
+    sums = omega (arith, e, byte-is t.stopped, w.sums);
+  }
 
-  pub bits-marked : get_or l (i - 1) false ≡ true → BitsFrom l (sum * 2 + 1) (i - 1)
-  bits-marked m =
-      let one : bits (drop (i - 1) l) ≡ 1 + 2 * sum = rw m at more-bits in
-      record { size = w.size; within = omega (arith, w.within); sums = omega arith }
+-- ---- the events of each
 
-  pub bits-unmarked : get_or l (i - 1) false ≡ false → BitsFrom l (sum * 2) (i - 1)
-  bits-unmarked m =
-      let none_more : bits (drop (i - 1) l) ≡ 0 + 2 * sum = rw m at more-bits in
-      record { size = w.size; within = omega (arith, w.within); sums = omega arith }
+pub events-all : (ts : List Tally) (l : List ℕ) → length l ≡ length ts
+    → ((i : ℕ) → i < length l → get_or l i 0 ≡ (get_or ts i (new_tally false)).events) → l ≡ map (λ (t : Tally). t.events) ts
+events-all ts l size each =
+    same_number_lists l (map (λ (t : Tally). t.events) ts) (size ∙ sym (length-map ts (λ (t : Tally). t.events)))
+    (λ i h. each i h ∙ sym (get_or-map (λ (t : Tally). t.events) ts i (new_tally false)))

@@ -12,7 +12,9 @@ use lib.Dec.{eqb, leb, ltb}
 use lib.ListN.{length, get_or, take, drop, set, length-append, length-take, length-drop, length-set, take-append-drop, get_or-append}
 use lib.Seq.{length-take-le, get_or-append-add, get_or-set_same, get_or-set_other, get_or-take, get_or-drop}
 use Rattle.limits.specs.Limits.{store_size}
-use Rattle.limits.specs.Refusals.{accepted, bad_store}
+use Rattle.std.specs.Prelude.{is_ok}
+use Rattle.limits.specs.declared.Refusal.TheVariants.{BadStore}
+use Rattle.limits.specs.Refusals.{accepted, number_of as numbered, answer_of}
 use Rattle.plans.specs.Plan.{Plan, plan_test}
 use Rattle.plans.proofs.Facts.{plan-plain}
 use Rattle.model.specs.Platform.{steps, after}
@@ -116,7 +118,7 @@ module _ (p : Plan) (b : List ℕ) (l : Led p b) where
       let w = call-leads p l.good c l.e in
       record { good = l.good; e = w.0; is = ap (store_after c) l.is ∙ w.1 }
 
-  pub led-not-seven : (c : Call) → refusal c b ≢ bad_store
+  pub led-not-seven : (c : Call) → refusal c b ≢ numbered BadStore
   led-not-seven c = rw l.is (call-not-7 p (after p l.e) (after_holds p l.good l.e) (after_small p l.good l.e) c)
 
 -- so do any calls
@@ -165,25 +167,25 @@ module _ (plans : ℕ → Plan) (bs : List (List ℕ)) (all : AllLed plans bs) (
   lent-ready = rw lent-stores (λ j h. led-ready (plans (first + j)) (get_or stores j []) (led-at j h))
 
   -- 7 does not refuse the call
-  some-not-seven : after_call.answer.number ≢ bad_store
+  some-not-seven : answer_of after_call.answer ≢ numbered BadStore
   unfolding lent
   some-not-seven = not-seven part turn_length turns
       (joined-in-range stores lent-sized (λ j h. led-in-range (plans (first + j)) (get_or stores j []) (led-at j h)))
 
   -- as many stores come back, whether it is refused or not
   back-length : length (stores_in after_call.part) ≡ length stores
-  back-length = go (ℕ_discrete after_call.answer.number accepted)
+  back-length = go (is_ok after_call.answer) refl
     where
-      go : Dec (after_call.answer.number ≡ accepted) → length (stores_in after_call.part) ≡ length stores
-      go (yes e) = left-length part turn_length turns lent-ready (accepts part turn_length turns e) ∙ ap length lent-stores
-      go (no e) = ap (λ (b : List ℕ). length (stores_in b)) (part_left part turn_length turns e) ∙ ap length lent-stores
+      go : (b : Bool) → is_ok after_call.answer ≡ b → length (stores_in after_call.part) ≡ length stores
+      go true e = left-length part turn_length turns lent-ready (accepts part turn_length turns e) ∙ ap length lent-stores
+      go false e = ap (λ (b : List ℕ). length (stores_in b)) (part_left part turn_length turns e) ∙ ap length lent-stores
 
   some-length : length (stores_after (over_some first n turn_length turns) bs) ≡ length bs
   unfolding stores_after
   some-length = anew-length first n bs (stores_in after_call.part) back-length
 
   -- an accepted call leaves a store of its part as a run by itself does
-  module _ (e : after_call.answer.number ≡ accepted) (i : ℕ) (low : first ≤ i) (high : i < first + n) (h : i < length bs) where
+  module _ (e : is_ok after_call.answer ≡ true) (i : ℕ) (low : first ≤ i) (high : i < first + n) (h : i < length bs) where
     run-there : get_or (stores_in after_call.part) (i - first) []
         ≡ store_after_all (a_run (turns_at (i - first) (turns_of part turn_length turns) * turn_length) ∷ []) (get_or bs i [])
     unfolding store_after_all store_after
@@ -200,7 +202,7 @@ module _ (plans : ℕ → Plan) (bs : List (List ℕ)) (all : AllLed plans bs) (
       → get_or (stores_after (over_some first n turn_length turns) bs) i []
       ≡ store_after_all (calls_of i (over_some first n turn_length turns) bs) (get_or bs i [])
   unfolding stores_after calls_of store_after_all
-  some_at i h = go (ℕ_discrete after_call.answer.number accepted) (dec_lt i first) (dec_lt i (first + n))
+  some_at i h = go (is_ok after_call.answer) refl (dec_lt i first) (dec_lt i (first + n))
     where
       ws : List (List ℕ)
       ws = stores_in after_call.part
@@ -209,18 +211,18 @@ module _ (plans : ℕ → Plan) (bs : List (List ℕ)) (all : AllLed plans bs) (
       neither true = refl
       neither false = refl
 
-      go : Dec (after_call.answer.number ≡ accepted) → Dec (i < first) → Dec (i < first + n)
+      go : (b : Bool) → is_ok after_call.answer ≡ b → Dec (i < first) → Dec (i < first + n)
           → get_or (row_anew first n bs ws) i [] ≡ store_after_all (calls_of i (over_some first n turn_length turns) bs) (get_or bs i [])
-      go (no e) b c =
+      go false e b c =
           let still : ws ≡ stores = ap stores_in (part_left part turn_length turns e) ∙ lent-stores in
-          rw (ne_eqb after_call.answer.number accepted e, neither (leb first i && ltb i (first + n)))
+          rw (e, neither (leb first i && ltb i (first + n)))
           (ap (λ (l : List (List ℕ)). get_or (row_anew first n bs l) i []) still ∙ ap (λ (l : List (List ℕ)). get_or l i []) (same_row first n bs))
-      go (yes e) (yes low) c = rw (lt-leb first i low) (anew-before first n bs ws back-length i [] low h)
-      go (yes e) (no low) (no high) =
+      go true e (yes low) c = rw (lt-leb first i low) (anew-before first n bs ws back-length i [] low h)
+      go true e (no low) (no high) =
           rw (le-leb first i (omega arith), le-ltb i (first + n) (omega arith)) (anew-after first n bs ws back-length i [] (omega arith) h)
-      go (yes e) (no low) (yes high) =
+      go true e (no low) (yes high) =
           let from : first ≤ i = omega arith in
-          rw (le-leb first i from, lt-ltb i (first + n) high, eq-eqb after_call.answer.number accepted e)
+          rw (le-leb first i from, lt-ltb i (first + n) high, e)
           (anew-at first n bs ws back-length i [] from high h ∙ run-there e i from high h)
 
 -- ---- ONE CALL
@@ -250,11 +252,11 @@ module _ (plans : ℕ → Plan) (bs : List (List ℕ)) (all : AllLed plans bs) w
       let inside : i < length bs = rw (call_length c) at h in
       subst (Led (plans i)) (sym (call_at c i inside)) (led-calls (plans i) (calls_of i c bs) (get_or bs i []) (all i inside))
 
-  pub call-not-seven : (c : PartCall) → number_of c bs ≢ bad_store
+  pub call-not-seven : (c : PartCall) → number_of c bs ≢ numbered BadStore
   unfolding number_of
   call-not-seven (on_one i c) = go (dec_lt i (length bs))
     where
-      go : Dec (i < length bs) → cond (ltb i (length bs)) (refusal c (get_or bs i [])) accepted ≢ bad_store
+      go : Dec (i < length bs) → cond (ltb i (length bs)) (refusal c (get_or bs i [])) accepted ≢ numbered BadStore
       go (yes h) = rw (lt-ltb i (length bs) h) (led-not-seven (plans i) (get_or bs i []) (all i h) c)
       go (no h) = rw (le-ltb i (length bs) (omega arith)) (λ e. omega arith)
   call-not-seven (over_some first n turn_length turns) = some-not-seven plans bs all first n turn_length turns
@@ -276,7 +278,7 @@ module _ (plans : ℕ → Plan) where
       ∙ ap (store_after_all (calls_on i cs (stores_after c bs))) (call_at plans bs all c i h)
       ∙ sym (calls-append (calls_of i c bs) (calls_on i cs (stores_after c bs)) (get_or bs i []))
 
-  pub calls-not-seven : (cs : List PartCall) (bs : List (List ℕ)) → AllLed plans bs → NoCallAnswers bad_store cs bs
+  pub calls-not-seven : (cs : List PartCall) (bs : List (List ℕ)) → AllLed plans bs → NoCallAnswers (numbered BadStore) cs bs
   unfolding NoCallAnswers
   calls-not-seven [] bs all = tt
   calls-not-seven (c ∷ cs) bs all = (call-not-seven plans bs all c, calls-not-seven cs (stores_after c bs) (call-led plans bs all c))

@@ -1,19 +1,20 @@
 -- A whole part and its stores, one by one: number 7's test of each, and which have an event left. Assumes nothing.
 use mathlib.Core.Path.{◌≡◌, refl, sym, ap, ◌∙◌, subst}
 use mathlib.Core.Logic.{◌⊎◌, inr, ⊎_elim}
-use mathlib.Core.Bool.{Bool, true, false, ◌&&◌, and-eq-true_iff}
+use mathlib.Core.Bool.{Bool, true, false, and-eq-true_iff}
 use mathlib.Core.List.{List, [], ◌∷◌, ◌++◌, map, map-append}
 use Prim.Native.Nat.{ℕ, zero, suc, ◌+◌, ◌*◌, ◌-◌, ◌/◌, ◌^◌, ◌≤◌, ◌<◌}
 use native.Mathlib.Omega.{arith}
 use native.Mathlib.Decide.{dec_lt}
-use lib.ListN.{length, get_or, set, take, drop, replicate, length-map, length-take, get_or-eq_default}
-use lib.Seq.{get_or-take, get_or-drop, length-take-le, take_all, take-suc, drop-cons, drop-length}
+use lib.ListN.{length, get_or, set, take, drop, replicate, length-map, length-take, length-drop, length-append, get_or-eq_default}
+use lib.Seq.{get_or-take, get_or-drop, length-take-le, take_all, take-suc, take_at, drop_at, drop-drop}
 use Rattle.limits.specs.Limits.{store_size, most_stores}
 use Rattle.store.specs.Store.{store_in_range}
 use Rattle.event.specs.Ready.{Ready}
 use Rattle.event.proofs.Readiness.{tested-ready}
 use Rattle.dispatcher.specs.Dispatch.{pieces, stores_in, event_left, all_in_range, for_eight}
-use Rattle.dispatcher.specs.Tally.{Whole, AllReady}
+use Rattle.dispatcher.specs.declared.tally.Tally.{Tally}
+use Rattle.dispatcher.specs.Tally.{new_tally, Whole, AllReady}
 use Rattle.dispatcher.proofs.Pieces.{length-pieces, piece-at}
 use Rattle.dispatcher.proofs.Marks.{eight-next}
 
@@ -35,65 +36,16 @@ lent-piece part i =
     let size : (i * store_size + store_size) - i * store_size ≡ store_size = omega arith in
     ap (λ (k : ℕ). take k (drop (i * store_size) part)) size
 
--- so far: the stores below index i were looked at, and those from there on are left
-pub record Looking (n : ℕ) (part : List ℕ) (i : ℕ) : Type 0 where
-  pub whole : Whole n part
-  pub within : i ≤ n
-
-pub look-first : (n : ℕ) (part : List ℕ) → Whole n part → Looking n part 0
-look-first n part w = record { whole = w; within = omega arith }
-
-module _ (n : ℕ) (part : List ℕ) (i : ℕ) (w : Looking n part i) (h : i < n) where
-  pub look-next : Looking n part (i + 1)
-  look-next = record { whole = w.whole; within = omega arith }
-
+module _ (n : ℕ) (part : List ℕ) (w : Whole n part) (i : ℕ) (h : i < n) where
   -- its bytes are in the part
   pub start_fits : i * store_size < 2 ^ 64
-  start_fits = omega (arith, w.whole.most)
+  start_fits = omega (arith, w.most)
 
   pub end_fits : i * store_size + store_size ≤ length part
-  end_fits = rw w.whole.size (omega arith)
+  end_fits = rw w.size (omega arith)
 
   pub piece_is : piece part i ≡ get_or (stores_in part) i []
-  piece_is = sym (ap (λ (bs : List (List ℕ)). get_or bs i []) (cut n part w.whole) ∙ piece-at store_size n i part h)
-
-  -- the stores from there on
-  pub left-cons : drop i (stores_in part) ≡ piece part i ∷ drop (i + 1) (stores_in part)
-  left-cons =
-      let next : suc i ≡ i + 1 = omega arith in
-      drop-cons (stores_in part) i [] (rw (stores-count n part w.whole) h)
-      ∙ ap (λ (b : List ℕ). b ∷ drop (suc i) (stores_in part)) (sym piece_is)
-      ∙ ap (λ (k : ℕ). piece part i ∷ drop k (stores_in part)) next
-
-pub left-none : (n : ℕ) (part : List ℕ) (i : ℕ) → Looking n part i → n ≤ i → drop i (stores_in part) ≡ []
-left-none n part i w h =
-    let last : i ≡ length (stores_in part) = rw (stores-count n part w.whole) (omega (arith, w.within)) in
-    ap (λ (k : ℕ). drop k (stores_in part)) last ∙ drop-length (stores_in part)
-
--- ---- number 7's test, store by store
-
-pub record Testing (n : ℕ) (part : List ℕ) (i : ℕ) : Type 0 where
-  pub looking : Looking n part i
-  pub left : all_in_range (stores_in part) ≡ all_in_range (drop i (stores_in part))
-
-pub tests-first : (n : ℕ) (part : List ℕ) → Whole n part → Testing n part 0
-tests-first n part w = record { looking = look-first n part w; left = refl }
-
-module _ (n : ℕ) (part : List ℕ) (i : ℕ) (w : Testing n part i) where
-  module _ (h : i < n) where
-    tested : all_in_range (stores_in part) ≡ (store_in_range (piece part i) && all_in_range (drop (i + 1) (stores_in part)))
-    unfolding all_in_range
-    tested = w.left ∙ ap all_in_range (left-cons n part i w.looking h)
-
-    pub tests-out : store_in_range (piece part i) ≡ false → false ≡ all_in_range (stores_in part)
-    tests-out e = sym (tested ∙ rw e refl)
-
-    pub tests-next : store_in_range (piece part i) ≡ true → Testing n part (i + 1)
-    tests-next e = record { looking = look-next n part i w.looking h; left = tested ∙ rw e refl }
-
-  pub tests-all : n ≤ i → true ≡ all_in_range (stores_in part)
-  unfolding all_in_range
-  tests-all h = sym (w.left ∙ ap all_in_range (left-none n part i w.looking h))
+  piece_is = sym (ap (λ (bs : List (List ℕ)). get_or bs i []) (cut n part w) ∙ piece-at store_size n i part h)
 
 -- ---- stores that pass it are ready for events
 
@@ -121,7 +73,7 @@ pub all-ready : (n : ℕ) (part : List ℕ) → Whole n part → ((i : ℕ) → 
     → AllReady (stores_in part)
 all-ready n part w each e i h =
     let inside : i < n = rw (stores-count n part w) at h in
-    let here : piece part i ≡ get_or (stores_in part) i [] = piece_is n part i (record { whole = w; within = omega arith }) inside in
+    let here : piece part i ≡ get_or (stores_in part) i [] = piece_is n part w i inside in
     ⊎_elim (λ r. subst Ready here r)
     (λ byte. tested-ready (get_or (stores_in part) i []) (λ j. rw (sym here) (piece_bytes part i byte j)) (each-in-range (stores_in part) e i h)) (each i)
 
@@ -130,44 +82,74 @@ pub lent-ready : (n : ℕ) (part : List ℕ) → Whole n part → ((i : ℕ) →
     → AllReady (stores_in part)
 lent-ready n part w byte e = all-ready n part w (λ i. inr (λ j h. byte (i * store_size + j))) e
 
--- ---- which have an event left
+-- ---- how they stand before the first turn
 
-pub record Marking (n : ℕ) (part : List ℕ) (i : ℕ) (able : List Bool) : Type 0 where
-  pub looking : Looking n part i
+-- so far: those below index i were looked at, and `rest` is left of the part
+pub record Looking (part : List ℕ) (i : ℕ) (rest : List ℕ) (ts : List Tally) : Type 0 where
+  pub whole : Whole (length part / store_size) part
   pub ready : AllReady (stores_in part)
-  pub marks : able ≡ for_eight false (map event_left (take i (stores_in part)))
+  pub within : i ≤ length part / store_size
+  pub left : rest ≡ drop (i * store_size) part
+  pub tells : ts ≡ for_eight (new_tally false) (map (λ (b : List ℕ). new_tally (event_left b)) (take i (stores_in part)))
 
-module _ (n : ℕ) (part : List ℕ) where
-  pub marks-first : Whole n part → AllReady (stores_in part) → Marking n part 0 (replicate most_stores false)
+module _ (part : List ℕ) where
+  abbrev n : ℕ
+  n = length part / store_size
+
+  abbrev first : List ℕ → Tally
+  first b = new_tally (event_left b)
+
+  pub look-first : Whole n part → AllReady (stores_in part) → Looking part 0 part (replicate most_stores (new_tally false))
   unfolding for_eight
-  marks-first w r = record { looking = look-first n part w; ready = r; marks = refl }
+  look-first w r = record { whole = w; ready = r; within = omega arith; left = refl; tells = refl }
 
-  module _ (i : ℕ) (able : List Bool) (w : Marking n part i able) where
-    pub piece-ready : i < n → Ready (piece part i)
-    piece-ready h =
-        subst Ready (sym (piece_is n part i w.looking h)) (w.ready i (rw (stores-count n part w.looking.whole) h))
+  module _ {i : ℕ} {rest : List ℕ} {ts : List Tally} (w : Looking part i rest ts) where
+    abbrev bs : List (List ℕ)
+    bs = stores_in part
 
-    pub marks-next : (h : i < n) {r : Bool} → r ≡ event_left (piece part i) → Marking n part (i + 1) (set able i r)
-    marks-next h {r} e =
-        let bs : List (List ℕ) = stores_in part in
-        let inside : i < length bs = rw (stores-count n part w.looking.whole) h in
-        let l : List Bool = map event_left (take i bs) in
-        let below : length l ≡ i = length-map (take i bs) event_left ∙ length-take-le i bs (omega arith) in
-        let next : suc i ≡ i + 1 = omega arith in
-        let one : take (i + 1) bs ≡ take i bs ++ (piece part i ∷ []) =
-        ap (λ (k : ℕ). take k bs) (sym next) ∙ take-suc bs i [] inside
-        ∙ ap (λ (b : List ℕ). take i bs ++ (b ∷ [])) (sym (piece_is n part i w.looking h)) in
-        record {
-          looking = look-next n part i w.looking h;
-          ready = w.ready;
-          marks =
-              ap (λ (m : List Bool). set m i r) w.marks ∙ ap (λ (k : ℕ). set (for_eight false l) k r) (sym below)
-              ∙ eight-next false l r (rw below (omega (arith, w.looking.whole.most)))
-              ∙ ap (λ (x : Bool). for_eight false (l ++ (x ∷ []))) e
-              ∙ ap (for_eight false) (sym (map-append event_left (take i bs) (piece part i ∷ [])) ∙ ap (map event_left) (sym one));
-        }
+    module _ (b more : List ℕ) (cut_off : rest ≡ b ++ more) (size : length b ≡ store_size) where
+      room : i * store_size + store_size ≤ length part
+      room = omega (arith, size, ap length (sym w.left ∙ cut_off), length-drop (i * store_size) part, length-append b more, w.within)
 
-    pub marks-all : n ≤ i → able ≡ for_eight false (map event_left (stores_in part))
-    marks-all h =
-        let bs : List (List ℕ) = stores_in part in
-        w.marks ∙ ap (λ (l : List (List ℕ)). for_eight false (map event_left l)) (take_all i bs (rw (stores-count n part w.looking.whole) h))
+      pub look-inside : i < n
+      look-inside = omega (arith, room)
+
+      look-piece : b ≡ piece part i
+      look-piece = sym (ap (take store_size) (sym w.left ∙ cut_off) ∙ take_at b more store_size size)
+
+      pub look-ready : Ready b
+      look-ready =
+          subst Ready (sym (look-piece ∙ piece_is n part w.whole i look-inside)) (w.ready i (rw (stores-count n part w.whole) look-inside))
+
+      look-rest : more ≡ drop ((i + 1) * store_size) part
+      look-rest =
+          let on : i * store_size + store_size ≡ (i + 1) * store_size = omega arith in
+          sym (drop_at b more store_size size) ∙ ap (drop store_size) (sym cut_off ∙ w.left)
+          ∙ drop-drop store_size (i * store_size) part ∙ ap (λ (k : ℕ). drop k part) on
+
+      pub look-next : {r : Bool} → r ≡ event_left b → {t : Tally} → t ≡ new_tally r → Looking part (i + 1) more (set ts i t)
+      look-next {r} e {t} f =
+          let inside : i < length bs = rw (stores-count n part w.whole) look-inside in
+          let l : List Tally = map first (take i bs) in
+          let below : length l ≡ i = length-map (take i bs) first ∙ length-take-le i bs (omega arith) in
+          let next : suc i ≡ i + 1 = omega arith in
+          let one : take (i + 1) bs ≡ take i bs ++ (b ∷ []) =
+          ap (λ (k : ℕ). take k bs) (sym next) ∙ take-suc bs i [] inside
+          ∙ ap (λ (c : List ℕ). take i bs ++ (c ∷ [])) (sym (look-piece ∙ piece_is n part w.whole i look-inside)) in
+          record {
+            whole = w.whole;
+            ready = w.ready;
+            within = omega (arith, look-inside);
+            left = look-rest;
+            tells =
+                ap (λ (m : List Tally). set m i t) w.tells ∙ ap (λ (k : ℕ). set (for_eight (new_tally false) l) k t) (sym below)
+                ∙ eight-next (new_tally false) l t (rw below (omega (arith, w.whole.most, look-inside)))
+                ∙ ap (λ (x : Tally). for_eight (new_tally false) (l ++ (x ∷ []))) (f ∙ ap new_tally e)
+                ∙ ap (for_eight (new_tally false)) (sym (map-append first (take i bs) (b ∷ [])) ∙ ap (map first) (sym one));
+          }
+
+    -- no whole store is left
+    pub look-all : length rest < store_size → ts ≡ for_eight (new_tally false) (map (λ (b : List ℕ). new_tally (event_left b)) (stores_in part))
+    look-all h =
+        let none_left : n ≤ i = omega (arith, ap length w.left, length-drop (i * store_size) part, w.within) in
+        w.tells ∙ ap (λ (l : List (List ℕ)). for_eight (new_tally false) (map first l)) (take_all i bs (rw (stores-count n part w.whole) none_left))

@@ -4,7 +4,7 @@ use mathlib.Core.Path.{◌≡◌, refl, sym, ap, subst, ◌∙◌}
 use mathlib.Core.Logic.{◌≢◌, inl, inr}
 use mathlib.Core.Bool.{Bool, true, false, cond, true≢false}
 use mathlib.Core.List.{List, [], ◌∷◌, ◌++◌, map, nil≢cons, head-eq_of_cons-eq, tail-eq_of_cons-eq}
-use mathlib.Core.Option.{Option, none, some}
+use Rattle.std.specs.Prelude.{Option, Some, None}
 use Prim.Native.Nat.{ℕ, zero, suc, ◌+◌, ◌-◌, ◌≤◌, ◌<◌}
 use native.Mathlib.Nat.{zero-add}
 use native.Mathlib.Omega.{arith}
@@ -71,8 +71,8 @@ record First (marks : List Bool) (is : List ℕ) (j : ℕ) : Type 0 where
 
 -- what a search for the first marked index has to find
 unfoldable Found : List Bool → List ℕ → Option ℕ → Type 0
-Found marks is none = (q : ℕ) → q < length is → get_or marks (get_or is q 0) false ≡ false
-Found marks is (some j) = First marks is j
+Found marks is None = (q : ℕ) → q < length is → get_or marks (get_or is q 0) false ≡ false
+Found marks is (Some j) = First marks is j
 
 found : (marks : List Bool) (is : List ℕ) → Found marks is (first_marked marks is)
 unfolding Found first_marked
@@ -84,10 +84,10 @@ found marks (i ∷ is) = go (get_or marks i false) refl (first_marked marks is) 
     after e n f zero h = e
     after e n f (suc q) h = f q (omega arith)
 
-    go : (b : Bool) → get_or marks i false ≡ b → (o : Option ℕ) → Found marks is o → Found marks (i ∷ is) (cond b (some i) o)
+    go : (b : Bool) → get_or marks i false ≡ b → (o : Option ℕ) → Found marks is o → Found marks (i ∷ is) (cond b (Some i) o)
     go true e o f = record { place = 0; inside = omega arith; there = refl; marked = e; before = λ q h. absurd (omega arith) }
-    go false e none f = after e (length is) f
-    go false e (some j) f = record {
+    go false e None f = after e (length is) f
+    go false e (Some j) f = record {
       place = suc f.place;
       inside = omega (arith, f.inside);
       there = f.there;
@@ -162,12 +162,12 @@ module _ (xs : List Standing) (at : ℕ) where
   unfolding next_able
   found-next o e = subst (Found (map can_go xs) places) e (found (map can_go xs) places)
 
-  first_next : (j : ℕ) → next_able xs at ≡ some j → First (map can_go xs) places j
+  first_next : (j : ℕ) → next_able xs at ≡ Some j → First (map can_go xs) places j
   unfolding Found
-  first_next j e = found-next (some j) e
+  first_next j e = found-next (Some j) e
 
   -- the store whose turn it is can go on
-  pub next-able : (j : ℕ) → next_able xs at ≡ some j → (j < length xs) × (can_go (standing_at xs j) ≡ true)
+  pub next-able : (j : ℕ) → next_able xs at ≡ Some j → (j < length xs) × (can_go (standing_at xs j) ≡ true)
   next-able j e =
       let f : First (map can_go xs) places j = first_next j e in
       let h : j < length xs = rw length-map at (marked-below (map can_go xs) j f.marked) in
@@ -175,16 +175,16 @@ module _ (xs : List Standing) (at : ℕ) where
 
   module _ (in_round : at ≤ length xs) (i : ℕ) (h : i < length xs) where
     -- it is nobody's turn: no store can go on
-    next-none : next_able xs at ≡ none → can_go (standing_at xs i) ≡ false
+    next-none : next_able xs at ≡ None → can_go (standing_at xs i) ≡ false
     unfolding Found
     next-none e =
         let w : (s : ℕ) × (s < length xs) × Further (length xs) at i s = further (length xs) at in_round i h in
         let has : get_or places w.0 0 ≡ i = round-has (length xs) at in_round i w.0 h w.1 w.2 in
-        let off : get_or (map can_go xs) (get_or places w.0 0) false ≡ false = found-next none e w.0 (rw length-places w.1) in
+        let off : get_or (map can_go xs) (get_or places w.0 0) false ≡ false = found-next None e w.0 (rw length-places w.1) in
         sym (mark-at xs i h) ∙ ap (λ (k : ℕ). get_or (map can_go xs) k false) (sym has) ∙ off
 
     -- it is the turn of another than i, which can go on: the turn after it is nearer to i
-    next-nearer : (j s : ℕ) → next_able xs at ≡ some j → i ≢ j → can_go (standing_at xs i) ≡ true → s < length xs → Further (length xs) at i s
+    next-nearer : (j s : ℕ) → next_able xs at ≡ Some j → i ≢ j → can_go (standing_at xs i) ≡ true → s < length xs → Further (length xs) at i s
         → (r : ℕ) × (r < s) × Further (length xs) (suc j) i r
     next-nearer j s e other able l w = go (dec_lt q s)
       where
@@ -218,7 +218,7 @@ module _ (xs : List Standing) (at : ℕ) where
         go (no g) = absurd (late (dec_lt s q) g)
 
 -- what comes before it in the round cannot go on
-pub passed-over : (xs : List Standing) (at : ℕ) → at ≤ length xs → (j : ℕ) → next_able xs at ≡ some j
+pub passed-over : (xs : List Standing) (at : ℕ) → at ≤ length xs → (j : ℕ) → next_able xs at ≡ Some j
     → (k : ℕ) → k < length xs → Earlier at k j → can_go (standing_at xs k) ≡ false
 passed-over xs at in_round j e k h earlier =
     sym (mark-at xs k h) ∙ ap (λ (i : ℕ). get_or (map can_go xs) i false) (sym has)
@@ -249,16 +249,16 @@ passed-over xs at in_round j e k h earlier =
 
 module _ (turn_length : ℕ) where
   -- none where it is nobody's turn; else that store's, and then the rest, with the round at the index after it
-  pub turns-none : (turns at : ℕ) (xs : List Standing) → next_able xs at ≡ none → turns_from turn_length (suc turns) at xs ≡ []
+  pub turns-none : (turns at : ℕ) (xs : List Standing) → next_able xs at ≡ None → turns_from turn_length (suc turns) at xs ≡ []
   unfolding turns_from
   turns-none turns at xs e =
-      ap (λ (o : Option ℕ). elim o [ none ↦ [] | some i ↦ i ∷ turns_from turn_length turns (suc i) (turn_of turn_length i xs) ]) e
+      ap (λ (o : Option ℕ). elim o [ None ↦ [] | Some i ↦ i ∷ turns_from turn_length turns (suc i) (turn_of turn_length i xs) ]) e
 
-  pub turns-some : (turns at : ℕ) (xs : List Standing) (j : ℕ) → next_able xs at ≡ some j
+  pub turns-some : (turns at : ℕ) (xs : List Standing) (j : ℕ) → next_able xs at ≡ Some j
       → turns_from turn_length (suc turns) at xs ≡ j ∷ turns_from turn_length turns (suc j) (turn_of turn_length j xs)
   unfolding turns_from
   turns-some turns at xs j e =
-      ap (λ (o : Option ℕ). elim o [ none ↦ [] | some i ↦ i ∷ turns_from turn_length turns (suc i) (turn_of turn_length i xs) ]) e
+      ap (λ (o : Option ℕ). elim o [ None ↦ [] | Some i ↦ i ∷ turns_from turn_length turns (suc i) (turn_of turn_length i xs) ]) e
 
   -- AT MOST AS MANY AS ARE STATED
   pub most : (turns at : ℕ) (xs : List Standing) → length (turns_from turn_length turns at xs) ≤ turns
@@ -268,8 +268,8 @@ module _ (turn_length : ℕ) where
     where
       go : (o : Option ℕ) → next_able xs at ≡ o → ((j : ℕ) → length (turns_from turn_length turns (suc j) (turn_of turn_length j xs)) ≤ turns)
           → length (turns_from turn_length (suc turns) at xs) ≤ suc turns
-      go none e rest = rw (turns-none turns at xs e) (omega arith)
-      go (some j) e rest = rw (turns-some turns at xs j e) (omega (arith, rest j))
+      go None e rest = rw (turns-none turns at xs e) (omega arith)
+      go (Some j) e rest = rw (turns-some turns at xs j e) (omega (arith, rest j))
 
   -- after these turns no store can go on
   abbrev NoneCan : ℕ → ℕ → List Standing → Type 0
@@ -287,8 +287,8 @@ module _ (turn_length : ℕ) where
           → ((j : ℕ) → length (turns_from turn_length turns (suc j) (turn_of turn_length j xs)) < turns → suc j ≤ length (turn_of turn_length j xs)
           → NoneCan turns (suc j) (turn_of turn_length j xs))
           → can_go (standing_at (after_turns turn_length (turns_from turn_length (suc turns) at xs) xs) i) ≡ false
-      go none e rest = rw (turns-none turns at xs e) (next-none xs at in_round i h e)
-      go (some j) e rest =
+      go None e rest = rw (turns-none turns at xs e) (next-none xs at in_round i h e)
+      go (Some j) e rest =
           let all : List ℕ = turns_from turn_length turns (suc j) (turn_of turn_length j xs) in
           let one : suc (length all) < suc turns = rw (turns-some turns at xs j e) at few in
           rw (turns-some turns at xs j e) (rest j (omega arith) (rw turn-length (next-able xs at j e).0) i (rw turn-length h))
@@ -296,7 +296,7 @@ module _ (turn_length : ℕ) where
   -- the first turn of a call is of store j: it is its turn, and the rest are given after it
   record Turned (at : ℕ) (xs : List Standing) (j : ℕ) (rest : List ℕ) : Type 0 where
     left : ℕ
-    next : next_able xs at ≡ some j
+    next : next_able xs at ≡ Some j
     later : turns_from turn_length left (suc j) (turn_of turn_length j xs) ≡ rest
 
   turned : (turns at : ℕ) (xs : List Standing) (j : ℕ) (rest : List ℕ) → turns_from turn_length turns at xs ≡ j ∷ rest → Turned at xs j rest
@@ -305,13 +305,13 @@ module _ (turn_length : ℕ) where
   turned (suc turns) at xs j rest e = go (next_able xs at) refl
     where
       go : (o : Option ℕ) → next_able xs at ≡ o → Turned at xs j rest
-      go none n = absurd (nil≢cons (sym (turns-none turns at xs n) ∙ e))
-      go (some k) n =
+      go None n = absurd (nil≢cons (sym (turns-none turns at xs n) ∙ e))
+      go (Some k) n =
           let both : k ∷ turns_from turn_length turns (suc k) (turn_of turn_length k xs) ≡ j ∷ rest = sym (turns-some turns at xs k n) ∙ e in
           let same : k ≡ j = head-eq_of_cons-eq both in
           record {
             left = turns;
-            next = n ∙ ap some same;
+            next = n ∙ ap Some same;
             later = ap (λ (m : ℕ). turns_from turn_length turns (suc m) (turn_of turn_length m xs)) (sym same) ∙ tail-eq_of_cons-eq both;
           }
 

@@ -10,14 +10,17 @@ use borrow.Author.Tests.{eqb-true, leb-true, eq-eqb}
 use lib.Dec.{eqb, leb}
 use lib.ListN.{length, get_or, length-map, get_or-eq_default}
 use Rattle.limits.specs.Limits.{store_size, most_stores, most_turn}
-use Rattle.limits.specs.Refusals.{accepted, bad_store, too_many, bad_part, bad_turn}
+use Rattle.std.specs.Prelude.{Ok, is_ok}
+use Rattle.limits.specs.declared.Refusal.TheVariants.{BadStore, TooMany, BadPart, BadTurn}
+use Rattle.limits.specs.Refusals.{number_of, answer_of}
 use Rattle.ring.specs.Ring.{listed}
 use Rattle.plans.specs.Plan.{within}
 use Rattle.store.specs.Store.{store_in_range}
 use Rattle.platform.specs.Calls.{AfterRun, run_next, run, run_refusal, events_done}
 use Rattle.platform.proofs.Stores.{run_in}
-use Rattle.dispatcher.specs.Dispatch.{joined, stores_in, Standing, standing_at, after_turns, standings, turns_of, standings_after, for_eight}
-use Rattle.dispatcher.specs.Dispatch.{AfterDispatch, given, part_after, gave, refused, turned_down, all_in_range, part_in_range, dispatch}
+use Rattle.dispatcher.specs.Dispatch.{joined, stores_in, Standing, standing_at, after_turns, standings, turns_of, standings_after}
+use Rattle.dispatcher.specs.declared.Dispatched.{Dispatched}
+use Rattle.dispatcher.specs.Dispatch.{AfterDispatch, given, part_after, gave, turned_down, all_in_range, part_in_range, dispatch}
 use Rattle.dispatcher.specs.Tally.{Whole, AllReady}
 use Rattle.dispatcher.specs.Claims.{turns_at, Dispatches, store_left, alone}
 use Rattle.dispatcher.proofs.Pieces.{AllSized, length-joined, joined-pieces}
@@ -25,7 +28,7 @@ use Rattle.dispatcher.proofs.Marks.{eight-at, eight-length, bit_at}
 use Rattle.dispatcher.proofs.Parts.{stores-count, each-in-range, lent-ready}
 use Rattle.dispatcher.proofs.Round.{most, fewer, starts, follows, able, waits}
 use Rattle.dispatcher.proofs.Alone.{alone as by_itself}
-use Rattle.dispatcher.proofs.Giving.{map_at, told_at, standings-count, stand-count, stands, stand-ready}
+use Rattle.dispatcher.proofs.Giving.{map_at, standings-count, stand-count, stands, stand-ready}
 
 -- stores put together are cut into the same stores again
 pub stores-joined : (bs : List (List ℕ)) → AllSized store_size bs → stores_in (joined bs) ≡ bs
@@ -43,19 +46,19 @@ pub record Accepts (part : List ℕ) (turn_length turns : ℕ) : Type 0 where
   pub in_range : all_in_range (stores_in part) ≡ true
   pub gives : dispatch part turn_length turns ≡ gave part turn_length turns
 
-pub accepts : (part : List ℕ) (turn_length turns : ℕ) → (dispatch part turn_length turns).answer.number ≡ accepted → Accepts part turn_length turns
-unfolding dispatch refused within part_in_range
+pub accepts : (part : List ℕ) (turn_length turns : ℕ) → is_ok (dispatch part turn_length turns).answer ≡ true → Accepts part turn_length turns
+unfolding dispatch within part_in_range
 accepts part turn_length turns e =
     go (within 1 (most_stores * store_size) (length part)) (within 1 most_turn turn_length) (part_in_range part) refl refl refl e
   where
     by : Bool → Bool → Bool → AfterDispatch
-    by a b c = cond a (cond b (cond c (gave part turn_length turns) (turned_down bad_store part)) (turned_down bad_turn part)) (turned_down bad_part part)
+    by a b c = cond a (cond b (cond c (gave part turn_length turns) (turned_down BadStore part)) (turned_down BadTurn part)) (turned_down BadPart part)
 
     go : (a b c : Bool) → within 1 (most_stores * store_size) (length part) ≡ a → within 1 most_turn turn_length ≡ b → part_in_range part ≡ c
-        → (by a b c).answer.number ≡ accepted → Accepts part turn_length turns
-    go false b c p q r z = absurd (omega arith)
-    go true false c p q r z = absurd (omega arith)
-    go true true false p q r z = absurd (omega arith)
+        → is_ok (by a b c).answer ≡ true → Accepts part turn_length turns
+    go false b c p q r z = absurd (true≢false (sym z))
+    go true false c p q r z = absurd (true≢false (sym z))
+    go true true false p q r z = absurd (true≢false (sym z))
     go true true true p q r z =
         let size = (and-eq-true_iff (leb 1 (length part)) _).0 p in
         let turn = (and-eq-true_iff (leb 1 turn_length) _).0 q in
@@ -71,30 +74,31 @@ accepts part turn_length turns e =
         }
 
 -- any other call leaves its part
-pub part_left : (part : List ℕ) (turn_length turns : ℕ) → (dispatch part turn_length turns).answer.number ≢ accepted
+pub part_left : (part : List ℕ) (turn_length turns : ℕ) → is_ok (dispatch part turn_length turns).answer ≡ false
     → (dispatch part turn_length turns).part ≡ part
-unfolding dispatch refused gave given
+unfolding dispatch gave
 part_left part turn_length turns other =
     go (within 1 (most_stores * store_size) (length part)) (within 1 most_turn turn_length) (part_in_range part) other
   where
     by : Bool → Bool → Bool → AfterDispatch
-    by a b c = cond a (cond b (cond c (gave part turn_length turns) (turned_down bad_store part)) (turned_down bad_turn part)) (turned_down bad_part part)
+    by a b c = cond a (cond b (cond c (gave part turn_length turns) (turned_down BadStore part)) (turned_down BadTurn part)) (turned_down BadPart part)
 
-    go : (a b c : Bool) → (by a b c).answer.number ≢ accepted → (by a b c).part ≡ part
+    go : (a b c : Bool) → is_ok (by a b c).answer ≡ false → (by a b c).part ≡ part
     go false b c o = refl
     go true false c o = refl
     go true true false o = refl
-    go true true true o = absurd (o refl)
+    go true true true o = absurd (true≢false o)
 
 -- and 7 refuses none whose part is in range
-pub not-seven : (part : List ℕ) (turn_length turns : ℕ) → part_in_range part ≡ true → (dispatch part turn_length turns).answer.number ≢ bad_store
-unfolding dispatch refused gave given
+pub not-seven : (part : List ℕ) (turn_length turns : ℕ) → part_in_range part ≡ true
+    → answer_of (dispatch part turn_length turns).answer ≢ number_of BadStore
+unfolding dispatch gave
 not-seven part turn_length turns e =
     go (within 1 (most_stores * store_size) (length part)) (within 1 most_turn turn_length) (part_in_range part) e
   where
     go : (a b c : Bool) → c ≡ true
-        → (cond a (cond b (cond c (gave part turn_length turns) (turned_down bad_store part)) (turned_down bad_turn part)) (turned_down bad_part part)
-        ).answer.number ≢ bad_store
+        → answer_of (cond a (cond b (cond c (gave part turn_length turns) (turned_down BadStore part)) (turned_down BadTurn part))
+        (turned_down BadPart part)).answer ≢ number_of BadStore
     go false b c t = λ z. omega arith
     go true false c t = λ z. omega arith
     go true true false t = absurd (true≢false (sym t))
@@ -123,6 +127,14 @@ module _ (part : List ℕ) (turn_length turns : ℕ) (ready : AllReady (stores_i
 
   abbrev is : List ℕ
   is = turns_of part turn_length turns
+
+  -- what it answers
+  abbrev answer : Dispatched
+  answer = given (length is) xs
+
+  pub answers : (dispatch part turn_length turns).answer ≡ Ok answer
+  unfolding gave
+  answers = ap (λ (d : AfterDispatch). d.answer) a.gives
 
   count : length (stores_in part) ≡ n
   count = stores-count n part a.whole
@@ -176,22 +188,21 @@ module _ (part : List ℕ) (turn_length turns : ℕ) (ready : AllReady (stores_i
         ap (λ (bs : List (List ℕ)). get_or bs i []) left-stores ∙ left_at i inside ∙ ap (λ (x : Standing). x.store) stands-so
         ∙ ap (λ (r : AfterRun). r.store) (sym (ran (turns_at i is * turn_length)))
 
-    pub events-so : get_or (dispatch part turn_length turns).answer.events i 0 ≡ events_done (alone part turn_length turns i).answer
-    unfolding gave given
+    pub events-so : get_or answer.events i 0 ≡ events_done (alone part turn_length turns i).answer
+    unfolding given
     events-so =
-        ap (λ (d : AfterDispatch). get_or d.answer.events i 0) a.gives
-        ∙ told_at 0 (λ (x : Standing). x.events) xs i (rw last-count inside) (for_eight 0 (map (λ (x : Standing). x.events) xs)) refl
+        eight-at 0 (map (λ (x : Standing). x.events) xs) i
+        ∙ map_at 0 (λ (x : Standing). x.events) xs i (rw last-count inside)
         ∙ ap (λ (x : Standing). x.events) stands-so
         ∙ ap (λ (r : AfterRun). events_done r.answer) (sym (ran (turns_at i is * turn_length)))
 
-    pub stopped-so : listed (dispatch part turn_length turns).answer.stopped i ≡ eqb (run_refusal (alone part turn_length turns i).answer) too_many
-    unfolding gave given
+    pub stopped-so : listed answer.stopped i ≡ eqb (run_refusal (alone part turn_length turns i).answer) (number_of TooMany)
+    unfolding given
     stopped-so =
-        ap (λ (d : AfterDispatch). listed d.answer.stopped i) a.gives
-        ∙ bit_at (map (λ (x : Standing). x.stopped) xs) i
+        bit_at (map (λ (x : Standing). x.stopped) xs) i
         ∙ map_at false (λ (x : Standing). x.stopped) xs i (rw last-count inside)
         ∙ ap (λ (x : Standing). x.stopped) stands-so
-        ∙ ap (λ (r : AfterRun). eqb (run_refusal r.answer) too_many) (sym (ran (turns_at i is * turn_length)))
+        ∙ ap (λ (r : AfterRun). eqb (run_refusal r.answer) (number_of TooMany)) (sym (ran (turns_at i is * turn_length)))
 
   few-left : length (map (λ (x : Standing). x.events) xs) ≤ most_stores
   few-left = rw (length-map xs (λ (x : Standing). x.events), last-count) a.whole.most
@@ -201,26 +212,22 @@ module _ (part : List ℕ) (turn_length turns : ℕ) (ready : AllReady (stores_i
     beyond : {A : Type 0} (z : A) (f : Standing → A) → get_or (map f xs) i z ≡ z
     beyond z f = get_or-eq_default (map f xs) z {n = i} (rw (length-map xs f, last-count) (rw count at h))
 
-    no-events : get_or (dispatch part turn_length turns).answer.events i 0 ≡ 0
-    unfolding gave given
-    no-events =
-        ap (λ (d : AfterDispatch). get_or d.answer.events i 0) a.gives
-        ∙ eight-at 0 (map (λ (x : Standing). x.events) xs) i ∙ beyond 0 (λ (x : Standing). x.events)
+    no-events : get_or answer.events i 0 ≡ 0
+    unfolding given
+    no-events = eight-at 0 (map (λ (x : Standing). x.events) xs) i ∙ beyond 0 (λ (x : Standing). x.events)
 
-    no_stop : listed (dispatch part turn_length turns).answer.stopped i ≡ false
-    unfolding gave given
-    no_stop =
-        ap (λ (d : AfterDispatch). listed d.answer.stopped i) a.gives
-        ∙ bit_at (map (λ (x : Standing). x.stopped) xs) i ∙ beyond false (λ (x : Standing). x.stopped)
+    no_stop : listed answer.stopped i ≡ false
+    unfolding given
+    no_stop = bit_at (map (λ (x : Standing). x.stopped) xs) i ∙ beyond false (λ (x : Standing). x.stopped)
 
   -- THE CLAIMS, for stores that are ready
-  pub accepted-dispatches : Dispatches part turn_length turns
-  unfolding turns_of standings_after gave given after_turns
+  pub accepted-dispatches : Dispatches part turn_length turns answer
+  unfolding turns_of standings_after given after_turns
   accepted-dispatches = record {
     store = store-so;
     events = events-so;
     stopped = stopped-so;
-    eight = ap (λ (d : AfterDispatch). length d.answer.events) a.gives ∙ eight-length 0 (map (λ (x : Standing). x.events) xs) few-left;
+    eight = eight-length 0 (map (λ (x : Standing). x.events) xs) few-left;
     others = λ i h. (no-events i h, no_stop i h);
     starts = λ i rest e k h. starts turn_length turns 0 (standings part) (omega arith) i rest e k (rw first_count (rw count at h));
     round = λ before i j rest e k h. follows turn_length turns 0 (standings part) before i j rest e k (rw first_count (rw count at h));
@@ -231,7 +238,7 @@ module _ (part : List ℕ) (turn_length turns : ℕ) (ready : AllReady (stores_i
         let few : length others < length (standings part) =
         waits turn_length turns 0 (standings part) before others rest i e (omega arith) (rw first_count (rw count at h)) can off in
         omega (arith, first_count, a.whole.most);
-    given = ap (λ (d : AfterDispatch). d.answer.turns) a.gives;
+    given = refl;
     most = most turn_length turns 0 (standings part);
     fewer = λ few i h. fewer turn_length turns 0 (standings part) few (omega arith) i (rw first_count (rw count at h));
   }
@@ -239,7 +246,10 @@ module _ (part : List ℕ) (turn_length turns : ℕ) (ready : AllReady (stores_i
 -- ---- a lent part, of bytes: number 7's test of each store of the part is enough
 
 pub dispatches-lent : (part : List ℕ) → ((i : ℕ) → get_or part i 0 < 256) → (turn_length turns : ℕ)
-    → (dispatch part turn_length turns).answer.number ≡ accepted → Dispatches part turn_length turns
-dispatches-lent part byte turn_length turns e =
-    let a : Accepts part turn_length turns = accepts part turn_length turns e in
-    accepted-dispatches part turn_length turns (lent-ready (length part / store_size) part a.whole byte a.in_range) a
+    → (answer : Dispatched) → (dispatch part turn_length turns).answer ≡ Ok answer → Dispatches part turn_length turns answer
+dispatches-lent part byte turn_length turns answer e =
+    let a : Accepts part turn_length turns = accepts part turn_length turns (ap is_ok e) in
+    let ready = lent-ready (length part / store_size) part a.whole byte a.in_range in
+    let both = sym (answers part turn_length turns ready a) ∙ e in
+    let same : given (length (turns_of part turn_length turns)) (standings_after part turn_length turns) ≡ answer = cc in
+    rw (← same) (accepted-dispatches part turn_length turns ready a)

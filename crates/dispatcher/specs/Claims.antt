@@ -1,9 +1,11 @@
 -- What request 104 claims of every accepted call of the dispatcher. proofs/Theorems.antt proves it. Assumes nothing.
 use Rattle.std.specs.Prelude.{◌≡◌, true, false, cond, List, [], ◌∷◌, ◌++◌, ◌⊎◌}
 use Rattle.std.specs.Prelude.{ℕ, suc, ◌+◌, ◌*◌, ◌≤◌, ◌<◌, eqb, length, get_or}
-use Rattle.limits.specs.Refusals.{too_many}
+use Rattle.limits.specs.declared.Refusal.TheVariants.{TooMany}
+use Rattle.limits.specs.Refusals.{number_of}
 use Rattle.ring.specs.Ring.{listed}
 use Rattle.platform.specs.Calls.{AfterRun, run, run_refusal, events_done}
+use Rattle.dispatcher.specs.declared.Dispatched.{Dispatched}
 use Rattle.dispatcher.specs.Dispatch.{stores_in, Standing, can_go, standing_at, after_turns, standings, turns_of, standings_after, dispatch}
 
 -- how many turns of a list are of the store at index i
@@ -31,16 +33,15 @@ module _ (part : List ℕ) (turn_length turns : ℕ) where
   abbrev pub stands_after : List ℕ → ℕ → Standing
   stands_after is i = standing_at (after_turns turn_length is (standings part)) i
 
-  pub record Dispatches : Type 0 where
+  -- a is the call's answer
+  pub record Dispatches (a : Dispatched) : Type 0 where
     -- 'After its turns each store holds what a run of it by itself would', and its events are that run's; it is stopped where 8 refuses that run
     pub store : (i : ℕ) → i < length (stores_in part) → store_left i ≡ (alone i).store
-    pub events : (i : ℕ) → i < length (stores_in part) → get_or (dispatch part turn_length turns).answer.events i 0 ≡ events_done (alone i).answer
-    pub stopped : (i : ℕ) → i < length (stores_in part)
-        → listed (dispatch part turn_length turns).answer.stopped i ≡ eqb (run_refusal (alone i).answer) too_many
+    pub events : (i : ℕ) → i < length (stores_in part) → get_or a.events i 0 ≡ events_done (alone i).answer
+    pub stopped : (i : ℕ) → i < length (stores_in part) → listed a.stopped i ≡ eqb (run_refusal (alone i).answer) (number_of TooMany)
     -- eight stores have events in the answer: 0 where there is no such store, and no such store is stopped
-    pub eight : length (dispatch part turn_length turns).answer.events ≡ 8
-    pub others : (i : ℕ) → length (stores_in part) ≤ i
-        → (get_or (dispatch part turn_length turns).answer.events i 0 ≡ 0) × (listed (dispatch part turn_length turns).answer.stopped i ≡ false)
+    pub eight : length a.events ≡ 8
+    pub others : (i : ℕ) → length (stores_in part) ≤ i → (get_or a.events i 0 ≡ 0) × (listed a.stopped i ≡ false)
     -- 'A call starts at index 0': the first turn passes no store that can go on
     pub starts : (i : ℕ) (rest : List ℕ) → turns_of part turn_length turns ≡ i ∷ rest
         → (k : ℕ) → k < length (stores_in part) → Earlier 0 k i → can_go (stands_after [] k) ≡ false
@@ -55,7 +56,7 @@ module _ (part : List ℕ) (turn_length turns : ℕ) where
     pub waits : (before others rest : List ℕ) (i : ℕ) → turns_of part turn_length turns ≡ before ++ (others ++ rest) → i < length (stores_in part)
         → can_go (stands_after before i) ≡ true → turns_at i others ≡ 0 → length others ≤ 7
     -- 'a stated number of turns, fewer once no store can go on'
-    pub given : (dispatch part turn_length turns).answer.turns ≡ length (turns_of part turn_length turns)
+    pub given : a.turns ≡ length (turns_of part turn_length turns)
     pub most : length (turns_of part turn_length turns) ≤ turns
     pub fewer : length (turns_of part turn_length turns) < turns → (i : ℕ) → i < length (stores_in part)
         → can_go (standing_at (standings_after part turn_length turns) i) ≡ false

@@ -2,9 +2,12 @@
 -- A call that is refused leaves what it was lent. Assumes nothing.
 use Rattle.std.specs.Prelude.{Bool, true, false, cond, not, ◌&&◌, List, [], ◌∷◌, ◌++◌, map, ℕ, zero}
 use Rattle.std.specs.Prelude.{suc, ◌+◌, ◌*◌, ◌-◌, ◌/◌, ◌%◌, eqb, length, get_or, take, drop, set, replicate}
-use Rattle.std.proofs.Math.Option.{Option, none, some}
+use Rattle.std.specs.Prelude.{Option, Some, None, Result, Ok, Err}
+use Rattle.std.proofs.Math.Option.{Option as Maybe, none, some}
 use Rattle.limits.specs.Limits.{store_size, most_stores, most_turn}
-use Rattle.limits.specs.Refusals.{accepted, bad_store, too_many, bad_part, bad_turn}
+use Rattle.limits.specs.declared.Refusal.{Refusal}
+use Rattle.limits.specs.declared.Refusal.TheVariants.{BadStore, TooMany, BadPart, BadTurn}
+use Rattle.limits.specs.Refusals.{number_of}
 use Rattle.ring.specs.Ring.{numbers, round}
 use Rattle.plans.specs.Plan.{within}
 use Rattle.model.specs.Platform.{Entry, next_event}
@@ -38,7 +41,7 @@ pub record Standing : Type 0 where
 unfoldable pub fresh : List ℕ → Standing
 fresh store = record { store = store; events = 0; stopped = false }
 
-unfoldable pub is_left : Option Entry → Bool
+unfoldable pub is_left : Maybe Entry → Bool
 is_left none = false
 is_left (some e) = true
 
@@ -56,7 +59,7 @@ can_go x = event_left x.store && not x.stopped
 unfoldable pub after_turn : ℕ → Standing → Standing
 after_turn turn_length x =
     let r : AfterRun = run_next x.store turn_length in
-    record { store = r.store; events = x.events + events_done r.answer; stopped = eqb (run_refusal r.answer) too_many }
+    record { store = r.store; events = x.events + events_done r.answer; stopped = eqb (run_refusal r.answer) (number_of TooMany) }
 
 -- the store at an index; there is none beyond the last
 abbrev pub standing_at : List Standing → ℕ → Standing
@@ -75,8 +78,8 @@ after_turns turn_length (i ∷ is) xs = after_turns turn_length is (turn_of turn
 
 -- the first of these indexes that is marked
 unfoldable pub first_marked : List Bool → List ℕ → Option ℕ
-first_marked marks [] = none
-first_marked marks (i ∷ is) = cond (get_or marks i false) (some i) (first_marked marks is)
+first_marked marks [] = None
+first_marked marks (i ∷ is) = cond (get_or marks i false) (Some i) (first_marked marks is)
 
 -- the next store that can go on, where the round stands at an index: from there on to the last, then from 0
 unfoldable pub next_able : List Standing → ℕ → Option ℕ
@@ -86,7 +89,7 @@ next_able xs at = first_marked (map can_go xs) (round (numbers 0 (length xs)) at
 unfoldable pub turns_from : ℕ → ℕ → ℕ → List Standing → List ℕ
 turns_from turn_length zero at xs = []
 turns_from turn_length (suc turns) at xs =
-    elim (next_able xs at) [ none ↦ [] | some i ↦ i ∷ turns_from turn_length turns (suc i) (turn_of turn_length i xs) ]
+    elim (next_able xs at) [ None ↦ [] | Some i ↦ i ∷ turns_from turn_length turns (suc i) (turn_of turn_length i xs) ]
 
 -- ---- a call
 
@@ -112,13 +115,12 @@ bits [] = 0
 bits (b ∷ bs) = cond b 1 0 + 2 * bits bs
 
 pub record AfterDispatch : Type 0 where
-  pub answer : Dispatched
+  pub answer : Result Dispatched Refusal
   pub part : List ℕ
 
 -- 'The answer gives the turns and each store's events', and which stores are stopped, as bits
 unfoldable pub given : ℕ → List Standing → Dispatched
 given turns xs = record {
-  number = accepted;
   turns = turns;
   events = for_eight 0 (map (λ (x : Standing). x.events) xs);
   stopped = bits (map (λ (x : Standing). x.stopped) xs);
@@ -131,14 +133,11 @@ part_after xs = joined (map (λ (x : Standing). x.store) xs)
 unfoldable pub gave : List ℕ → ℕ → ℕ → AfterDispatch
 gave part turn_length turns =
     let xs : List Standing = standings_after part turn_length turns in
-    record { answer = given (length (turns_of part turn_length turns)) xs; part = part_after xs }
+    record { answer = Ok (given (length (turns_of part turn_length turns)) xs); part = part_after xs }
 
 -- a refused call gives no turn
-unfoldable pub refused : ℕ → Dispatched
-refused number = record { number = number; turns = 0; events = for_eight 0 []; stopped = 0 }
-
-abbrev pub turned_down : ℕ → List ℕ → AfterDispatch
-turned_down number part = record { answer = refused number; part = part }
+abbrev pub turned_down : Refusal → List ℕ → AfterDispatch
+turned_down refusal part = record { answer = Err refusal; part = part }
 
 -- every store of a part is in range
 unfoldable pub all_in_range : List (List ℕ) → Bool
@@ -154,6 +153,6 @@ unfoldable pub dispatch : List ℕ → ℕ → ℕ → AfterDispatch
 dispatch part turn_length turns =
     cond (within 1 (most_stores * store_size) (length part))
     (cond (within 1 most_turn turn_length)
-    (cond (part_in_range part) (gave part turn_length turns) (turned_down bad_store part))
-    (turned_down bad_turn part))
-    (turned_down bad_part part)
+    (cond (part_in_range part) (gave part turn_length turns) (turned_down BadStore part))
+    (turned_down BadTurn part))
+    (turned_down BadPart part)

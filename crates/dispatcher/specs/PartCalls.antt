@@ -2,9 +2,9 @@
 -- What they leave of each store, and the steps and runs on that store alone that leave the same. Then the same of one store, where something else
 -- may stand around it at each call of the dispatcher. Assumes nothing.
 use Rattle.std.specs.Prelude.{◌≡◌, ◌≢◌, cond, ◌&&◌, List, [], ◌∷◌, ◌++◌, ℕ, ◌+◌, ◌*◌}
-use Rattle.std.specs.Prelude.{◌-◌, ◌/◌, ◌%◌, ◌<◌, eqb, leb, ltb, length, get_or, take, drop, set}
+use Rattle.std.specs.Prelude.{◌-◌, ◌/◌, ◌%◌, ◌<◌, eqb, leb, ltb, length, get_or, take, drop, set, is_ok}
 use Rattle.limits.specs.Limits.{store_size}
-use Rattle.limits.specs.Refusals.{accepted}
+use Rattle.limits.specs.Refusals.{accepted, answer_of}
 use Rattle.platform.specs.CallLists.{Call, a_run, store_after, refusal}
 use Rattle.dispatcher.specs.Dispatch.{joined, stores_in, turns_of, AfterDispatch, dispatch}
 use Rattle.dispatcher.specs.Claims.{turns_at}
@@ -33,7 +33,7 @@ stores_after_all (c ∷ cs) stores = stores_after_all cs (stores_after c stores)
 -- the number that refuses a call, 0 where it is not refused; beyond the last store there is none to call on
 unfoldable pub number_of : PartCall → List (List ℕ) → ℕ
 number_of (on_one i c) stores = cond (ltb i (length stores)) (refusal c (get_or stores i [])) accepted
-number_of (over_some first n turn_length turns) stores = (dispatch (lent first n stores) turn_length turns).answer.number
+number_of (over_some first n turn_length turns) stores = answer_of (dispatch (lent first n stores) turn_length turns).answer
 
 -- ---- what they come to for the store at index i
 
@@ -42,7 +42,7 @@ unfoldable pub calls_of : ℕ → PartCall → List (List ℕ) → List Call
 calls_of i (on_one j c) stores = cond (eqb j i) (c ∷ []) []
 calls_of i (over_some first n turn_length turns) stores =
     let part : List ℕ = lent first n stores in
-    cond ((leb first i && ltb i (first + n)) && eqb (dispatch part turn_length turns).answer.number accepted)
+    cond ((leb first i && ltb i (first + n)) && is_ok (dispatch part turn_length turns).answer)
     (a_run (turns_at (i - first) (turns_of part turn_length turns) * turn_length) ∷ []) []
 
 unfoldable pub calls_on : ℕ → List PartCall → List (List ℕ) → List Call
@@ -88,7 +88,7 @@ unfoldable pub comes_to : LentCall → List ℕ → List Call
 comes_to (on_it c) store = c ∷ []
 comes_to (among before after turn_length turns) store =
     let part : List ℕ = before ++ (store ++ after) in
-    cond (eqb (dispatch part turn_length turns).answer.number accepted)
+    cond (is_ok (dispatch part turn_length turns).answer)
     (a_run (turns_at (length before / store_size) (turns_of part turn_length turns) * turn_length) ∷ []) []
 
 unfoldable pub lent_calls : List LentCall → List ℕ → List Call

@@ -1,47 +1,50 @@
--- What the functions of the code ask for and answer, below the call: the index of a turn's store, the tally of the turns, whole parts and stores
--- that are ready. Assumes nothing.
-use Rattle.std.specs.Prelude.{◌≡◌, Bool, true, false, List, [], ℕ, ◌+◌, ◌*◌, ◌≤◌, ◌<◌, length, get_or, set}
-use Rattle.std.proofs.Math.Option.{Option, none, some}
+-- What the functions of the code ask for and answer, below the call: the tally of each store's turns, whole parts and stores that are ready.
+-- Assumes nothing.
+use Rattle.std.specs.Prelude.{◌≡◌, Bool, true, false, List, [], map, ℕ, ◌+◌, ◌*◌, ◌≤◌, ◌<◌, length, get_or, Result, Ok, Err}
 use Rattle.limits.specs.Limits.{store_size, most_stores}
-use Rattle.limits.specs.Refusals.{accepted}
 use Rattle.event.specs.Ready.{Ready}
 use Rattle.platform.specs.declared.Ran.{Ran}
-use Rattle.platform.specs.declared.Ran.TheVariants.{Done, Spent, Refused}
+use Rattle.platform.specs.declared.Ran.TheVariants.{Done, Spent}
+use Rattle.platform.specs.declared.RunRefusal.{RunRefusal}
 use Rattle.platform.specs.Calls.{events_done}
 use Rattle.dispatcher.specs.declared.Dispatched.{Dispatched}
-use Rattle.dispatcher.specs.declared.tally.Index.{Index}
-use Rattle.dispatcher.specs.declared.tally.Index.TheVariants.{At, Nowhere}
 use Rattle.dispatcher.specs.declared.tally.Tally.{Tally}
-use Rattle.dispatcher.specs.Dispatch.{bits}
+use Rattle.dispatcher.specs.Dispatch.{Standing, can_go, bits}
 
-unfoldable pub index_of : Option ℕ → Index
-index_of none = Nowhere
-index_of (some i) = At i
+-- ---- the tally of a store's turns
 
--- ---- the tally of the turns
+-- what the code keeps of how a store stands
+unfoldable pub tally_of : Standing → Tally
+tally_of x = record { able = can_go x; stopped = x.stopped; events = x.events }
+
+-- of a store that has had no turn
+abbrev pub new_tally : Bool → Tally
+new_tally able = record { able = able; stopped = false; events = 0 }
 
 -- a store goes on after a turn that is spent; it is stopped by one that is refused
-unfoldable pub goes_on : Ran → Bool
-goes_on (Spent n) = true
-goes_on (Done n) = false
-goes_on (Refused number n) = false
+unfoldable pub goes_on : Result Ran RunRefusal → Bool
+goes_on (Ok (Spent n)) = true
+goes_on (Ok (Done n)) = false
+goes_on (Err r) = false
 
-unfoldable pub is_stopped : Ran → Bool
-is_stopped (Spent n) = false
-is_stopped (Done n) = false
-is_stopped (Refused number n) = true
+unfoldable pub is_stopped : Result Ran RunRefusal → Bool
+is_stopped (Ok a) = false
+is_stopped (Err r) = true
 
--- after a turn of the store at index i
-unfoldable pub tallied : Tally → ℕ → Ran → Tally
-tallied t i a = record {
-  able = set t.able i (goes_on a);
-  stopped = set t.stopped i (is_stopped a);
-  events = set t.events i (get_or t.events i 0 + events_done a);
-}
+-- after a turn
+unfoldable pub after_ran : Tally → Result Ran RunRefusal → Tally
+after_ran t a = record { able = goes_on a; stopped = is_stopped a; events = t.events + events_done a }
+
+-- which stores the tallies say can go on, and which they say are stopped
+abbrev pub able_marks : List Tally → List Bool
+able_marks ts = map (λ (t : Tally). t.able) ts
+
+abbrev pub stopped_marks : List Tally → List Bool
+stopped_marks ts = map (λ (t : Tally). t.stopped) ts
 
 -- what a call answers after so many turns
-unfoldable pub answer_of : Tally → ℕ → Dispatched
-answer_of t turns = record { number = accepted; turns = turns; events = t.events; stopped = bits t.stopped }
+unfoldable pub answer_of : List Tally → ℕ → Dispatched
+answer_of ts turns = record { turns = turns; events = map (λ (t : Tally). t.events) ts; stopped = bits (stopped_marks ts) }
 
 -- a part of n stores
 pub record Whole (n : ℕ) (part : List ℕ) : Type 0 where

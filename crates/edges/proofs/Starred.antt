@@ -8,7 +8,7 @@ use Rattle.node.specs.Node.{reports, opening as node_opening, learnt, on_heartbe
 use Rattle.text.specs.Number.{digit, decimal}
 use Rattle.text.specs.Hex.{hex_byte, hex_value}
 use Rattle.text.specs.Field.{ends, onto, number_field_at, list_field_at}
-use Rattle.runfile.specs.File.{lines, field_then, pair_of, crash_of, delay_of, start_of, form_of}
+use Rattle.runfile.specs.File.{lines, two_of, crash_of, delay_of, start_of, form_of}
 use Rattle.runfile.specs.File.{row_of, or_else, start_line, early, crash_line, delay_line, first_line}
 use Rattle.runfile.specs.File.{numbers_then, ring_of, fresh, ring_line, later_line, step_then, later_lines, all_lines, file_of}
 use Rattle.plans.specs.Plan.{within, start_ranges, long_enough, crash_range, delay_range, rising_from, rising, later, hits, none_twice, crash_order, above}
@@ -25,7 +25,7 @@ unfolding among each_once listing_all unlisting merging numbers_then ring_of fre
     listed listing passing unlisted place round ahead first_unlisted back next count powers jumps targets dead targets_of search_from five report_to5
     beat_to5 reports node_opening learnt on_heartbeat on_observer on_report on_heartbeat_due leaving on_message digit decimal hex_byte number_field_at ends
     within start_ranges long_enough crash_range delay_range rising_from rising later hits none_twice crash_order above delay_order few_delays onto lines
-    start_plan field_then pair_of crash_of delay_of start_of form_of row_of or_else with_crash with_delay start_line early crash_line delay_line first_line
+    start_plan two_of crash_of delay_of start_of form_of row_of or_else with_crash with_delay start_line early crash_line delay_line first_line
     later_line step_then later_lines all_lines file_of line_text alive survivors with_crashed crashed_list start crash_entries message_entries timer_entry
     timer_entries pending earlier first up_to next_event delay_in message_delay numbered taken without received apply fits tried try other_of last_letter
     last_line lines_from log bytes judged log_text written log_of worked_log moves crash_deed message_deed watch_deed heartbeat_deed deed_of deed_lines

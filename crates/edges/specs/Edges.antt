@@ -1,9 +1,10 @@
 -- The table of document 01's starred edges, an entry each with 01's words above it: what a definition gives there; and those of document
 -- 02's line Q, of its reported emitter, of its line K, of its heartbeats with a list and of its last line F. To add one, write its line here and
 -- `refl` for it in proofs/Starred.antt. Assumes nothing.
-use Rattle.std.specs.Prelude.{◌≡◌, List, [], ◌∷◌, ◌++◌, ℕ}
+use Rattle.std.specs.Prelude.{◌≡◌, Ok, Err, List, [], ◌∷◌, ◌++◌, ℕ}
 use Prim.Native.Char.{code}
 use Prim.Native.String.{String, [] as empty, ◌∷◌ as before}
+use Rattle.limits.specs.declared.Refusal.TheVariants.{BadForm, OutOfRange, NotRising, ShortPart, NotEachOnce}
 use Rattle.ring.specs.declared.NodeBefore.{NodeBefore}
 use Rattle.ring.specs.Ring.{numbers, listing, node_before, place, back, back_from, powers, targets}
 use Rattle.node.specs.declared.Node.{Node}
@@ -11,8 +12,6 @@ use Rattle.node.specs.Node.{Turn, turn, due, H, O, R, message, beat, silent, sen
 use Rattle.runfile.specs.File.{FileAnswer, accepted, turned_down, file_of}
 use Rattle.plans.specs.Plan.{start_plan, with_ring, with_delay}
 use Rattle.logline.specs.declared.Line.{Line}
-use Rattle.logline.specs.declared.Read.TheVariants.{Accepted, Refused}
-use Rattle.logline.specs.declared.Written.TheVariants.{Bytes, Refused as Unwritten}
 use Rattle.logline.specs.Line.{letter_f, letter_k, read_of, line_text, written_of as line_written}
 use Rattle.model.specs.Lines.{line, log}
 
@@ -57,7 +56,7 @@ log_text (l ∷ ls) = line_text l ++ log_text ls
 -- the whole log of an accepted file that has fewer than 20 events
 unfoldable pub written : FileAnswer → List ℕ
 written (accepted p) = log_text (log p 20)
-written (turned_down number line) = []
+written (turned_down refusal line) = []
 
 unfoldable pub log_of : String → List ℕ
 log_of file = written (judged file)
@@ -100,11 +99,11 @@ pub record Edges : Type 0 where
   -- "D 5: delay 5 passes"
   pub delay-5-passes : judged "P,2,2,7,5,6\nL,0,5\n" ≡ accepted (with_delay (start_plan 2 2 7 5 6) (record { number = 0; delay = 5 }))
   -- "0 and 6 get 3"
-  pub delay-0-refused : judged "P,2,2,7,5,6\nL,0,0\n" ≡ turned_down 3 2
-  pub delay-6-refused : judged "P,2,2,7,5,6\nL,0,6\n" ≡ turned_down 3 2
+  pub delay-0-refused : judged "P,2,2,7,5,6\nL,0,0\n" ≡ turned_down OutOfRange 2
+  pub delay-6-refused : judged "P,2,2,7,5,6\nL,0,6\n" ≡ turned_down OutOfRange 2
   -- "after `C,3,1`, both `C,3,1` and `C,3,0` get 5"
-  pub crash-twice-refused : judged "P,2,2,3,1,6\nC,3,1\nC,3,1\n" ≡ turned_down 5 3
-  pub crash-falling-refused : judged "P,2,2,3,1,6\nC,3,1\nC,3,0\n" ≡ turned_down 5 3
+  pub crash-twice-refused : judged "P,2,2,3,1,6\nC,3,1\nC,3,1\n" ≡ turned_down NotRising 3
+  pub crash-falling-refused : judged "P,2,2,3,1,6\nC,3,1\nC,3,0\n" ≡ turned_down NotRising 3
   -- the line Q of document 02, #101: three nodes, the ring 1, 0, 2
   -- "one line Q with N node numbers parted by commas, each exactly once"
   pub ring-taken : judged "P,3,2,3,1,2\nQ,1,0,2\n" ≡ accepted (with_ring (start_plan 3 2 3 1 2) (1 ∷ 0 ∷ 2 ∷ []))
@@ -115,13 +114,13 @@ pub record Edges : Type 0 where
       ++ bytes "S,2,2,1,0000000000000000\n"
       ++ bytes "E,2,3,3,0000000000000000\n"
   -- "13, Q is not each node once; tried after 3 on the Q line"
-  pub node-twice-refused : judged "P,3,2,3,1,2\nQ,1,0,1\n" ≡ turned_down 13 2
-  pub no-node-before-twice : judged "P,3,2,3,1,2\nQ,1,1,3\n" ≡ turned_down 3 2
+  pub node-twice-refused : judged "P,3,2,3,1,2\nQ,1,0,1\n" ≡ turned_down NotEachOnce 2
+  pub no-node-before-twice : judged "P,3,2,3,1,2\nQ,1,1,3\n" ≡ turned_down OutOfRange 2
   -- form: another count of numbers, and a place that is not right "after P"
-  pub two-numbers-refused : judged "P,3,2,3,1,2\nQ,1,0\n" ≡ turned_down 2 2
-  pub four-numbers-refused : judged "P,3,2,3,1,2\nQ,1,0,2,1\n" ≡ turned_down 2 2
-  pub ring-twice-refused : judged "P,3,2,3,1,2\nQ,1,0,2\nQ,1,0,2\n" ≡ turned_down 2 3
-  pub ring-after-crash-refused : judged "P,3,2,3,1,2\nC,1,0\nQ,1,0,2\n" ≡ turned_down 2 3
+  pub two-numbers-refused : judged "P,3,2,3,1,2\nQ,1,0\n" ≡ turned_down BadForm 2
+  pub four-numbers-refused : judged "P,3,2,3,1,2\nQ,1,0,2,1\n" ≡ turned_down BadForm 2
+  pub ring-twice-refused : judged "P,3,2,3,1,2\nQ,1,0,2\nQ,1,0,2\n" ≡ turned_down BadForm 3
+  pub ring-after-crash-refused : judged "P,3,2,3,1,2\nC,1,0\nQ,1,0,2\n" ≡ turned_down BadForm 3
   -- the report of document 02, #102: node 5 of eight, whose emitter is 4
   -- "such a report makes the node move in the same event: list, new emitter, watch due tick + 2 × W, O to the new emitter, then the R messages"
   pub emitter-reported : report_to5 4 (3 ∷ []) []
@@ -148,12 +147,12 @@ pub record Edges : Type 0 where
   -- at opening nothing was left, and nothing is listed
   pub passes_none : back (numbers 0 3) 0 (place (numbers 0 3) 0) ≡ node_before 2 0
   -- its line is read, with a number to 63; "a sixth column" is not of its form
-  pub move_read : read_of (bytes "K,6,0,63,0000000000000002\n") ≡ Accepted (line letter_k 6 0 63 2)
-  pub move-64-refused : read_of (bytes "K,6,0,64,0000000000000002\n") ≡ Refused 3
-  pub six-columns-refused : read_of (bytes "K,6,0,1,0000000000000002,7\n") ≡ Refused 2
+  pub move_read : read_of (bytes "K,6,0,63,0000000000000002\n") ≡ Ok (line letter_k 6 0 63 2)
+  pub move-64-refused : read_of (bytes "K,6,0,64,0000000000000002\n") ≡ Err OutOfRange
+  pub six-columns-refused : read_of (bytes "K,6,0,1,0000000000000002,7\n") ≡ Err BadForm
   -- "Number 9 now reads under 80 for every log part"
-  pub part-80-written : line_written (line letter_k 6 0 1 2) 80 ≡ Bytes 25
-  pub part-79-refused : line_written (line letter_k 6 0 1 2) 79 ≡ Unwritten 9
+  pub part-80-written : line_written (line letter_k 6 0 1 2) 80 ≡ Ok 25
+  pub part-79-refused : line_written (line letter_k 6 0 1 2) 79 ≡ Err ShortPart
   -- the heartbeats of document 02, #107: node 5 of eight, whose emitter is 4
   -- "Each H message carries its sender's list"
   pub list-carried : on_heartbeat_due 3 21 (five (3 ∷ []) [])
@@ -174,6 +173,6 @@ pub record Edges : Type 0 where
       ++ bytes "K,2,1,1,0000000000000001\n"
       ++ bytes "F,2,2,0,0000000000000000\n"
   -- "the log reader takes F as E"
-  pub last-read : read_of (bytes "F,6,64,2048,0000000000000002\n") ≡ Accepted (line letter_f 6 64 2048 2)
-  pub last-65-refused : read_of (bytes "F,6,65,0,0000000000000002\n") ≡ Refused 3
-  pub last-2049-refused : read_of (bytes "F,6,64,2049,0000000000000002\n") ≡ Refused 3
+  pub last-read : read_of (bytes "F,6,64,2048,0000000000000002\n") ≡ Ok (line letter_f 6 64 2048 2)
+  pub last-65-refused : read_of (bytes "F,6,65,0,0000000000000002\n") ≡ Err OutOfRange
+  pub last-2049-refused : read_of (bytes "F,6,64,2049,0000000000000002\n") ≡ Err OutOfRange

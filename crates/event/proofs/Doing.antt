@@ -6,7 +6,8 @@ use mathlib.Core.Logic.{◌≢◌}
 use mathlib.Core.Bool.{Bool, true, false, cond, not}
 use mathlib.Core.List.Memᴰ
 use mathlib.Core.List.{List, [], ◌∷◌, ◌++◌, Memᴰ}
-use mathlib.Core.Option.{Option, none, some}
+use mathlib.Core.Option.{Option as Optional, none, some}
+use Rattle.std.specs.Prelude.{Option, Some, None, Ok, Err}
 use native.Mathlib.Omega.{arith}
 use borrow.Author.Tests.{eq-eqb, ne_eqb}
 use lib.Dec.{eqb}
@@ -29,7 +30,7 @@ use Rattle.node.proofs.Ranges.{Took}
 use Rattle.model.specs.Range.{FlightRange, Sound}
 use Rattle.plans.specs.Plain.{Plain}
 use Rattle.logline.specs.Line.{letter_c as C, letter_x as X}
-use Rattle.model.specs.Lines.{other_of, deed, moves, crash_deed, message_deed, watch_deed, heartbeat_deed, deed_of}
+use Rattle.model.specs.Lines.{other_of, deed, moves, move_of, crash_deed, message_deed, watch_deed, heartbeat_deed, deed_of}
 use Rattle.model.proofs.NextEvent.{Chosen}
 use Rattle.model.proofs.SettledNode.{crashed-listed}
 use Rattle.model.proofs.RangesKept.{node-taken, at_mem, received-took, watch-taken, beat-taken, not-early}
@@ -39,10 +40,9 @@ use Rattle.store.specs.Inside.{SmallNode, Fits, Held, flying, with_tick, crashed
 use Rattle.store.proofs.Store.{plan-encode, state-encode, held-encode}
 use Rattle.store.proofs.Fitting.{list-fits}
 use Rattle.store.proofs.States.{take-fits}
-use Rattle.event.specs.declared.Happened.{Happened}
-use Rattle.event.specs.declared.Happened.TheVariants.{Did, Ended, Refused}
+use Rattle.limits.specs.declared.Refusal.TheVariants.{TooMany}
 use Rattle.event.specs.declared.Next.{Next}
-use Rattle.event.specs.declared.Next.TheVariants.{Crash, Message as Delivery, Watch, Heartbeat, Nothing}
+use Rattle.event.specs.declared.Next.TheVariants.{Crash, Message as Delivery, Watch, Heartbeat}
 use Rattle.event.specs.Event.{SmallMessage, Turns, entry, next_at, next_of, happened, NextIs, next_outcome, next_answer, store_left, turn_of, turn_left}
 use Rattle.event.specs.Ready.{Ready}
 use Rattle.plans.proofs.Tests.{ranges}
@@ -192,7 +192,7 @@ module _ {b : List ℕ} {t x : ℕ} {e : Event} {turn : Plan → Node → Turn} 
         turns-of b t x u _ is k.ready.held k.ready.plan timer-tick k.place k.takes.few h (ready-next b k.ready)
         (took-node b k.ready t e k.next x _ k.takes) (took-message b k.ready t e k.next x _ k.takes)
 
-    pub timer-refused : most_in_flight < length (state_in b).flight + u.count → (◌≡◌ {A = Happened} Refused (next_answer b)) × (b ≡ store_left b)
+    pub timer-refused : most_in_flight < length (state_in b).flight + u.count → (Err TooMany ≡ next_answer b) × (b ≡ store_left b)
     timer-refused h =
         refused-answer (plan_in b) (state_in b) b k.ready.held.canonical
         (turn-refused (plan_in b) (state_in b) t e k.next x (state_in b).flight u _ is k.applied h)
@@ -206,7 +206,7 @@ module _ {b : List ℕ} {t x : ℕ} {e : Event} {turn : Plan → Node → Turn} 
     timer-passed = ap (λ (w : Turned). w.passed) is
 
     pub timer-done : {a : Deed} → a ≡ tells (node_of (state_in b) x) u.node u.passed
-        → length (state_in b).flight + u.count ≤ most_in_flight → (Did a ≡ next_answer b) × (turn_left b t x u ≡ store_left b)
+        → length (state_in b).flight + u.count ≤ most_in_flight → (Ok (Some a) ≡ next_answer b) × (turn_left b t x u ≡ store_left b)
     unfolding turn_of
     timer-done {a} ae h =
         let after = node-taken (plan_in b) t x (state_in b) (state_in b).flight (turn_of u) (rw (ready-sound b k.ready).nodes k.place) in
@@ -220,15 +220,15 @@ module _ (b : List ℕ) (r : Ready b) (t k : ℕ) (next : NextIs b t (crash k)) 
   unfolding Chosen
   crash-place = let ch = chosen b r t (crash k) next in rw (← ch.2) ((ready-plain b r).node (state_in b).done ch.0)
 
-  pub crash-done : (b' : List ℕ) (a : Deed) → a ≡ deed C t k k (node_of (state_in b) k).list false 0
+  pub crash-done : (b' : List ℕ) (a : Deed) → a ≡ deed C t k k (node_of (state_in b) k).list None
       → b' ≡ encode (plan_in b) (crashed (with_tick (state_in b) t))
-      → (Did a ≡ next_answer b) × (b' ≡ store_left b)
+      → (Ok (Some a) ≡ next_answer b) × (b' ≡ store_left b)
   unfolding deed_of crash_deed moves apply with_tick crashed
   crash-done b' a ae q =
       let e : ℕ = (node_of (state_in b) k).emitter in
       let stays : eqb e e ≡ true = eq-eqb e e refl in
       did-answer (plan_in b) (state_in b) b' a _ _ (try-did (plan_in b) (state_in b) t (crash k) next (ready-sound b r).few) q
-      (ae ∙ ap (λ (c : Bool). deed C t k k (node_of (state_in b) k).list (not c) 0) (sym stays))
+      (ae ∙ ap (λ (c : Bool). deed C t k k (node_of (state_in b) k).list (cond (not c) (Some 0) None)) (sym stays))
 
 -- ---- a message
 
@@ -322,7 +322,7 @@ module _ (b : List ℕ) (r : Ready b) (t i : ℕ) (next : NextIs b t (message i)
       message-by = refl
 
       pub message-refused : most_in_flight < length (state_in b).flight - 1 + u.count
-          → (◌≡◌ {A = Happened} Refused (next_answer b)) × (b ≡ store_left b)
+          → (Err TooMany ≡ next_answer b) × (b ≡ store_left b)
       message-refused h =
           refused-answer (plan_in b) (state_in b) b r.held.canonical
           (turn-refused (plan_in b) (state_in b) t (message i) next M.to (without i (state_in b).flight) u _ is message-by
@@ -357,7 +357,7 @@ module _ (b : List ℕ) (r : Ready b) (t i : ℕ) (next : NextIs b t (message i)
       pub message-done : (dead : ℕ) (l : Bool) → dead ≡ crashed_list (plan_in b) (state_in b).done → l ≡ listed dead f.to
           → (a : Deed) → a ≡ message_deed t (message_of f) (not l) (node_of (state_in b) f.to) u.node u.passed
           → length (without i (state_in b).flight) + u.count ≤ most_in_flight
-          → (Did a ≡ next_answer b)
+          → (Ok (Some a) ≡ next_answer b)
           × (encode (plan_in b) (taken (plan_in b) (state_in b) t M.to (without i (state_in b).flight) (turn_of u)) ≡ store_left b)
       unfolding deed_of turn_of
       message-done dead l de le a ae room =
@@ -379,22 +379,11 @@ module _ (b : List ℕ) (r : Ready b) (t i : ℕ) (next : NextIs b t (message i)
             q ∙ (ap₂ (λ (p : Plan) (s : State). encode p (taken p s t f.to s.flight (turn_of u))) (rest-plan room c e) (rest-state room c e)
             ∙ ap (λ (k : ℕ). encode (plan_in b) (taken (plan_in b) (state_in b) t k (without i (state_in b).flight) (turn_of u))) same-to)
 
--- a message that would leave too many in flight: what is answered, and that the store stays
-pub full_answer : (b : List ℕ) (t i : ℕ) (f : Flight) (u : Turned) → Ready b → NextIs b t (message i) → f ≡ flying (message_at (state_in b) i)
-    → u ≡ turned (received (plan_in b) (state_in b) t (message_of f)) → most_in_flight < length (state_in b).flight - 1 + u.count
-    → ◌≡◌ {A = Happened} Refused (next_answer b)
-full_answer b t i f u r next fe ue h = (message-refused b r t i next f fe u (ue ∙ turn-of b r t i next f fe) h).0
-
-pub full_left : (b : List ℕ) (t i : ℕ) (f : Flight) (u : Turned) → Ready b → NextIs b t (message i) → f ≡ flying (message_at (state_in b) i)
-    → u ≡ turned (received (plan_in b) (state_in b) t (message_of f)) → most_in_flight < length (state_in b).flight - 1 + u.count
-    → b ≡ store_left b
-full_left b t i f u r next fe ue h = (message-refused b r t i next f fe u (ue ∙ turn-of b r t i next f fe) h).1
-
 -- ---- what a message did to its receiver, which was n, as the code tells it: it read n as a
 
 module _ (t : ℕ) (m : Flight) (dropped : Bool) (a a' n : Node) (k : ℕ) (same : a ≡ n) (d : Deed) where
   abbrev Of : ℕ → ℕ → Type 0
-  Of letter other = d ≡ deed letter t m.to other a'.list (moves a a') k
+  Of letter other = d ≡ deed letter t m.to other a'.list (move_of a a' k)
 
   abbrev Told : Type 0
   Told = d ≡ message_deed t (message_of m) (not dropped) n a' k
@@ -413,59 +402,59 @@ module _ (t : ℕ) (m : Flight) (dropped : Bool) (a a' n : Node) (k : ℕ) (same
 
 -- ---- the event that the search answers
 
-unfoldable Is : Option Entry → Next → Type 0
-Is o (Crash t k) = o ≡ some (entry t (crash k))
-Is o (Delivery t i) = o ≡ some (entry t (message i))
-Is o (Watch t x) = o ≡ some (entry t (watch x))
-Is o (Heartbeat t x) = o ≡ some (entry t (heartbeat x))
-Is o Nothing = o ≡ none
+unfoldable Is : Optional Entry → Option Next → Type 0
+Is o (Some (Crash t k)) = o ≡ some (entry t (crash k))
+Is o (Some (Delivery t i)) = o ≡ some (entry t (message i))
+Is o (Some (Watch t x)) = o ≡ some (entry t (watch x))
+Is o (Some (Heartbeat t x)) = o ≡ some (entry t (heartbeat x))
+Is o None = o ≡ none
 
-is-next : (o : Option Entry) → Is o (next_of o)
+is-next : (o : Optional Entry) → Is o (next_of o)
 unfolding Is next_of next_at
 is-next none = refl
 is-next (some e) = go e.tick e.event
   where
-    go : (t : ℕ) (ev : Event) → Is (some (entry t ev)) (next_at t ev)
+    go : (t : ℕ) (ev : Event) → Is (some (entry t ev)) (Some (next_at t ev))
     go t (crash k) = refl
     go t (message i) = refl
     go t (watch x) = refl
     go t (heartbeat x) = refl
 
-module _ (o : Option Entry) (n : Next) (e : n ≡ next_of o) where
-  told : (m : Next) → n ≡ m → Is o m
-  told m q = subst (Is o) (sym e ∙ q) (is-next o)
+module _ (o : Optional Entry) where
+  told : {n : Option Next} (m : Option Next) → n ≡ m → n ≡ next_of o → Is o m
+  told m q e = subst (Is o) (sym e ∙ q) (is-next o)
 
-  pub next-crash : (t k : ℕ) → n ≡ Crash t k → o ≡ some (entry t (crash k))
+  pub next-crash : {n : Next} (t k : ℕ) → n ≡ Crash t k → Some n ≡ next_of o → o ≡ some (entry t (crash k))
   unfolding Is
-  next-crash t k q = told (Crash t k) q
+  next-crash t k q e = told (Some (Crash t k)) (ap Some q) e
 
-  pub next-message : (t i : ℕ) → n ≡ Delivery t i → o ≡ some (entry t (message i))
+  pub next-message : {n : Next} (t i : ℕ) → n ≡ Delivery t i → Some n ≡ next_of o → o ≡ some (entry t (message i))
   unfolding Is
-  next-message t i q = told (Delivery t i) q
+  next-message t i q e = told (Some (Delivery t i)) (ap Some q) e
 
-  pub next-watch : (t x : ℕ) → n ≡ Watch t x → o ≡ some (entry t (watch x))
+  pub next-watch : {n : Next} (t x : ℕ) → n ≡ Watch t x → Some n ≡ next_of o → o ≡ some (entry t (watch x))
   unfolding Is
-  next-watch t x q = told (Watch t x) q
+  next-watch t x q e = told (Some (Watch t x)) (ap Some q) e
 
-  pub next-heartbeat : (t x : ℕ) → n ≡ Heartbeat t x → o ≡ some (entry t (heartbeat x))
+  pub next-heartbeat : {n : Next} (t x : ℕ) → n ≡ Heartbeat t x → Some n ≡ next_of o → o ≡ some (entry t (heartbeat x))
   unfolding Is
-  next-heartbeat t x q = told (Heartbeat t x) q
+  next-heartbeat t x q e = told (Some (Heartbeat t x)) (ap Some q) e
 
-  pub next-nothing : n ≡ Nothing → o ≡ none
+  pub next-none : None ≡ next_of o → o ≡ none
   unfolding Is
-  next-nothing q = told Nothing q
+  next-none e = told None refl e
 
 -- none is left
 pub ended-answer : (p : Plan) (s : State) (b : List ℕ) → b ≡ encode p s → next_event p s ≡ none
-    → (◌≡◌ {A = Happened} Ended (happened p s (try p s))) × (b ≡ encode p (left s (try p s)))
+    → (Ok None ≡ happened p s (try p s)) × (b ≡ encode p (left s (try p s)))
 unfolding happened left try tried
 ended-answer p s b e h = rw h (refl, e)
 
-pub ended-stays : (b : List ℕ) → Held b → ◌≡◌ {A = Happened} Ended (next_answer b) → store_left b ≡ b
+pub ended-stays : (b : List ℕ) → Held b → Ok None ≡ next_answer b → store_left b ≡ b
 unfolding happened left
 ended-stays b h e = go (next_outcome b) e
   where
-    go : (o : Outcome) → ◌≡◌ {A = Happened} Ended (happened (plan_in b) (state_in b) o) → encode (plan_in b) (left (state_in b) o) ≡ b
+    go : (o : Outcome) → Ok None ≡ happened (plan_in b) (state_in b) o → encode (plan_in b) (left (state_in b) o) ≡ b
     go (did d s') q = absurd (let z : ◌≡◌ {A = ℕ} 0 1 = cc q in omega arith)
     go ended q = sym h.canonical
     go refused q = absurd (let z : ◌≡◌ {A = ℕ} 0 1 = cc q in omega arith)

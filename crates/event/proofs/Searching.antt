@@ -1,12 +1,12 @@
 -- A search for the next event finds it: the earliest tick, the first event at that tick, and the turns of the loops that look for them.
 -- Assumes nothing.
-use Prim.Native.Nat.{ℕ, zero, suc, ◌+◌, ◌-◌, ◌≤◌, ◌<◌}
+use Prim.Native.Nat.{ℕ, zero, suc, ◌+◌, ◌-◌, ◌≤◌, ◌<◌, min}
 use mathlib.Core.Path.{◌≡◌, refl, sym, ap, ◌∙◌}
 use mathlib.Core.Logic.{◌⊎◌, inl, inr, ◌≢◌}
 use mathlib.Core.Bool.{Bool, true, false, cond, not}
 use mathlib.Core.List.Memᴰ
-use mathlib.Core.List.{List, [], ◌∷◌, ◌++◌, append_assoc, Memᴰ}
-use mathlib.Core.Option.{Option, none, some}
+use mathlib.Core.List.{List, [], ◌∷◌, ◌++◌, map, append_assoc, append-nil, Memᴰ}
+use mathlib.Core.Option.{Option as Optional, none, some}
 use native.Mathlib.Numerals.{add-one}
 use native.Mathlib.Omega.{arith}
 use native.Mathlib.Decide.{dec_lt}
@@ -21,12 +21,19 @@ use Rattle.plans.specs.Plan.{Crash, Plan}
 use Rattle.model.specs.Platform.{InFlight, State, Event, Entry, crash, message, watch, heartbeat, alive, survivors, crashed_list, crash_entries}
 use Rattle.model.specs.Platform.{message_entries, timer_entry, timer_entries, pending, earlier, first, up_to, next_event, no_message}
 use Rattle.plans.specs.Plain.{no_crash, row_at, Plain}
+use Rattle.store.specs.declared.CrashRow.{CrashRow}
+use Rattle.store.specs.Inside.{crash_row}
+use Rattle.store.proofs.Places.{row-here, rows-after}
 use Rattle.model.proofs.NextEvent.{Under, crashes-in}
 use Rattle.model.proofs.Search.{under_first}
 use Rattle.ring.proofs.Laws.{keep-ext}
 use Rattle.model.proofs.SettledNode.{crashed-listed}
-use Rattle.event.specs.declared.Next.TheVariants.{Nothing}
-use Rattle.event.specs.Event.{next_of, entry}
+use Rattle.std.specs.List.{find, range_with_len}
+use Rattle.std.specs.Prelude.{Option, Some, None, option_map}
+use Rattle.std.specs.Option.{option_or}
+use Rattle.event.specs.declared.Next.{Next}
+use Rattle.event.specs.declared.Next.TheVariants.{Crash as Crashes, Message as Delivery}
+use Rattle.event.specs.Event.{next_of, next_at, entry}
 use Rattle.event.specs.Search.{sooner, least_tick, crash_tick, timer_tick, first_at}
 
 -- ---- the earliest tick
@@ -45,6 +52,13 @@ sooner-le t u = go (dec_lt u t)
     go : Dec (u < t) → (sooner t u ≤ t) × (sooner t u ≤ u)
     go (yes h) = rw (sooner-taken t u h) (omega arith, omega arith)
     go (no h) = rw (sooner-kept t u (omega arith)) (omega arith, omega arith)
+
+pub sooner-min : (t u : ℕ) → sooner t u ≡ min t u
+sooner-min t u = go (dec_lt u t)
+  where
+    go : Dec (u < t) → sooner t u ≡ min t u
+    go (yes h) = sooner-taken t u h ∙ omega arith
+    go (no h) = sooner-kept t u (omega arith) ∙ omega arith
 
 pub least-le : (t : ℕ) (xs : List Entry) → least_tick t xs ≤ t
 unfolding least_tick
@@ -112,7 +126,7 @@ unfolding first_at first earlier Under
 first-tick t [] f g h = h
 first-tick t (e ∷ es) f g h = go (eqb e.tick t) refl h (λ q. first-tick t es f (λ x m. g x (Memᴰ.tail m)) q) (at_tick t es f)
   where
-    stays : (r : Option Entry) → Under e.tick r → some (earlier e r) ≡ some e
+    stays : (r : Optional Entry) → Under e.tick r → some (earlier e r) ≡ some e
     stays none u = refl
     stays (some x) u = rw (le-leb e.tick x.tick u)
 
@@ -125,7 +139,7 @@ first-tick t (e ∷ es) f g h = go (eqb e.tick t) refl h (λ q. first-tick t es 
         let ne : e.tick ≢ t = eqb-false e.tick t q in
         let ge : t ≤ e.tick = g e (Memᴰ.head refl) in
         let ft : f.tick ≡ t = tk h in
-        ap (λ (r : Option Entry). some (earlier e r)) (ih h) ∙ ap (λ (b : Bool). some (cond b e f)) (lt-leb e.tick f.tick (omega arith))
+        ap (λ (r : Optional Entry). some (earlier e r)) (ih h) ∙ ap (λ (b : Bool). some (cond b e f)) (lt-leb e.tick f.tick (omega arith))
 
 -- the earliest tick is not after the end: the first event at it is the next
 pub at_least : (p : Plan) (s : State) (t : ℕ) → least_tick (suc p.end) (pending p s) ≡ t → t ≤ p.end → next_event p s ≡ first_at t (pending p s)
@@ -146,7 +160,7 @@ pub none_left : (p : Plan) (s : State) (t : ℕ) → least_tick (suc p.end) (pen
 unfolding next_event up_to Under
 none_left p s t e h = go (first (pending p s)) (under_first t (pending p s) (λ f m. omega (arith, e, least-all (suc p.end) (pending p s) f m)))
   where
-    go : (r : Option Entry) → Under t r → up_to p.end r ≡ none
+    go : (r : Optional Entry) → Under t r → up_to p.end r ≡ none
     go none u = refl
     go (some f) u = rw (lt-leb f.tick p.end (omega arith))
 
@@ -210,15 +224,10 @@ module _ (ms : List InFlight) (i l : ℕ) where
   unfolding message_entries least_tick
   message-next h = rw (add-one i, drop-cons ms i no_message h)
 
-  pub message-sooner : (d : ℕ) → i < length ms → d ≡ (get_or ms i no_message).due → d < l
-      → least_tick l (message_entries i (drop i ms)) ≡ least_tick d (message_entries (i + 1) (drop (i + 1) ms))
-  message-sooner d h e k =
-      message-next h ∙ ap (λ (u : ℕ). least_tick u (message_entries (i + 1) (drop (i + 1) ms))) (ap (sooner l) (sym e) ∙ sooner-taken l d k)
-
-  pub message-later : (d : ℕ) → i < length ms → d ≡ (get_or ms i no_message).due → l ≤ d
-      → least_tick l (message_entries i (drop i ms)) ≡ least_tick l (message_entries (i + 1) (drop (i + 1) ms))
-  message-later d h e k =
-      message-next h ∙ ap (λ (u : ℕ). least_tick u (message_entries (i + 1) (drop (i + 1) ms))) (ap (sooner l) (sym e) ∙ sooner-kept l d k)
+  pub message-least : {d u : ℕ} → i < length ms → d ≡ (get_or ms i no_message).due → u ≡ min l d
+      → least_tick l (message_entries i (drop i ms)) ≡ least_tick u (message_entries (i + 1) (drop (i + 1) ms))
+  message-least {d} h e q =
+      message-next h ∙ ap (λ (u : ℕ). least_tick u (message_entries (i + 1) (drop (i + 1) ms))) (ap (sooner l) (sym e) ∙ sooner-min l d ∙ sym q)
 
   pub messages-over : length ms ≤ i → least_tick l (message_entries i (drop i ms)) ≡ l
   unfolding message_entries least_tick
@@ -230,15 +239,10 @@ pub timer-none : (t v : ℕ) → v ≡ 0 → timer_tick t v ≡ t
 unfolding timer_tick
 timer-none t v e = rw e
 
-pub timer-sooner : (t v u : ℕ) → v ≢ 0 → u ≡ v - 1 → u < t → timer_tick t v ≡ u
+pub timer-min : (t v : ℕ) → v ≢ 0 → timer_tick t v ≡ min t (v - 1)
 unfolding timer_tick
-timer-sooner t zero u h e k = absurd (h refl)
-timer-sooner t (suc v) u h e k = let q : u ≡ v = omega arith in rw (← q) (sooner-taken t u k)
-
-pub timer-later : (t v u : ℕ) → v ≢ 0 → u ≡ v - 1 → t ≤ u → timer_tick t v ≡ t
-unfolding timer_tick
-timer-later t zero u h e k = absurd (h refl)
-timer-later t (suc v) u h e k = let q : u ≡ v = omega arith in sooner-kept t v (omega arith)
+timer-min t zero h = absurd (h refl)
+timer-min t (suc v) h = let q : suc v - 1 ≡ v = omega arith in rw q (sooner-min t v)
 
 timer-least : (t v : ℕ) (e : Event) → least_tick t (timer_entry v e) ≡ timer_tick t v
 unfolding least_tick timer_entry timer_tick
@@ -275,37 +279,95 @@ module _ (p : Plan) (pl : Plain p) (d : ℕ) (ns : List Node) (x l : ℕ) where
 
 -- ---- the first event at a tick
 
+-- of two lists the first's, or else the second's
+next-append : (t : ℕ) (xs ys : List Entry)
+    → next_of (first_at t (xs ++ ys)) ≡ option_or (next_of (first_at t xs)) (next_of (first_at t ys))
+unfolding first_at next_of
+next-append t [] ys = refl
+next-append t (e ∷ xs) ys = go (eqb e.tick t) (next-append t xs ys)
+  where
+    go : (b : Bool) → next_of (first_at t (xs ++ ys)) ≡ option_or (next_of (first_at t xs)) (next_of (first_at t ys))
+        → next_of (cond b (some e) (first_at t (xs ++ ys))) ≡ option_or (next_of (cond b (some e) (first_at t xs))) (next_of (first_at t ys))
+    go true h = refl
+    go false h = h
+
+-- of the crashes, or else of the messages, or else of the timers
+pub pending-first : (p : Plan) (s : State) (t : ℕ) → option_or (option_or (next_of (first_at t (crash_entries (drop s.done p.crashes))))
+    (next_of (first_at t (message_entries 0 s.flight)))) (next_of (first_at t (timer_entries p s.done 0 s.nodes)))
+    ≡ next_of (first_at t (pending p s))
+unfolding pending
+pending-first p s t =
+    let cs : List Entry = crash_entries (drop s.done p.crashes) in
+    let ms : List Entry = message_entries 0 s.flight in
+    let ts : List Entry = timer_entries p s.done 0 s.nodes in
+    go (next_of (first_at t cs)) (next_of (first_at t ms)) (next_of (first_at t ts))
+    ∙ sym (next-append t cs (ms ++ ts) ∙ ap (option_or (next_of (first_at t cs))) (next-append t ms ts))
+  where
+    go : (a b c : Option Next) → option_or (option_or a b) c ≡ option_or a (option_or b c)
+    go None b c = refl
+    go (Some x) b c = refl
+
+option-same : {A : Type 0} (r : Option A) → option_map (λ x. x) r ≡ r
+option-same None = refl
+option-same (Some x) = refl
+
+-- rows from the place j on, of which the code finds the first at tick t
+module _ (t : ℕ) (all : List Crash) where
+  abbrev crash_at : ℕ → CrashRow
+  crash_at i = crash_row (get_or all i no_crash)
+
+  crashes-from : (j : ℕ) (rows : List Crash) → drop j all ≡ rows
+      → option_map (λ (r : CrashRow). Crashes t r.node) (find (λ (r : CrashRow). eqb r.tick t) (map crash_at (range_with_len j (length rows))))
+      ≡ next_of (first_at t (crash_entries rows))
+  unfolding crash_entries first_at next_of next_at
+  crashes-from j [] e = refl
+  crashes-from j (x ∷ rows) e =
+      rw (row-here all no_crash j x rows e)
+      (go (eqb x.tick t) refl (crashes-from (j + 1) rows (rows-after all no_crash j x rows e)))
+    where
+      go : (b : Bool) → eqb x.tick t ≡ b
+          → option_map (λ (r : CrashRow). Crashes t r.node)
+          (find (λ (r : CrashRow). eqb r.tick t) (map crash_at (range_with_len (j + 1) (length rows))))
+          ≡ next_of (first_at t (crash_entries rows))
+          → option_map (λ (r : CrashRow). Crashes t r.node) (cond b (Some (crash_row x))
+          (find (λ (r : CrashRow). eqb r.tick t) (map crash_at (range_with_len (j + 1) (length rows)))))
+          ≡ next_of (cond b (some (entry x.tick (crash x.node))) (first_at t (crash_entries rows)))
+      go true q rest = ap (λ (u : ℕ). Some (Crashes u x.node)) (sym (eqb-true x.tick t q))
+      go false q rest = rest
+
+  pub crashes-first : (done n : ℕ) → n ≡ length all → (r : Option CrashRow)
+      → option_map (λ x. x) r ≡ find (λ (r : CrashRow). eqb r.tick t) (map crash_at (range_with_len done (n - done)))
+      → option_map (λ (r : CrashRow). Crashes t r.node) r ≡ next_of (first_at t (crash_entries (drop done all)))
+  crashes-first done n e r is =
+      let k : n - done ≡ length (drop done all) = omega (arith, length-drop done all) in
+      ap (option_map (λ (r : CrashRow). Crashes t r.node)) (sym (option-same r) ∙ is) ∙ rw k (crashes-from done (drop done all) refl)
+
+module _ (t : ℕ) (all : List InFlight) where
+  messages-from : (j : ℕ) (ms : List InFlight) → drop j all ≡ ms
+      → option_map (Delivery t) (find (λ i. eqb (get_or all i no_message).due t) (range_with_len j (length ms)))
+      ≡ next_of (first_at t (message_entries j ms))
+  unfolding message_entries first_at next_of next_at
+  messages-from j [] e = refl
+  messages-from j (x ∷ ms) e =
+      rw (row-here all no_message j x ms e)
+      (go (eqb x.due t) refl (messages-from (j + 1) ms (rows-after all no_message j x ms e) ∙ rw (add-one j)))
+    where
+      go : (b : Bool) → eqb x.due t ≡ b
+          → option_map (Delivery t) (find (λ i. eqb (get_or all i no_message).due t) (range_with_len (j + 1) (length ms)))
+          ≡ next_of (first_at t (message_entries (suc j) ms))
+          → option_map (Delivery t) (cond b (Some j) (find (λ i. eqb (get_or all i no_message).due t) (range_with_len (j + 1) (length ms))))
+          ≡ next_of (cond b (some (entry x.due (message j))) (first_at t (message_entries (suc j) ms)))
+      go true q rest = ap (λ (u : ℕ). Some (Delivery u j)) (sym (eqb-true x.due t q))
+      go false q rest = rest
+
+  pub messages-first : (n : ℕ) → n ≡ length all → (r : Option ℕ)
+      → option_map (λ x. x) r ≡ find (λ i. eqb (get_or all i no_message).due t) (range_with_len 0 (n - 0))
+      → option_map (Delivery t) r ≡ next_of (first_at t (message_entries 0 all))
+  messages-first n e r is =
+      let k : n - 0 ≡ length all = omega arith in
+      ap (option_map (Delivery t)) (sym (option-same r) ∙ is) ∙ rw k (messages-from 0 all refl)
+
 module _ (t : ℕ) (rest : List Entry) where
-  module _ (rows : List Crash) (i : ℕ) where
-    pub crash-hit : i < length rows → (get_or rows i no_crash).tick ≡ t → first_at t (crash_entries (drop i rows) ++ rest) ≡ some
-        (entry t (crash (get_or rows i no_crash).node))
-    unfolding crash_entries first_at
-    crash-hit h e =
-        rw (drop-cons rows i no_crash h, eq-eqb (get_or rows i no_crash).tick t e) (ap (λ (u : ℕ). some (entry u (crash (get_or rows i no_crash).node))) e)
-
-    pub crash-skip : i < length rows → (get_or rows i no_crash).tick ≢ t
-        → first_at t (crash_entries (drop i rows) ++ rest) ≡ first_at t (crash_entries (drop (i + 1) rows) ++ rest)
-    unfolding crash_entries first_at
-    crash-skip h e = rw (add-one i, drop-cons rows i no_crash h, ne_eqb (get_or rows i no_crash).tick t e)
-
-    pub crash-end : length rows ≤ i → first_at t (crash_entries (drop i rows) ++ rest) ≡ first_at t rest
-    unfolding crash_entries
-    crash-end h = rw (drop_of_length-le rows h)
-
-  module _ (ms : List InFlight) (i : ℕ) where
-    pub message-hit : i < length ms → (get_or ms i no_message).due ≡ t → first_at t (message_entries i (drop i ms) ++ rest) ≡ some (entry t (message i))
-    unfolding message_entries first_at
-    message-hit h e = rw (drop-cons ms i no_message h, eq-eqb (get_or ms i no_message).due t e) (ap (λ (u : ℕ). some (entry u (message i))) e)
-
-    pub message-skip : i < length ms → (get_or ms i no_message).due ≢ t → first_at t (message_entries i (drop i ms) ++ rest) ≡ first_at t
-        (message_entries (i + 1) (drop (i + 1) ms) ++ rest)
-    unfolding message_entries first_at
-    message-skip h e = rw (add-one i, drop-cons ms i no_message h, ne_eqb (get_or ms i no_message).due t e)
-
-    pub message-end : length ms ≤ i → first_at t (message_entries i (drop i ms) ++ rest) ≡ first_at t rest
-    unfolding message_entries
-    message-end h = rw (drop_of_length-le ms h)
-
   timer-hit : (v : ℕ) (e : Event) → v ≡ t + 1 → first_at t (timer_entry v e ++ rest) ≡ some (entry t e)
   unfolding timer_entry first_at
   timer-hit zero e h = absurd (omega arith)
@@ -316,54 +378,58 @@ module _ (t : ℕ) (rest : List Entry) where
   timer-skip zero e h = refl
   timer-skip (suc u) e h = rw (ne_eqb u t (λ q. h (omega arith)))
 
-module _ (p : Plan) (pl : Plain p) (d : ℕ) (ns : List Node) (t x : ℕ) (a : Node) (h : x < length ns) (is : a ≡ get_or ns x (alone x 0 0)) where
-  abbrev Others : List Entry
-  Others = timer_entries p d (x + 1) (drop (x + 1) ns)
+-- the timers of one node, which lives
+module _ (p : Plan) (pl : Plain p) (d t x : ℕ) (a : Node) (un : listed (crashed_list p d) x ≡ false) where
+  abbrev Mine : List Entry
+  Mine = timer_entries p d x (a ∷ [])
 
-  mine : listed (crashed_list p d) x ≡ false → timer_entries p d x (drop x ns) ≡ timer_entry a.watch (watch x) ++
-      (timer_entry a.heartbeat (heartbeat x) ++ Others)
+  mine : Mine ≡ timer_entry a.watch (watch x) ++ (timer_entry a.heartbeat (heartbeat x) ++ [])
   unfolding timer_entries
-  mine un =
-      rw (add-one x, drop-cons ns x (alone x 0 0) h, live_of p pl d x un, is)
-      (append_assoc (timer_entry (get_or ns x (alone x 0 0)).watch (watch x)) (timer_entry (get_or ns x (alone x 0 0)).heartbeat (heartbeat x)) _)
+  mine = rw (live_of p pl d x un) (append_assoc (timer_entry a.watch (watch x)) (timer_entry a.heartbeat (heartbeat x)) [])
 
-  pub watch-hit : listed (crashed_list p d) x ≡ false → a.watch ≡ t + 1 → first_at t (timer_entries p d x (drop x ns)) ≡ some (entry t (watch x))
-  watch-hit un e = ap (first_at t) (mine un) ∙ timer-hit t _ a.watch (watch x) e
+  pub watch-hit : a.watch ≡ t + 1 → first_at t Mine ≡ some (entry t (watch x))
+  watch-hit e = ap (first_at t) mine ∙ timer-hit t _ a.watch (watch x) e
 
-  pub beat-hit : listed (crashed_list p d) x ≡ false → a.watch ≢ t + 1 → a.heartbeat ≡ t + 1
-      → first_at t (timer_entries p d x (drop x ns)) ≡ some (entry t (heartbeat x))
-  beat-hit un n e = ap (first_at t) (mine un) ∙ timer-skip t _ a.watch (watch x) n ∙ timer-hit t _ a.heartbeat (heartbeat x) e
+  module _ (n : a.watch ≢ t + 1) where
+    pub beat-hit : a.heartbeat ≡ t + 1 → first_at t Mine ≡ some (entry t (heartbeat x))
+    beat-hit e = ap (first_at t) mine ∙ timer-skip t _ a.watch (watch x) n ∙ timer-hit t _ a.heartbeat (heartbeat x) e
 
-  pub live-skip : listed (crashed_list p d) x ≡ false → a.watch ≢ t + 1 → a.heartbeat ≢ t + 1
-      → first_at t (timer_entries p d x (drop x ns)) ≡ first_at t Others
-  live-skip un n e = ap (first_at t) (mine un) ∙ timer-skip t _ a.watch (watch x) n ∙ timer-skip t _ a.heartbeat (heartbeat x) e
+    pub timers-off : a.heartbeat ≢ t + 1 → first_at t Mine ≡ none
+    unfolding first_at
+    timers-off e = ap (first_at t) mine ∙ timer-skip t _ a.watch (watch x) n ∙ timer-skip t _ a.heartbeat (heartbeat x) e
 
-module _ (p : Plan) (pl : Plain p) (d : ℕ) (ns : List Node) (t x : ℕ) where
-  pub dead-skip : x < length ns → listed (crashed_list p d) x ≡ true → first_at t (timer_entries p d x (drop x ns)) ≡ first_at t
-      (timer_entries p d (x + 1) (drop (x + 1) ns))
+-- and of one that is dead
+pub dead-off : (p : Plan) → Plain p → (d t x : ℕ) (a : Node) → listed (crashed_list p d) x ≡ true
+    → first_at t (timer_entries p d x (a ∷ [])) ≡ none
+unfolding timer_entries first_at
+dead-off p pl d t x a h = rw (dead-of p pl d x h)
+
+-- the timers of the nodes from x on: those of node x, or else those after it
+module _ (p : Plan) (d t : ℕ) (ns : List Node) (x : ℕ) where
+  nodes-on : x < length ns
+      → next_of (first_at t (timer_entries p d x (drop x ns)))
+      ≡ option_or (next_of (first_at t (timer_entries p d x (get_or ns x (alone x 0 0) ∷ []))))
+      (next_of (first_at t (timer_entries p d (x + 1) (drop (x + 1) ns))))
   unfolding timer_entries
-  dead-skip h un = rw (add-one x, drop-cons ns x (alone x 0 0) h, dead-of p pl d x un)
+  nodes-on h = rw (drop-cons ns x (alone x 0 0) h, add-one x, append-nil) (next-append t _ _)
 
-  pub nodes-end : length ns ≤ x → first_at t (timer_entries p d x (drop x ns)) ≡ none
-  unfolding timer_entries first_at
+  -- node x has one at tick t, or none
+  module _ {r : Option Next} (h : x < length ns) (told : r ≡ next_of (first_at t (timer_entries p d x (get_or ns x (alone x 0 0) ∷ [])))) where
+    pub nodes-hit : (n : Next) → r ≡ Some n → Some n ≡ next_of (first_at t (timer_entries p d x (drop x ns)))
+    nodes-hit n q = sym (nodes-on h ∙ rw (← told, q))
+
+    pub nodes-skip : r ≡ None
+        → next_of (first_at t (timer_entries p d x (drop x ns))) ≡ next_of (first_at t (timer_entries p d (x + 1) (drop (x + 1) ns)))
+    nodes-skip q = nodes-on h ∙ rw (← told, q)
+
+  pub nodes-end : length ns ≤ x → None ≡ next_of (first_at t (timer_entries p d x (drop x ns)))
+  unfolding timer_entries first_at next_of
   nodes-end h = rw (drop_of_length-le ns h)
 
--- ---- a listed node, as the code tests it
+-- ---- a node, as the code tests whether it is listed
 
-module _ (p : Plan) (d dead x : ℕ) (r : Bool) (is : r ≡ listed dead x) (e : dead ≡ crashed_list p d) where
-  pub test_live : not r ≡ true → listed (crashed_list p d) x ≡ false
-  test_live h = rw (← e, ← is) (go r h)
-    where
-      go : (b : Bool) → not b ≡ true → b ≡ false
-      go true q = sym q
-      go false q = refl
-
-  pub test-dead : not r ≡ false → listed (crashed_list p d) x ≡ true
-  test-dead h = rw (← e, ← is) (go r h)
-    where
-      go : (b : Bool) → not b ≡ false → b ≡ true
-      go true q = refl
-      go false q = sym q
+pub listed-as : (p : Plan) (d dead x : ℕ) {r b : Bool} → r ≡ listed dead x → dead ≡ crashed_list p d → r ≡ b → listed (crashed_list p d) x ≡ b
+listed-as p d dead x is e h = rw (← e, ← is) h
 
 -- ---- the whole search
 
@@ -376,7 +442,7 @@ module _ (p : Plan) (s : State) (c m t : ℕ) (crashes : c ≡ crash_tick p s.do
       ∙ least-append (crash_tick p s.done) (message_entries 0 s.flight) _
       ∙ rw (← crashes, ← messages) (sym timers)
 
-  pub search-none : p.end < t → next_of (next_event p s) ≡ Nothing
+  pub search-none : p.end < t → next_of (next_event p s) ≡ None
   unfolding next_of
   search-none h = ap next_of (none_left p s t earliest h)
 

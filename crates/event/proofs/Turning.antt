@@ -26,8 +26,8 @@ use Rattle.store.specs.Store.{encode, plan_in, state_in}
 use Rattle.store.specs.Inside.{Fits, Held, with_flight, with_message, number_taken, with_tick, with_node}
 use Rattle.store.proofs.Store.{plan-encode, state-encode, held-encode}
 use Rattle.store.proofs.States.{tick-fits, node-fits, number_fits, message-fits}
-use Rattle.event.specs.declared.Happened.{Happened}
-use Rattle.event.specs.declared.Happened.TheVariants.{Did, Refused}
+use Rattle.limits.specs.declared.Refusal.TheVariants.{TooMany}
+use Rattle.std.specs.Prelude.{Some, Ok, Err}
 use Rattle.event.specs.Acting.{stamped, joined}
 use Rattle.event.specs.Event.{SmallMessage, Turns, entry, happened, sending, sends_left, turn_of, turn_left}
 use Rattle.event.proofs.Parts.{delay-few}
@@ -114,14 +114,14 @@ module _ (p : Plan) (s : State) (t : ℕ) (ev : Event) (next : next_event p s �
 -- ---- answers
 
 pub refused-answer : (p : Plan) (s : State) (b : List ℕ) → b ≡ encode p s → try p s ≡ refused
-    → (◌≡◌ {A = Happened} Refused (happened p s (try p s))) × (b ≡ encode p (left s (try p s)))
+    → (Err TooMany ≡ happened p s (try p s)) × (b ≡ encode p (left s (try p s)))
 unfolding happened left
 refused-answer p s b e h = rw h (refl, e)
 
 pub did-answer : (p : Plan) (s : State) (b : List ℕ) (a : Deed) (e : Entry) (s' : State) → try p s ≡ did e s' → b ≡ encode p s'
-    → a ≡ deed_of p s s' e.tick e.event → (Did a ≡ happened p s (try p s)) × (b ≡ encode p (left s (try p s)))
+    → a ≡ deed_of p s s' e.tick e.event → (Ok (Some a) ≡ happened p s (try p s)) × (b ≡ encode p (left s (try p s)))
 unfolding happened left
-did-answer p s b a e s' h q k = rw h (ap Did k, q)
+did-answer p s b a e s' h q k = rw h (ap (λ (d : Deed). Ok (Some d)) k, q)
 
 -- ---- how many messages a turn sends
 

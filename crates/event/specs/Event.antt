@@ -1,20 +1,22 @@
 -- What the code answers of an event: the next one, and what became of a try. Document 01's 'The next event is the first of these, in the
 -- earliest tick that has one' and 'A step does one event, answers it and writes its line, or answers done'. Assumes nothing.
 use Rattle.std.specs.Prelude.{true, List, ◌++◌, ◌≡◌, ℕ, ◌+◌, ◌^◌, ◌≤◌, ◌<◌, length, get_or, take}
-use Rattle.std.proofs.Math.Option.{Option, none, some}
+use Rattle.std.specs.Prelude.{Option, Some, None, Result, Ok, Err}
+use Rattle.std.proofs.Math.Option.{Option as Optional, none, some}
 use Rattle.node.specs.declared.Message.{Message}
 use Rattle.node.specs.declared.Turned.{Turned}
 use Rattle.limits.specs.Limits.{most_tick, most_in_flight, most_sent}
+use Rattle.limits.specs.declared.Refusal.{Refusal}
+use Rattle.limits.specs.declared.Refusal.TheVariants.{TooMany}
 use Rattle.node.specs.Node.{Turn}
 use Rattle.plans.specs.Plan.{Plan, plan_test}
 use Rattle.model.specs.Platform.{State, Event, Entry, Outcome, crash, message, watch, heartbeat, did, ended, refused, numbered, next_event, taken, try, left}
+use Rattle.model.specs.declared.Deed.{Deed}
 use Rattle.model.specs.Lines.{deed_of}
 use Rattle.store.specs.Store.{encode, plan_in, state_in}
 use Rattle.store.specs.Inside.{Held, SmallNode}
 use Rattle.event.specs.declared.Next.{Next}
-use Rattle.event.specs.declared.Next.TheVariants.{Crash, Message as Delivery, Watch, Heartbeat, Nothing}
-use Rattle.event.specs.declared.Happened.{Happened}
-use Rattle.event.specs.declared.Happened.TheVariants.{Did, Ended, Refused}
+use Rattle.event.specs.declared.Next.TheVariants.{Crash, Message as Delivery, Watch, Heartbeat}
 
 -- ---- the next event
 
@@ -28,16 +30,17 @@ next_at t (message i) = Delivery t i
 next_at t (watch x) = Watch t x
 next_at t (heartbeat x) = Heartbeat t x
 
-unfoldable pub next_of : Option Entry → Next
-next_of none = Nothing
-next_of (some e) = next_at e.tick e.event
+-- or none
+unfoldable pub next_of : Optional Entry → Option Next
+next_of none = None
+next_of (some e) = Some (next_at e.tick e.event)
 
--- ---- what became of a try: what the event did, or that none is left, or number 8
+-- ---- what became of a try: what the event did, or that none is left, or that it is turned down with number 8
 
-unfoldable pub happened : Plan → State → Outcome → Happened
-happened p s (did e s') = Did (deed_of p s s' e.tick e.event)
-happened p s ended = Ended
-happened p s refused = Refused
+unfoldable pub happened : Plan → State → Outcome → Result (Option Deed) Refusal
+happened p s (did e s') = Ok (Some (deed_of p s s' e.tick e.event))
+happened p s ended = Ok None
+happened p s refused = Err TooMany
 
 -- ---- the next try of a store: its event, what it leads to, what the code answers of it, and the store that it leaves
 
@@ -47,7 +50,7 @@ NextIs b t e = next_event (plan_in b) (state_in b) ≡ some (entry t e)
 abbrev pub next_outcome : List ℕ → Outcome
 next_outcome b = try (plan_in b) (state_in b)
 
-abbrev pub next_answer : List ℕ → Happened
+abbrev pub next_answer : List ℕ → Result (Option Deed) Refusal
 next_answer b = happened (plan_in b) (state_in b) (next_outcome b)
 
 abbrev pub store_left : List ℕ → List ℕ

@@ -11,6 +11,7 @@ ghost use Rattle.std.specs.Prelude.{◌≡◌};
 ghost use Rattle.event.specs.Event.{next_answer, store_left};
 ghost use Rattle.event.specs.Ready.{Ready};
 
+use limits::Refusal;
 use model::Deed;
 
 // The next event: its tick, and the node that crashes, the place of the message, or the node whose timer it is.
@@ -20,27 +21,18 @@ pub enum Next {
     Message(u32, usize),
     Watch(u32, usize),
     Heartbeat(u32, usize),
-    Nothing,
 }
 
-// What became of a try: an event did this; none is left up to the end tick; or more than 2,048 messages would be in flight.
-#[derive(Clone, Copy)]
-pub enum Happened {
-    Did(Deed),
-    Ended,
-    Refused,
-}
-
-// The next event is done, if there is one.
-pub fn do_event(s: &mut [u8]) -> Happened
+// The next event is done, if one is left up to the end tick. What it did; it is refused where more than 2,048 messages would be in flight.
+pub fn do_event(s: &mut [u8]) -> Result<Option<Deed>, Refusal>
     requires { Ready s.old }
     ensures { (result ≡ next_answer s.old) × (s.new ≡ store_left s.old) }
 {
     match search::next_event(s) {
-        Next::Crash(t, k) => act::do_crash(s, t, k),
-        Next::Message(t, i) => act::do_message(s, t, i),
-        Next::Watch(t, x) => act::do_watch(s, t, x),
-        Next::Heartbeat(t, x) => act::do_heartbeat(s, t, x),
-        Next::Nothing => Happened::Ended,
+        Some(Next::Crash(t, k)) => act::do_crash(s, t, k),
+        Some(Next::Message(t, i)) => act::do_message(s, t, i),
+        Some(Next::Watch(t, x)) => act::do_watch(s, t, x),
+        Some(Next::Heartbeat(t, x)) => act::do_heartbeat(s, t, x),
+        None => Ok(None),
     }
 }

@@ -1,12 +1,13 @@
 -- Fields in a list: what is put is got, and all else is left. Assumes nothing.
 use mathlib.Core.Path.{◌≡◌, refl, sym, ap, ◌∙◌}
-use mathlib.Core.List.{List, [], ◌∷◌, ◌++◌, append_assoc}
+use mathlib.Core.List.{List, [], ◌∷◌, ◌++◌, append_assoc, reverse}
 use Prim.Native.Nat.{ℕ, suc, ◌+◌, ◌-◌, ◌*◌, ◌/◌, ◌%◌, ◌^◌, ◌≤◌, ◌<◌}
-use native.Mathlib.Nat.{sub_self, sub-zero, add-zero, pow-le-pow_right, le_trans}
+use native.Mathlib.Nat.{add-zero, pow-le-pow_right, le_trans}
 use native.Mathlib.Omega.{arith}
 use lib.Dec.{lit<}
 use lib.ListN.{length, take, drop, get_or, set, length-take, length-drop}
 use lib.Seq.{drop-cons, sets, sets-eq, length-sets, take_at, drop_at, length-take-le, get_or-drop, get_or-take, get_or-set_other, ext_get_or}
+use Rattle.std.proofs.lemmas.List.{reverse-append, reverse-reverse, length-reverse}
 use Rattle.fields.specs.Fields.{value, bytes, field_at, put_at}
 use Rattle.fields.proofs.Bytes.{length-bytes, value-bytes, bytes-value, value-lt, take-bytes}
 
@@ -117,41 +118,38 @@ field-part a b at width x e h =
 
 -- ---- the loop of `get`, from the highest byte down
 
-pub got-fits : (width x i : ℕ) → x < 256 ^ (width - i) → i ≤ 0 → x < 256 ^ width
-got-fits width x i h k = let e : i ≡ 0 = omega arith in rw (e, sub-zero) at h
-
 -- what has been read leaves room for another byte
-pub got-room : (width x i : ℕ) → x < 256 ^ (width - i) → 0 < i → width ≤ 8 → x < 72057594037927936
-got-room width x i h k w = le_trans h (pow-le-pow_right {n = 256} (lit< tt) {j = 7} (omega arith))
+pub got-room : (x n width : ℕ) → x < 256 ^ n → n < width → width ≤ 8 → x < 72057594037927936
+got-room x n width h k w = le_trans h (pow-le-pow_right {n = 256} (lit< tt) {j = 7} (omega arith))
 
-module _ (s : List ℕ) (at width : ℕ) where
-  pub got-start : 0 ≡ field_at s (at + width) (width - width)
-  got-start = rw (sub_self width) (sym (field-none s (at + width)))
+pub part-bound : (s : List ℕ) (at width n : ℕ) → n < length (reverse (take (at + width - at) (drop at s))) → n < width
+part-bound s at width n h =
+    let l = drop at s in
+    omega (arith, h, length-reverse (take (at + width - at) l), length-take (at + width - at) l)
 
-  pub got-turn : (i : ℕ) → 0 < i → i ≤ width → at + width ≤ length s
-      → field_at s (at + i) (width - i) * 256 + get_or s (at + (i - 1)) 0 ≡ field_at s (at + (i - 1)) (width - (i - 1))
-  got-turn i h hi hl =
-      let e : width - (i - 1) ≡ suc (width - i) = omega arith in
-      let f : at + i ≡ suc (at + (i - 1)) = omega arith in
-      rw (e, f) (sym (field-more s (at + (i - 1)) (width - i) (omega arith)))
+pub got-more : (l : List ℕ) (b : ℕ) → value (reverse l) * 256 + b ≡ value (reverse (l ++ b ∷ []))
+unfolding value
+got-more l b = rw reverse-append
 
-  pub got-end : (i : ℕ) → i ≤ 0 → field_at s (at + i) (width - i) ≡ field_at s at width
-  got-end i h = let e : i ≡ 0 = omega arith in rw (e, sub-zero, add-zero)
+pub got-all : (s l : List ℕ) (at width x n : ℕ) → at + width ≤ length s → x ≡ value (reverse l) → x < 256 ^ n
+    → l ≡ reverse (take (at + width - at) (drop at s)) → n ≡ length (reverse (take (at + width - at) (drop at s)))
+    → (x ≡ field_at s at width) × (x < 256 ^ width)
+unfolding field_at
+got-all s l at width x n h e b f g =
+    let w : at + width - at ≡ width = omega arith in
+    let k : n ≡ width = g ∙ rw (length-reverse, w) (length-take-le width (drop at s) (rw (length-drop at s) (omega arith))) in
+    (e ∙ rw (f, reverse-reverse, w), rw k at b)
 
 -- ---- the loop of `put`, from the lowest byte up
 
-module _ (s : List ℕ) (at width x : ℕ) where
-  pub put-start : put_at s at width x ≡ put_at s (at + 0) (width - 0) x
-  put-start = rw (sub-zero, add-zero)
-
-  pub put-turn : (i : ℕ) → i < width
-      → put_at s (at + i) (width - i) x ≡ put_at (set s (at + i) (x % 256)) (at + (i + 1)) (width - (i + 1)) (x / 256)
+module _ (s : List ℕ) (i end x : ℕ) where
+  pub put-turn : i < end → put_at s i (end - i) x ≡ put_at (set s i (x % 256)) (i + 1) (end - (i + 1)) (x / 256)
   unfolding put_at bytes
-  put-turn i h =
-      let e : width - i ≡ suc (width - (i + 1)) = omega arith in
-      let f : at + (i + 1) ≡ suc (at + i) = omega arith in
+  put-turn h =
+      let e : end - i ≡ suc (end - (i + 1)) = omega arith in
+      let f : i + 1 ≡ suc i = omega arith in
       rw (e, f)
 
-  pub put-end : (i : ℕ) → i ≤ width → width ≤ i → put_at s (at + i) (width - i) x ≡ s
+  pub put-end : end ≤ i → put_at s i (end - i) x ≡ s
   unfolding put_at bytes
-  put-end i h k = let e : width - i ≡ 0 = omega arith in rw e
+  put-end k = let e : end - i ≡ 0 = omega arith in rw e

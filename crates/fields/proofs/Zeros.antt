@@ -1,16 +1,25 @@
 -- Parts that are zero. Assumes nothing.
-use mathlib.Core.Path.{◌≡◌, refl, sym, ◌∙◌, ap, ap₂}
-use mathlib.Core.Bool.{true, false, ◌&&◌, and_assoc, and-eq-true_iff}
-use mathlib.Core.List.{List, [], ◌∷◌, ◌++◌, append-nil}
-use Prim.Native.Nat.{ℕ, zero, suc, ◌+◌, ◌-◌, ◌≤◌, ◌<◌}
-use native.Mathlib.Nat.{sub_self}
+use mathlib.Core.Path.{◌≡◌, refl, sym, ◌∙◌, ap, ap₂, subst}
+use mathlib.Core.Bool.{Bool, true, false, ◌&&◌, and_assoc, and-eq-true_iff}
+use mathlib.Core.List.{List, [], ◌∷◌, ◌++◌, append_assoc, append-nil}
+use Prim.Native.Nat.{ℕ, zero, suc, ◌+◌, ◌-◌, ◌*◌, ◌/◌, ◌%◌, ◌≤◌, ◌<◌}
 use native.Mathlib.Numerals.{add-one}
 use native.Mathlib.Omega.{arith}
 use borrow.Author.Tests.{ne_eqb, eqb-true}
 use lib.Bits.{bit_or, or_add_and, and_le_r}
 use lib.Dec.{eqb}
-use lib.ListN.{length, get_or, take, drop, set, replicate, length-set, take-append-drop}
-use lib.Seq.{slice, slice_empty, slice-cons, take-suc-set, append_snoc, drop-set-lt}
+use lib.ListN.{drop, get_or, length, length-drop, length-set, length-take, replicate, set, take, take-append-drop}
+use lib.Seq.{append_snoc, drop-set-lt, drop_at, slice, slice-cons, take-suc-set, take_at}
+use borrow.Rule.Slice.PartMut.{put_mid}
+use Rattle.std.specs.List.{fold, list_all}
+use Rattle.std.specs.Slice.Iter.{chunks_exact_rest, chunks_exact_size, chunks_exact_steps}
+use Rattle.std.proofs.lemmas.Iterator.{YieldsList}
+use Rattle.std.proofs.lemmas.Iterator.Splits.{YieldsList-from_shown_while}
+use Rattle.std.proofs.lemmas.List.{drop-drop, length-append, length-replicate, replicate-append-replicate}
+use Rattle.std.proofs.Math.Nat.{zero-mul, div-eq_of_lt, add-div_left}
+use lib.Dec.{lit<}
+use Rattle.std.specs.Simd.{first_chunks}
+use Rattle.std.proofs.Math.Bool.{and-true}
 use Rattle.fields.specs.Fields.{cleared, zeros}
 
 -- a list that is zero is so many zeros
@@ -35,6 +44,94 @@ or-none (suc x) y =
     let whole = or_add_and (suc x) y in
     let part = and_le_r (suc x) y in
     rw (ne_eqb (suc x) 0 (λ h. omega (arith, h)), ne_eqb (bit_or (suc x) y) 0 (λ h. omega (arith, whole, part, h)))
+
+-- no bit is set in any of a list's numbers laid over each other, where they are all zero
+pub none-over : (a : ℕ) (l : List ℕ) → eqb (fold bit_or a l) 0 ≡ eqb a 0 && zeros l
+unfolding zeros
+none-over a [] = sym (and-true (eqb a 0))
+none-over a (b ∷ l) = rw (none-over (bit_or a b) l, or-none a b, and_assoc (eqb a 0) (eqb b 0) (zeros l))
+
+zeros-append : (a b : List ℕ) → zeros (a ++ b) ≡ zeros a && zeros b
+unfolding zeros
+zeros-append [] b = refl
+zeros-append (x ∷ a) b = rw (zeros-append a b, and_assoc (eqb x 0) (zeros a) (zeros b))
+
+-- the first k rounds of n numbers are zero, and so is the rest, where all are
+zeros-rounds : (n k : ℕ) (l : List ℕ) → zeros l ≡ list_all zeros (first_chunks n k l) && zeros (drop (k * n) l)
+zeros-rounds n zero l = rw zero-mul
+zeros-rounds n (suc k) l =
+    let e : n + k * n ≡ suc k * n = omega arith in
+    let whole = ap zeros (take-append-drop n l) in
+    let rest = zeros-rounds n k (drop n l) in
+    let parts = zeros-append (take n l) (drop n l) in
+    rw (← whole, parts, rest, drop-drop, e, and_assoc (zeros (take n l)) (list_all zeros (first_chunks n k (drop n l))) (zeros (drop (suc k * n) l)))
+
+rounds-none : (n : ℕ) (l : List ℕ) → length l < n → length (first_chunks n (length l / n) l) ≡ 0
+rounds-none n l h = rw div-eq_of_lt
+
+rounds-some : (n : ℕ) (l x r : List ℕ) → l ≡ x ++ r → length x ≡ n → 0 < n
+    → first_chunks n (length l / n) l ≡ x ∷ first_chunks n (length r / n) r
+rounds-some n l x r e h p =
+    let k : length l / n ≡ suc (length r / n) = rw (e, length-append, h, add-div_left (length r) p, add-one) in
+    rw (k, e, take_at x r n h, drop_at x r n h)
+
+-- what the rounds of eight of a slice yield
+pub rounds-yielded : {s : _} → chunks_exact_size {T = ℕ} s ≡ 8
+    → YieldsList chunks_exact_steps (λ y. y.now) s (first_chunks 8 (length (chunks_exact_rest s) / 8) (chunks_exact_rest s))
+rounds-yielded {s} h =
+    YieldsList-from_shown_while chunks_exact_steps (λ y. y.now)
+    (λ s. first_chunks 8 (length (chunks_exact_rest s) / 8) (chunks_exact_rest s)) (λ s. chunks_exact_size s ≡ 8)
+    (λ s t p r. rounds-none 8 (chunks_exact_rest s) (rw p at r.1.0))
+    (λ s x t p r. (r.0 ∙ p, rounds-some 8 (chunks_exact_rest s) x.now (chunks_exact_rest t) r.1.0 (r.1.1 ∙ p) (lit< tt))) s h
+
+-- a slice is zero where its rounds are and what is left after them is
+pub zeros-parts : (l rest : List ℕ) (r : Bool) → r ≡ list_all zeros (first_chunks 8 (length l / 8) l) → rest ≡ drop (length l - length l % 8) l
+    → r && zeros rest ≡ zeros l
+zeros-parts l rest r e f =
+    let g : length l - length l % 8 ≡ length l / 8 * 8 = omega arith in
+    rw (e, f, g) (sym (zeros-rounds 8 (length l / 8) l))
+
+-- ---- the part that `clear` fills
+
+pub clear-part : (s r : List ℕ) (from to : ℕ) → r ≡ replicate (length (take (to - from) (drop from s))) 0 → from ≤ to → to ≤ length s
+    → put_mid from (to - from) s r ≡ cleared s from to
+unfolding cleared
+clear-part s r from to e h l =
+    let n : length (take (to - from) (drop from s)) ≡ to - from = simp (length-take, length-drop) (omega arith) in
+    let f : from + (to - from) ≡ to = omega arith in
+    rw (e, n, drop-drop, f, append_assoc)
+
+-- a part cleared, and then the one after it
+module _ (s : List ℕ) (from at : ℕ) (h : from ≤ at) (k : at ≤ length s) where
+  unfoldable head : List ℕ
+  head = take from s ++ replicate (at - from) 0
+
+  head-length : length head ≡ at
+  unfolding head
+  head-length = rw (length-append, length-take, length-replicate) (omega (arith, h, k))
+
+  pub clear-length : length (cleared s from at) ≡ length s
+  unfolding cleared
+  clear-length = rw (length-append, length-append, length-take, length-replicate, length-drop) (omega (arith, h, k))
+
+  rest-kept : (n : ℕ) → drop (at + n) (head ++ drop at s) ≡ drop (at + n) s
+  rest-kept n = sym (drop-drop n at (head ++ drop at s)) ∙ ap (drop n) (drop_at head (drop at s) at head-length) ∙ drop-drop n at s
+
+  pub clear-both : (to : ℕ) → at ≤ to → to ≤ length s → cleared (cleared s from at) at to ≡ cleared s from to
+  unfolding cleared head
+  clear-both to l m =
+      let d : at + (to - at) ≡ to = omega arith in
+      let z : (at - from) + (to - at) ≡ to - from = omega arith in
+      let t : take at (head ++ drop at s) ≡ head = take_at head (drop at s) at head-length in
+      let r : drop to (head ++ drop at s) ≡ drop to s = subst (λ (n : ℕ). drop n (head ++ drop at s) ≡ drop n s) d (rest-kept (to - at)) in
+      rw (t, r, append_assoc (take from s) (replicate (at - from) 0) (replicate (to - at) 0), replicate-append-replicate, z)
+
+-- nothing cleared changes nothing
+pub clear-none : (s : List ℕ) (at : ℕ) → s ≡ cleared s at at
+unfolding cleared
+clear-none s at = let z : at - at ≡ 0 = omega arith in rw (z, append-nil) (sym (take-append-drop at s))
+
+-- ---- rounds of n + 1 places: whether they are zero, and zeros put into them, one place after another
 
 -- the number of s at i and the n after it, laid over each other: a bit is set that is set in any of them
 unfoldable pub over : List ℕ → ℕ → ℕ → ℕ
@@ -65,12 +162,6 @@ module _ (n : ℕ) (s : List ℕ) (i to : ℕ) (h : i + suc n ≤ to) (l : to �
   pub zero-missed : (over s i n ≡ 0 → ⊥) → zeros (slice i to s) ≡ false
   zero-missed e = rw (zero-round n s i to h l, ne_eqb (over s i n) 0 e)
 
-pub zero-end : (s : List ℕ) (i to : ℕ) → to ≤ i → i ≤ to → zeros (slice i to s) ≡ true
-unfolding zeros
-zero-end s i to h k = let e : i ≡ to = omega arith in rw (e, slice_empty to s)
-
--- ---- the loops of `clear`
-
 -- s with zeros put at i and in the n places after it
 unfoldable pub zeroed : List ℕ → ℕ → ℕ → List ℕ
 zeroed s i zero = set s i 0
@@ -98,9 +189,3 @@ clear-turn (suc n) s i to h l =
     let fits = length-zeroed n s i in
     let last = clear_next (zeroed s i n) (i + suc n) to (omega (arith, h)) (omega (arith, l, fits)) in
     rw (clear-turn n s i to (omega (arith, h)) l, last, f)
-
-pub clear-end : (s : List ℕ) (i to : ℕ) → i ≤ to → to ≤ i → cleared s i to ≡ s
-unfolding cleared
-clear-end s i to h k =
-    let f : i ≡ to = omega arith in
-    rw (f, sub_self to, append-nil (take to s)) (take-append-drop to s)

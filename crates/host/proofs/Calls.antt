@@ -1,223 +1,171 @@
--- What each call answers and leaves, at each of its returns. Assumes nothing.
+-- What the node calls leave where they are accepted, and what the functions below them ask for. Assumes nothing.
 use mathlib.Core.Path.{◌≡◌, refl, sym, ap, ◌∙◌}
 use mathlib.Core.Bool.{Bool, true, false, cond}
 use mathlib.Core.List.{List}
 use Prim.Native.Nat.{ℕ, ◌≤◌, ◌<◌}
 use native.Mathlib.Omega.{arith}
-use borrow.Author.Tests.{eq-eqb, ne_eqb, le-leb, lt-leb, eqb-true}
-use lib.Dec.{eqb}
+use borrow.Author.Tests.{lt-leb, le-leb, eqb-true}
+use lib.Dec.{eqb, leb}
 use lib.ListN.{length, take}
-use Rattle.limits.specs.Limits.{most_nodes, most_h, most_w, most_tick, most_sent, record_size, part_size}
-use Rattle.limits.specs.Refusals.{out_of_range, accepted, bad_record, bad_tick, bad_message, short_part}
+use Rattle.std.specs.Prelude.{Result, Ok, Err}
+use Rattle.limits.specs.Limits.{most_nodes, most_h, most_w, most_tick, part_size}
+use Rattle.limits.specs.declared.Refusal.{Refusal}
+use Rattle.limits.specs.declared.Refusal.TheVariants.{BadRecord, BadMessage, BadTick, ShortPart}
+use Rattle.limits.specs.Refusals.{accepted, number_of}
 use Rattle.node.specs.declared.Turned.{Turned}
 use Rattle.node.specs.Node.{Turn, R, turned}
-use Rattle.node.specs.Range.{Known}
-use Rattle.node.proofs.Messages.{turned-count, turned-sends}
+use Rattle.node.proofs.Messages.{turned-sends}
 use Rattle.host.specs.declared.Record.{Record}
-use Rattle.host.specs.Record.{encode, decode, openable, sound}
-use Rattle.host.specs.Call.{answer, tick_taken, message_taken, put_messages, record_after, part_after, open_answer, opened_record, open_leaves, delivered}
-use Rattle.host.specs.Call.{deliver_answer, deliver_leaves, deliver_sends, fired, timers_answer, timers_leaves, timers_sends, with_turn}
+use Rattle.host.specs.declared.Received.{Received}
+use Rattle.host.specs.Record.{encode, decode, sound}
+use Rattle.host.specs.Call.{answer, tick_taken, message_taken, received, put_messages, record_after, part_after, delivered}
+use Rattle.host.specs.Call.{fired, with_turn}
 use Rattle.host.proofs.Facts.{InRange, MessageTaken, sound-facts, tick-facts, message-facts}
 use Rattle.host.proofs.Tests.{delivered-subject}
-use Rattle.host.proofs.Turns.{delivered-takes, fired-takes}
-
--- ---- answers
-
-pub answer-record : (a b c d : Bool) → a ≡ false → answer a b c d ≡ bad_record
-unfolding answer
-answer-record a b c d e = rw e
-
-pub answer-tick : (a b c d : Bool) → a ≡ true → b ≡ false → answer a b c d ≡ bad_tick
-unfolding answer
-answer-tick a b c d e f = rw (e, f)
-
-pub answer-message : (a b c d : Bool) → a ≡ true → b ≡ true → c ≡ false → answer a b c d ≡ bad_message
-unfolding answer
-answer-message a b c d e f g = rw (e, f, g)
-
-pub answer-part : (a b c d : Bool) → a ≡ true → b ≡ true → c ≡ true → d ≡ false → answer a b c d ≡ short_part
-unfolding answer
-answer-part a b c d e f g h = rw (e, f, g, h)
 
 pub answer-accepted : (a b c d : Bool) → a ≡ true → b ≡ true → c ≡ true → d ≡ true → answer a b c d ≡ accepted
 unfolding answer
 answer-accepted a b c d e f g h = rw (e, f, g, h)
 
--- ---- a record and a part after a call whose answer is a, where the node takes the turn u
+-- ---- what is taken, or refused by e, by a test b
 
--- what a call answers, and the record and the part that it leaves
+abbrev pub Taking : {A : Type 0} → Bool → A → Refusal → Result A Refusal → Type 0
+Taking {A} b x e r = r ≡ cond {A = Result A Refusal} b (Ok x) (Err e)
+
+ok-taken : {A : Type 0} (b : Bool) (x y : A) (e : Refusal) → Taking b x e (Ok y) → (b ≡ true) × (y ≡ x)
+ok-taken true x y e q = (refl, cc)
+ok-taken false x y e q = cc
+
+err-refused : {A : Type 0} (b : Bool) (x : A) (e f : Refusal) → Taking b x e (Err f) → (b ≡ false) × (f ≡ e)
+err-refused true x e f q = cc
+err-refused false x e f q = (refl, cc)
+
+-- ---- what a call answers, and the record and the part that it leaves, where its answer is a and the node takes the turn u
+
 abbrev pub Left : ℕ → List ℕ → List ℕ → ℕ → Turn → ℕ → List ℕ → List ℕ → Type 0
 Left a s part tick u a' s' part' = (a' ≡ a) × (s' ≡ record_after a s tick u) × (part' ≡ part_after a s part u)
 
-module _ (a : ℕ) (s part : List ℕ) (tick : ℕ) (u : Turn) where
-  -- one that is refused leaves both
-  pub refused : (k : ℕ) → a ≡ k → eqb k accepted ≡ false → Left a s part tick u k s part
-  unfolding record_after part_after
-  refused k e n = (sym e, rw (e, n), rw (e, n))
+refused : (a k : ℕ) (s part : List ℕ) (tick : ℕ) (u : Turn) → k ≡ a → eqb k accepted ≡ false → Left a s part tick u k s part
+unfolding record_after part_after
+refused a k s part tick u e n = (e, rw (← e, n), rw (← e, n))
 
-  -- one that is accepted leaves what the turn gives
-  pub taken : (t : Turned) (r : Record) (s' part' : List ℕ) → a ≡ accepted → r ≡ decode s → t ≡ turned u
-      → s' ≡ encode (with_turn r tick t.node) → part' ≡ put_messages part r.number (take t.count t.sent)
-      → Left a s part tick u accepted s' part'
-  unfolding record_after part_after turned
-  taken t r s' part' e rq tq sq pq = (
-    sym e,
-    sq ∙ rw (e, rq, tq),
-    pq ∙ ap (put_messages part r.number) (turned-sends t u tq) ∙ rw (e, rq),
-  )
+taken : (a : ℕ) (s part : List ℕ) (tick : ℕ) (u : Turn) (t : Turned) (r : Record) (s' part' : List ℕ)
+    → a ≡ accepted → r ≡ decode s → t ≡ turned u → s' ≡ encode (with_turn r tick t.node)
+    → part' ≡ put_messages part r.number (take t.count t.sent)
+    → Left a s part tick u accepted s' part'
+unfolding record_after part_after turned
+taken a s part tick u t r s' part' e rq tq sq pq = (
+  sym e,
+  sq ∙ rw (e, rq, tq),
+  pq ∙ ap (put_messages part r.number) (turned-sends t u tq) ∙ rw (e, rq),
+)
 
--- ---- opening
+module _ (s : List ℕ) (tick : ℕ) where
+  -- the answers: k is the number of the refusal e
+  pub record-refused : (part : List ℕ) (u : Turn) (e : Refusal) (in-time known long : Bool)
+      → Taking (sound s) (decode s) BadRecord (Err e) → (k : ℕ) → k ≡ number_of e
+      → Left (answer (sound s) in-time known long) s part tick u k s part
+  unfolding answer
+  record-refused part u e in-time known long q k kq =
+      let bad = err-refused _ _ _ _ q in
+      let is : k ≡ number_of BadRecord = rw (kq, bad.1) in
+      refused _ k s part tick u (rw (is, bad.0)) (rw is)
 
-module _ (s : List ℕ) (number nodes h w : ℕ) where
-  abbrev pub Opened : ℕ → List ℕ → Type 0
-  Opened a s' = (a ≡ open_answer s number nodes h w) × (s' ≡ open_leaves s number nodes h w)
+  -- the record r that a call took
+  module _ (r : Record) (rq : Taking (sound s) (decode s) BadRecord (Ok r)) where
+    record-taken : (sound s ≡ true) × (r ≡ decode s)
+    record-taken = ok-taken _ _ _ _ rq
 
-  pub open-length : (length s ≡ record_size → ⊥) → Opened bad_record s
-  unfolding open_leaves open_answer
-  open-length e = rw (ne_eqb (length s) record_size e) (refl, refl)
+    range : InRange r
+    range = rw record-taken.1 (sound-facts s record-taken.0).fields
 
-  pub open-range : length s ≡ record_size → openable number nodes h w ≡ false → Opened out_of_range s
-  unfolding open_leaves open_answer
-  open-range e f = rw (eq-eqb (length s) record_size e, f) (refl, refl)
+    pub tick-refused : (part : List ℕ) (u : Turn) (e : Refusal) (known long : Bool)
+        → Taking (tick_taken r tick) tick BadTick (Err e) → (k : ℕ) → k ≡ number_of e
+        → Left (answer (sound s) (tick_taken (decode s) tick) known long) s part tick u k s part
+    unfolding answer
+    tick-refused part u e known long q k kq =
+        let bad = err-refused _ _ _ _ q in
+        let late : tick_taken (decode s) tick ≡ false = rw (← record-taken.1) bad.0 in
+        let is : k ≡ number_of BadTick = rw (kq, bad.1) in
+        refused _ k s part tick u (rw (is, record-taken.0, late)) (rw is)
 
-  pub open-taken : (r : Record) (s' : List ℕ) → length s ≡ record_size → openable number nodes h w ≡ true
-      → r ≡ opened_record number nodes h w → s' ≡ encode r → Opened accepted s'
-  unfolding open_leaves open_answer
-  open-taken r s' e f rq sq = rw (eq-eqb (length s) record_size e, f) (refl, sq ∙ ap encode rq)
+    -- the tick t that it took
+    module _ (t : ℕ) (tq : Taking (tick_taken r tick) tick BadTick (Ok t)) where
+      tick-taken : (tick_taken r tick ≡ true) × (t ≡ tick)
+      tick-taken = ok-taken _ _ _ _ tq
 
--- ---- delivery
+      in-time : tick_taken (decode s) tick ≡ true
+      in-time = rw (← record-taken.1) tick-taken.0
 
-module _ (s : List ℕ) (tick kind sender subject list : ℕ) (part : List ℕ) (r : Record) (rq : r ≡ decode s) where
-  abbrev pub Delivered : ℕ → List ℕ → List ℕ → Type 0
-  Delivered a s' part' =
-      (a ≡ deliver_answer s tick kind sender subject list part) × (s' ≡ deliver_leaves s tick kind sender subject list part)
-      × (part' ≡ deliver_sends s tick kind sender subject list part)
+      tick-fits : t ≤ most_tick
+      tick-fits = rw tick-taken.1 (tick-facts r tick tick-taken.0).1
 
-  d-tick : (v : Bool) → tick_taken r tick ≡ v → tick_taken (decode s) tick ≡ v
-  d-tick v e = rw (← rq) e
+      pub part-refused : (part : List ℕ) (u : Turn) (known : Bool) → known ≡ true → length part < part_size
+          → Left (answer (sound s) (tick_taken (decode s) tick) known (leb part_size (length part))) s part tick u (number_of ShortPart) s part
+      unfolding answer
+      part-refused part u known q h =
+          refused _ (number_of ShortPart) s part tick u (rw (record-taken.0, in-time, q, lt-leb part_size (length part) h)) refl
 
-  d-message : (v : Bool) → message_taken r kind sender subject list ≡ v → message_taken (decode s) kind sender subject list ≡ v
-  d-message v e = rw (← rq) e
+      -- ---- timers
 
-  pub deliver-tick : sound s ≡ true → tick_taken r tick ≡ false → Delivered bad_tick s part
-  unfolding deliver_leaves deliver_sends deliver_answer
-  deliver-tick e f = refused _ s part tick _ bad_tick (answer-tick _ _ _ _ e (d-tick false f)) refl
+      pub timer-asks : (1 ≤ r.nodes) × (r.nodes ≤ most_nodes) × (r.h ≤ most_h) × (r.w ≤ most_w) × (t ≤ most_tick) × (r.node.emitter < most_nodes)
+      timer-asks =
+          let o = range.openable in
+          (o.some, o.most, o.h-most, o.w-most, tick-fits, omega (arith, range.fields.emitter, o.most))
 
-  pub deliver-message : sound s ≡ true → tick_taken r tick ≡ true → message_taken r kind sender subject list ≡ false → Delivered bad_message s part
-  unfolding deliver_leaves deliver_sends deliver_answer
-  deliver-message e f g = refused _ s part tick _ bad_message (answer-message _ _ _ _ e (d-tick true f) (d-message false g)) refl
+      pub timers-taken : (part : List ℕ) (u : Turn) (v : Turned) (s' part' : List ℕ) → part_size ≤ length part
+          → u ≡ fired (decode s) tick → v ≡ turned (fired r t)
+          → s' ≡ encode (with_turn r t v.node) → part' ≡ put_messages part r.number (take v.count v.sent)
+          → Left (answer (sound s) (tick_taken (decode s) tick) true (leb part_size (length part))) s part tick u accepted s' part'
+      timers-taken part u v s' part' h uq vq sq pq =
+          taken _ s part tick u v r s' part' (answer-accepted _ _ _ _ record-taken.0 in-time refl (le-leb part_size (length part) h)) record-taken.1
+          (vq ∙ rw (uq, record-taken.1, tick-taken.1)) (sq ∙ rw tick-taken.1) pq
 
-  pub deliver-part : sound s ≡ true → tick_taken r tick ≡ true → message_taken r kind sender subject list ≡ true → length part < part_size
-      → Delivered short_part s part
-  unfolding deliver_leaves deliver_sends deliver_answer
-  deliver-part e f g h =
-      refused _ s part tick _ short_part (answer-part _ _ _ _ e (d-tick true f) (d-message true g) (lt-leb part_size (length part) h)) refl
+      -- ---- delivery
 
-  pub deliver-taken : (about : ℕ) (t : Turned) (s' part' : List ℕ) → sound s ≡ true → tick_taken r tick ≡ true
-      → message_taken r kind sender subject list ≡ true
-      → part_size ≤ length part → Known kind → about ≡ cond (eqb kind R) subject 0 → t ≡ turned (delivered r tick kind sender about list)
-      → s' ≡ encode (with_turn r tick t.node) → part' ≡ put_messages part r.number (take t.count t.sent)
-      → Delivered accepted s' part'
-  unfolding deliver_leaves deliver_sends deliver_answer
-  deliver-taken about t s' part' e f g h k aq tq sq pq =
-      taken _ s part tick _ t r s' part' (answer-accepted _ _ _ _ e (d-tick true f) (d-message true g) (le-leb part_size (length part) h)) rq
-      (tq ∙ ap turned (ap (λ (x : ℕ). delivered r tick kind sender x list) aq ∙ delivered-subject r tick kind sender subject list k ∙ rw rq)) sq pq
+      module _ (kind sender subject list : ℕ) where
+        pub message-refused : (part : List ℕ) (u : Turn) (e : Refusal) (long : Bool)
+            → Taking (message_taken r kind sender subject list) (received kind sender subject list) BadMessage (Err e) → (k : ℕ) → k ≡ number_of e
+            → Left (answer (sound s) (tick_taken (decode s) tick) (message_taken (decode s) kind sender subject list) long) s part tick u k s part
+        unfolding answer
+        message-refused part u e long q k kq =
+            let bad = err-refused _ _ _ _ q in
+            let unknown : message_taken (decode s) kind sender subject list ≡ false = rw (← record-taken.1) bad.0 in
+            let is : k ≡ number_of BadMessage = rw (kq, bad.1) in
+            refused _ k s part tick u (rw (is, record-taken.0, in-time, unknown)) (rw is)
 
-pub deliver-record : (s : List ℕ) (tick kind sender subject list : ℕ) (part : List ℕ) → sound s ≡ false
-    → (bad_record ≡ deliver_answer s tick kind sender subject list part) × (s ≡ deliver_leaves s tick kind sender subject list part)
-    × (part ≡ deliver_sends s tick kind sender subject list part)
-unfolding deliver_leaves deliver_sends deliver_answer
-deliver-record s tick kind sender subject list part e = refused _ s part tick _ bad_record (answer-record _ _ _ _ e) refl
+        -- the message m that the call took
+        module _ (m : Received) (mq : Taking (message_taken r kind sender subject list) (received kind sender subject list) BadMessage (Ok m)) where
+          message-taken : (message_taken r kind sender subject list ≡ true) × (m ≡ received kind sender subject list)
+          message-taken = ok-taken _ _ _ _ mq
 
--- ---- timers
+          pub known : message_taken (decode s) kind sender subject list ≡ true
+          known = rw (← record-taken.1) message-taken.0
 
-module _ (s : List ℕ) (tick : ℕ) (part : List ℕ) (r : Record) (rq : r ≡ decode s) where
-  abbrev pub Fired : ℕ → List ℕ → List ℕ → Type 0
-  Fired a s' part' = (a ≡ timers_answer s tick part) × (s' ≡ timers_leaves s tick part) × (part' ≡ timers_sends s tick part)
+          facts : MessageTaken r kind sender subject list
+          facts = message-facts r kind sender subject list message-taken.0
 
-  t-tick : (v : Bool) → tick_taken r tick ≡ v → tick_taken (decode s) tick ≡ v
-  t-tick v e = rw (← rq) e
+          subject-below : cond (eqb kind R) subject 0 < most_nodes
+          subject-below = go (eqb kind R) refl
+            where
+              go : (b : Bool) → eqb kind R ≡ b → cond b subject 0 < most_nodes
+              go true q = omega (arith, range.openable.most, (facts.about (eqb-true kind R q)).0)
+              go false q = omega arith
 
-  pub timers-tick : sound s ≡ true → tick_taken r tick ≡ false → Fired bad_tick s part
-  unfolding timers_leaves timers_sends timers_answer
-  timers-tick e f = refused _ s part tick _ bad_tick (answer-tick _ _ _ _ e (t-tick false f)) refl
+          pub message-asks : (1 ≤ r.nodes) × (r.nodes ≤ most_nodes) × (r.number < r.nodes) × (r.w ≤ most_w) × (t ≤ most_tick)
+              × (m.sender < most_nodes) × (m.subject < most_nodes)
+          message-asks =
+              let o = range.openable in
+              let sender-below : sender < most_nodes = omega (arith, o.most, facts.from.0) in
+              (o.some, o.most, o.below, o.w-most, tick-fits, rw message-taken.1 sender-below, rw message-taken.1 subject-below)
 
-  pub timers-part : sound s ≡ true → tick_taken r tick ≡ true → length part < part_size → Fired short_part s part
-  unfolding timers_leaves timers_sends timers_answer
-  timers-part e f h = refused _ s part tick _ short_part (answer-part _ _ _ _ e (t-tick true f) refl (lt-leb part_size (length part) h)) refl
-
-  pub timers-taken : (t : Turned) (s' part' : List ℕ) → sound s ≡ true → tick_taken r tick ≡ true → part_size ≤ length part
-      → t ≡ turned (fired r tick)
-      → s' ≡ encode (with_turn r tick t.node) → part' ≡ put_messages part r.number (take t.count t.sent) → Fired accepted s' part'
-  unfolding timers_leaves timers_sends timers_answer
-  timers-taken t s' part' e f h tq sq pq =
-      taken _ s part tick _ t r s' part' (answer-accepted _ _ _ _ e (t-tick true f) refl (le-leb part_size (length part) h)) rq
-      (tq ∙ ap turned (rw rq)) sq pq
-
-pub timers-record : (s : List ℕ) (tick : ℕ) (part : List ℕ) → sound s ≡ false
-    → (bad_record ≡ timers_answer s tick part) × (s ≡ timers_leaves s tick part) × (part ≡ timers_sends s tick part)
-unfolding timers_leaves timers_sends timers_answer
-timers-record s tick part e = refused _ s part tick _ bad_record (answer-record _ _ _ _ e) refl
-
--- ---- what the calls below a record that is taken ask for
-
-pub kind-taken : (r : Record) (kind sender subject list : ℕ) → message_taken r kind sender subject list ≡ true → Known kind
-kind-taken r kind sender subject list g = (message-facts r kind sender subject list g).known
-
-pub sound-size : (s : List ℕ) → sound s ≡ true → length s ≡ record_size
-sound-size s e = (sound-facts s e).size
-
-module _ (s : List ℕ) (r : Record) (tick : ℕ) (e : sound s ≡ true) (rq : r ≡ decode s) (f : tick_taken r tick ≡ true) where
-  range : InRange r
-  range = rw rq (sound-facts s e).fields
-
-  tick-fits : tick ≤ most_tick
-  tick-fits = (tick-facts r tick f).1
-
-  -- the messages of a turn, as the code has them, are at most seven
-  few : (t : Turned) (u : Turn) → t ≡ turned u → length u.sends ≤ most_sent → t.count ≤ most_sent
-  few t u q h = rw (turned-count t u q) h
-
-  -- what the test of a message asks for
-  pub ring-fits : (1 ≤ r.nodes) × (r.nodes ≤ most_nodes)
-  ring-fits = (range.openable.some, range.openable.most)
-
-  pub timer-asks : (1 ≤ r.nodes) × (r.nodes ≤ most_nodes) × (r.h ≤ most_h) × (r.w ≤ most_w) × (tick ≤ most_tick) × (r.node.emitter < most_nodes)
-  timer-asks =
-      let o = range.openable in
-      (o.some, o.most, o.h-most, o.w-most, tick-fits, omega (arith, range.fields.emitter, o.most))
-
-  pub timer-few : (t : Turned) → t ≡ turned (fired r tick) → t.count ≤ most_sent
-  timer-few t q = few t (fired r tick) q (fired-takes r range tick).few
-
-  module _ (kind sender subject list : ℕ) (g : message_taken r kind sender subject list ≡ true) where
-    facts : MessageTaken r kind sender subject list
-    facts = message-facts r kind sender subject list g
-
-    sender-below : sender < most_nodes
-    sender-below = omega (arith, range.openable.most, facts.from.0)
-
-    pub sender-fits : sender < 256
-    sender-fits = omega (arith, sender-below)
-
-    pub about-fits : kind ≡ R → subject < most_nodes
-    about-fits q = omega (arith, range.openable.most, (facts.about q).0)
-
-    -- the subject as the code has it
-    module _ (about : ℕ) (aq : about ≡ cond (eqb kind R) subject 0) where
-      about-below : about < most_nodes
-      about-below = rw aq (go (eqb kind R) refl)
-        where
-          go : (b : Bool) → eqb kind R ≡ b → cond b subject 0 < most_nodes
-          go true q = about-fits (eqb-true kind R q)
-          go false q = omega arith
-
-      pub message-asks : (1 ≤ r.nodes) × (r.nodes ≤ most_nodes) × (r.number < r.nodes) × (r.w ≤ most_w) × (tick ≤ most_tick)
-          × (sender < most_nodes) × (about < most_nodes)
-      message-asks = let o = range.openable in (o.some, o.most, o.below, o.w-most, tick-fits, sender-below, about-below)
-
-      pub message-few : (t : Turned) → t ≡ turned (delivered r tick kind sender about list) → t.count ≤ most_sent
-      message-few t q =
-          let same : delivered r tick kind sender about list ≡ delivered r tick kind sender subject list =
-          rw aq (delivered-subject r tick kind sender subject list facts.known) in
-          few t (delivered r tick kind sender subject list) (q ∙ ap turned same) (delivered-takes r range tick kind sender subject list facts).few
+          pub deliver-taken : (part : List ℕ) (u : Turn) (v : Turned) (s' part' : List ℕ) → part_size ≤ length part
+              → u ≡ delivered (decode s) tick kind sender subject list → v ≡ turned (delivered r t m.kind m.sender m.subject m.list)
+              → s' ≡ encode (with_turn r t v.node) → part' ≡ put_messages part r.number (take v.count v.sent)
+              → Left (answer (sound s) (tick_taken (decode s) tick) (message_taken (decode s) kind sender subject list) (leb part_size (length part)))
+              s part tick u accepted s' part'
+          deliver-taken part u v s' part' h uq vq sq pq =
+              let same : delivered r t m.kind m.sender m.subject m.list ≡ delivered (decode s) tick kind sender subject list =
+              rw (message-taken.1, tick-taken.1, ← record-taken.1) (delivered-subject r tick kind sender subject list facts.known) in
+              taken _ s part tick u v r s' part' (answer-accepted _ _ _ _ record-taken.0 in-time known (le-leb part_size (length part) h))
+              record-taken.1 (vq ∙ ap turned (same ∙ sym uq)) (sq ∙ rw tick-taken.1) pq

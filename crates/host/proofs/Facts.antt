@@ -49,6 +49,8 @@ openable-facts number nodes h w e =
       w-most = leb-true w most_w g.1;
     }
 
+pub ruleset in_openable = (openable-facts)
+
 pub facts-openable : (number nodes h w : ℕ) → Openable number nodes h w → openable number nodes h w ≡ true
 unfolding openable
 facts-openable number nodes h w o =
@@ -108,6 +110,8 @@ sound-facts s e =
     let c = (and-eq-true_iff (zeros (slice spare_from record_size s)) _).0 b.1 in
     record { size = eqb-true (length s) record_size a.0; gap = b.0; spare = c.0; fields = in-range-facts (decode s) c.1 }
 
+pub ruleset in_sound = (sound-facts)
+
 -- ---- a tick and a message that are taken
 
 pub tick-facts : (r : Record) (tick : ℕ) → tick_taken r tick ≡ true → (r.last ≤ tick) × (tick ≤ most_tick)
@@ -153,6 +157,8 @@ module _ (r : Record) (kind sender subject list : ℕ) where
       go : Dec (kind ≡ R) → (not (eqb kind R) || other_node r subject) ≡ true
       go (yes q) = rw (eq-eqb kind R q) (facts-other r subject (m.about q))
       go (no q) = rw (ne_eqb kind R q)
+
+pub ruleset in_message = (message-facts)
 
 -- ---- an accepted call
 

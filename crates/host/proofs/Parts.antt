@@ -5,8 +5,8 @@ use Prim.Native.Nat.{ℕ, suc, ◌+◌, ◌-◌, ◌*◌, ◌≤◌, ◌<◌}
 use native.Mathlib.Numerals.{add-one}
 use native.Mathlib.Nat.{zero-add}
 use native.Mathlib.Omega.{arith}
-use lib.ListN.{length, get_or, take, drop, replicate, length-append, length-replicate, drop_of_length-le, replicate-append-replicate}
-use lib.Seq.{sets, sets-eq, drop-cons, drop_at, get_or-take, length-take-le}
+use lib.ListN.{length, get_or, drop, replicate, length-append, length-replicate, drop_of_length-le, replicate-append-replicate}
+use lib.Seq.{sets, sets-eq, drop-cons, drop_at}
 use Rattle.fields.specs.Fields.{put_at, cleared}
 use Rattle.fields.proofs.Bytes.{length-bytes}
 use Rattle.fields.proofs.Fields.{put_then, sets-append}
@@ -36,26 +36,23 @@ put-message part at sender m =
 
 -- ---- the loop that puts them
 
-module _ (sender : ℕ) (sent : List Message) (count : ℕ) where
+module _ (sender : ℕ) (sent : List Message) where
   -- what is still to be put once i of the messages stand
   unfoldable pub rest : List ℕ → ℕ → List ℕ
-  rest part i = sets part (i * message_size) (sent_bytes sender (drop i (take count sent)))
+  rest part i = sets part (i * message_size) (sent_bytes sender (drop i sent))
 
-  pub rest-turn : (part : List ℕ) (i : ℕ) → i < count → count ≤ length sent → (z : Message)
+  pub rest-turn : (part : List ℕ) (i : ℕ) → i < length sent → (z : Message)
       → rest part i ≡ rest (sets part (i * message_size) (message_bytes sender (get_or sent i z))) (i + 1)
   unfolding rest sent_bytes
-  rest-turn part i h l z =
-      let n : i < length (take count sent) = rw (length-take-le count sent l) h in
+  rest-turn part i h z =
       let e : i * message_size + message_size ≡ suc i * message_size = omega arith in
-      rw (add-one, drop-cons (take count sent) i z n, get_or-take count sent i z h)
-      (sets-append (message_bytes sender (get_or sent i z)) (sent_bytes sender (drop (suc i) (take count sent))) part (i * message_size)
+      rw (add-one, drop-cons sent i z h)
+      (sets-append (message_bytes sender (get_or sent i z)) (sent_bytes sender (drop (suc i) sent)) part (i * message_size)
       ∙ rw (length-message sender (get_or sent i z), e))
 
-  pub rest_end : (part : List ℕ) (i : ℕ) → count ≤ i → count ≤ length sent → rest part i ≡ part
+  pub rest_end : (part : List ℕ) (i : ℕ) → length sent ≤ i → rest part i ≡ part
   unfolding rest sent_bytes
-  rest_end part i h l =
-      let n : length (take count sent) ≤ i = rw (length-take-le count sent l) h in
-      rw (drop_of_length-le (take count sent) {i = i} n)
+  rest_end part i h = rw (drop_of_length-le sent {i = i} h)
 
 -- messages put over a part that has been cleared
 pub put-over-zeros : (part : List ℕ) (sender : ℕ) (ms : List Message) → part_size ≤ length part → length ms ≤ most_sent
@@ -76,14 +73,11 @@ put-over-zeros part sender ms h l =
     sets-eq bs (replicate part_size 0 ++ tail) 0 (omega arith) ∙ ap (λ (x : List ℕ). bs ++ x) (rw (e, zero-add) d)
 
 -- after the last turn of the loop, from a part that was cleared
-pub put_all : (sender : ℕ) (sent : List Message) (count : ℕ) (part cleared-part now : List ℕ) (i : ℕ) → cleared-part ≡ cleared part 0 part_size
-    → rest sender sent count cleared-part 0 ≡ rest sender sent count now i → count ≤ i → length sent ≡ most_sent → count ≤ most_sent
-    → part_size ≤ length part
-    → now ≡ put_messages part sender (take count sent)
+pub put_all : (sender : ℕ) (sent : List Message) (part cleared-part now : List ℕ) (i : ℕ) → cleared-part ≡ cleared part 0 part_size
+    → rest sender sent cleared-part 0 ≡ rest sender sent now i → length sent ≤ i → length sent ≤ most_sent → part_size ≤ length part
+    → now ≡ put_messages part sender sent
 unfolding rest
-put_all sender sent count part cleared-part now i cq e h l k p =
-    let few : count ≤ length sent = omega arith in
-    let n : length (take count sent) ≤ most_sent = rw (length-take-le count sent few) k in
-    sym (e ∙ rest_end sender sent count now i h few)
-    ∙ ap (λ (x : List ℕ). sets x 0 (sent_bytes sender (take count sent))) cq
-    ∙ put-over-zeros part sender (take count sent) p n
+put_all sender sent part cleared-part now i cq e h k p =
+    sym (e ∙ rest_end sender sent now i h)
+    ∙ ap (λ (x : List ℕ). sets x 0 (sent_bytes sender sent)) cq
+    ∙ put-over-zeros part sender sent p k

@@ -8,7 +8,8 @@ use native.Mathlib.Omega.{arith}
 use borrow.Author.Tests.{eqb-true}
 use lib.Dec.{eqb, leb}
 use lib.ListN.{length}
-use Rattle.limits.specs.Refusals.{out_of_range, accepted, bad_record}
+use Rattle.limits.specs.declared.Refusal.TheVariants.{OutOfRange, BadRecord}
+use Rattle.limits.specs.Refusals.{accepted, number_of}
 use Rattle.node.specs.Node.{Turn}
 use Rattle.limits.specs.Limits.{record_size, part_size}
 use Rattle.host.specs.Record.{encode, decode, openable, sound}
@@ -25,8 +26,8 @@ pub opened-in-range : (s : List ℕ) (number nodes h w : ℕ) → open_answer s 
 unfolding open_leaves open_answer
 opened-in-range s number nodes h w e = go (eqb (length s) record_size) (openable number nodes h w) refl e
   where
-    go : (a b : Bool) → openable number nodes h w ≡ b → cond a (cond b accepted out_of_range) bad_record ≡ accepted
-        → sound (cond (eqb (cond a (cond b accepted out_of_range) bad_record) accepted) (encode (opened_record number nodes h w)) s) ≡ true
+    go : (a b : Bool) → openable number nodes h w ≡ b → cond a (cond b accepted (number_of OutOfRange)) (number_of BadRecord) ≡ accepted
+        → sound (cond (eqb (cond a (cond b accepted (number_of OutOfRange)) (number_of BadRecord)) accepted) (encode (opened_record number nodes h w)) s) ≡ true
     go true true o e = encode-sound (opened_record number nodes h w) (opening-in-range number nodes h w (openable-facts number nodes h w o))
     go true false o e = absurd (omega arith)
     go false b o e = absurd (omega arith)

@@ -4,13 +4,15 @@ use Rattle.std.specs.Prelude.{Bool, true, cond, not, ◌&&◌, ◌||◌, List, [
 use Rattle.std.specs.Prelude.{ℕ, ◌-◌, ◌*◌, ◌^◌, eqb, leb, ltb, length, drop, replicate}
 use Rattle.fields.specs.Fields.{bytes}
 use Rattle.limits.specs.Limits.{most_tick, record_size, message_size, part_size}
-use Rattle.limits.specs.Refusals.{accepted, out_of_range, short_part, bad_record, bad_message, bad_tick}
+use Rattle.limits.specs.declared.Refusal.TheVariants.{OutOfRange, ShortPart, BadRecord, BadMessage, BadTick}
+use Rattle.limits.specs.Refusals.{accepted, number_of}
 use Rattle.ring.specs.Ring.{numbers}
 use Rattle.node.specs.declared.Message.{Message}
 use Rattle.node.specs.declared.Node.{Node}
 use Rattle.node.specs.Node.{Turn, off, due, R, silent, opening, on_message, on_heartbeat_due, on_watch_due}
 use Rattle.node.specs.Range.{kind_test}
 use Rattle.host.specs.declared.Record.{Record}
+use Rattle.host.specs.declared.Received.{Received}
 use Rattle.host.specs.Record.{encode, decode, openable, sound}
 
 -- ---- answers: "A node call tries 10, 12, 11, then 9"
@@ -18,7 +20,8 @@ use Rattle.host.specs.Record.{encode, decode, openable, sound}
 -- what a node call answers, by whether its record, tick, message and message part are taken
 unfoldable pub answer : Bool → Bool → Bool → Bool → ℕ
 answer good_record good_tick good_message long_part =
-    cond good_record (cond good_tick (cond good_message (cond long_part accepted short_part) bad_message) bad_tick) bad_record
+    cond good_record (cond good_tick (cond good_message (cond long_part accepted (number_of ShortPart)) (number_of BadMessage)) (number_of BadTick))
+    (number_of BadRecord)
 
 -- a tick that is not "before the record's last tick, or above 1,000,000"
 unfoldable pub tick_taken : Record → ℕ → Bool
@@ -33,6 +36,10 @@ other_node r i = ltb i r.nodes && not (eqb i r.number)
 unfoldable pub message_taken : Record → ℕ → ℕ → ℕ → ℕ → Bool
 message_taken r kind sender subject list =
     kind_test kind && (other_node r sender && ((not (eqb kind R) || other_node r subject) && ltb list (2 ^ r.nodes)))
+
+-- a message as its receiver takes it: only a report's subject counts
+abbrev pub received : ℕ → ℕ → ℕ → ℕ → Received
+received kind sender subject list = record { kind = kind; sender = sender; subject = cond (eqb kind R) subject 0; list = list }
 
 -- ---- messages: "at most seven .. are put into the first .. bytes of a lent part, unused ones zero", by 02, #107, of 16 and 112 bytes
 
@@ -64,7 +71,8 @@ part_after a s part u = cond (eqb a accepted) (put_messages part (decode s).numb
 -- ---- "one call opens a record (another length gets 10, then a number outside its range 3)"
 
 unfoldable pub open_answer : List ℕ → ℕ → ℕ → ℕ → ℕ → ℕ
-open_answer s number nodes h w = cond (eqb (length s) record_size) (cond (openable number nodes h w) accepted out_of_range) bad_record
+open_answer s number nodes h w =
+    cond (eqb (length s) record_size) (cond (openable number nodes h w) accepted (number_of OutOfRange)) (number_of BadRecord)
 
 unfoldable pub opened_record : ℕ → ℕ → ℕ → ℕ → Record
 opened_record number nodes h w =

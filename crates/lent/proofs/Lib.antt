@@ -1,4 +1,4 @@
-pub mod Parts
+pub mod Places
 pub mod RowTests
 pub mod StateTests
 pub mod Whole

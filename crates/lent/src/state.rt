@@ -1,5 +1,5 @@
 // The state that a store's bytes hold, tested against its plan: the half of number 7 that is about the state.
-ghost use Rattle.std.specs.Prelude.{◌≡◌, true, ◌&&◌, ◌<◌, ◌≤◌, leb, drop};
+ghost use Rattle.std.specs.Prelude.{◌≡◌, true, ◌&&◌, ◌<◌, ◌≤◌, length, leb, drop};
 ghost use Rattle.plans.specs.Plan.{plan_test};
 ghost use Rattle.node.specs.Range.{node_test, live_test, not_overdue, timers_test, kind_test, carried_test};
 ghost use Rattle.model.specs.Platform.{crashed_list, node_of};
@@ -27,26 +27,19 @@ fn node_fits(s: &[u8], t: u32, a: Node) -> bool
 }
 
 // Whether a timer is off, or not before t.
+#[tactic(auto, unfolding(node::specs::Range::not_overdue))]
 fn timer_fits(t: u32, timer: u32) -> bool
     ensures { result ≡ not_overdue t timer }
 {
-    if timer == 0 {
-        return true;
-    }
-    t < timer
+    timer == 0 || t < timer
 }
 
 // Whether node x, which is live, has nothing about itself and no timer before t.
+#[tactic(auto, unfolding(node::specs::Range::timers_test))]
 fn live_fits(t: u32, x: u8, a: Node) -> bool
     ensures { result ≡ (live_test x a && timers_test t a) }
 {
-    if !node::live_in_range(x, a) {
-        return false;
-    }
-    if !timer_fits(t, a.watch) {
-        return false;
-    }
-    timer_fits(t, a.heartbeat)
+    node::live_in_range(x, a) && timer_fits(t, a.watch) && timer_fits(t, a.heartbeat)
 }
 
 // Whether node x is in range.
@@ -57,44 +50,27 @@ fn node_in_range(s: &[u8], t: u32, dead: u64, x: usize) -> bool
     ensures { result ≡ node_here (plan_in s.now) (state_in s.now).done t x (node_of (state_in s.now) x) }
 {
     let a = nodes::node_at(s, x);
-    if !node_fits(s, t, a) {
-        return false;
-    }
-    if ring::is_listed(dead, x as u8) {
-        return true;
-    }
-    live_fits(t, x as u8, a)
+    node_fits(s, t, a) && (ring::is_listed(dead, x as u8) || live_fits(t, x as u8, a))
 }
 
-// Whether all nodes are in range.
-fn nodes_in_range(s: &[u8], t: u32, dead: u64) -> bool
+// Whether all nodes are in range, where no more crashes are done than planned.
+fn nodes_in_range(s: &[u8], t: u32) -> bool
     requires planned { Planned s.now t }
-    requires dead_value { dead ≡ crashed_list (plan_in s.now) (state_in s.now).done }
+    requires done { (state_in s.now).done ≤ length (plan_in s.now).crashes }
     ensures { result ≡ nodes_test (plan_in s.now) (state_in s.now).done t 0 (state_in s.now).nodes }
 {
-    let n = plan::node_count(s);
-    let mut x: usize = 0;
-    while x < n {
-        if !node_in_range(s, t, dead, x) {
-            return false;
-        }
-        x += 1;
-    }
-    true
+    let dead = plan::crashed_list(s);
+    (0..plan::node_count(s)).all(|x| node_in_range(s, t, dead, x))
 }
 
 // ---- the messages in flight
 
 // Whether a letter is a message's kind.
+#[tactic(auto, unfolding(node::specs::Range::kind_test))]
 fn is_kind(letter: u8) -> bool
     ensures { result ≡ kind_test letter }
 {
-    match letter {
-        b'H' => true,
-        b'O' => true,
-        b'R' => true,
-        _ => false,
-    }
+    matches!(letter, b'H' | b'O' | b'R')
 }
 
 // Whether a message of a kind may carry a list, in a ring of n nodes.
@@ -102,43 +78,24 @@ fn is_carried(n: u8, kind: u8, list: u64) -> bool
     requires { (1 ≤ n) × (n ≤ most_nodes) }
     ensures { result ≡ carried_test n kind list }
 {
-    if ring::all_nodes(n) < list {
-        return false;
-    }
-    if kind == b'H' {
-        return true;
-    }
-    list == 0
+    list <= ring::all_nodes(n) && (kind == b'H' || list == 0)
 }
 
 // Whether a message is in range.
+#[tactic(auto, unfolding(model::specs::Range::message_test))]
 fn message_fits(s: &[u8], t: u32, m: Flight) -> bool
     requires { Planned s.now t }
     ensures { result ≡ message_test (plan_in s.now) t (message_of m) }
 {
     let n = plan::node_count(s) as u8;
-    if !is_kind(m.kind) {
-        return false;
-    }
-    if n <= m.from {
-        return false;
-    }
-    if n <= m.to {
-        return false;
-    }
-    if n <= m.subject {
-        return false;
-    }
-    if m.from == m.to {
-        return false;
-    }
-    if m.due < t {
-        return false;
-    }
-    if t + plan::longest_delay(s) < m.due {
-        return false;
-    }
-    is_carried(n, m.kind, m.list)
+    is_kind(m.kind)
+        && m.from < n
+        && m.to < n
+        && m.subject < n
+        && m.from != m.to
+        && t <= m.due
+        && m.due <= t + plan::longest_delay(s)
+        && is_carried(n, m.kind, m.list)
 }
 
 // Whether all messages are in range and their numbers rise and are below `next`.
@@ -146,22 +103,13 @@ fn messages_in_range(s: &[u8], t: u32, next: u64) -> bool
     requires { Planned s.now t }
     ensures { result ≡ flight_test (plan_in s.now) t 0 next (state_in s.now).flight }
 {
-    let n = messages::message_count(s);
     let mut low: u64 = 0;
-    let mut i: usize = 0;
-    while i < n {
+    for i in 0..messages::message_count(s) {
         let m = messages::message_at(s, i);
-        if m.number < low {
-            return false;
-        }
-        if next <= m.number {
-            return false;
-        }
-        if !message_fits(s, t, m) {
+        if m.number < low || next <= m.number || !message_fits(s, t, m) {
             return false;
         }
         low = m.number + 1;
-        i += 1;
     }
     true
 }
@@ -169,16 +117,13 @@ fn messages_in_range(s: &[u8], t: u32, next: u64) -> bool
 // ---- the whole
 
 // Whether the first undone crash is not before t.
+#[tactic(auto, unfolding(model::specs::Range::undone_test))]
 fn undone_in_range(s: &[u8], t: u32) -> bool
     requires { Sized s.now }
     ensures { result ≡ undone_test t (drop (state_in s.now).done (plan_in s.now).crashes) }
 {
     let done = plan::crashes_done(s);
-    if plan::crash_count(s) <= done {
-        return true;
-    }
-    let row = plan::crash_at(s, done);
-    t <= row.tick
+    plan::crash_count(s) <= done || t <= plan::crash_at(s, done).tick
 }
 
 // Whether the state is in range.
@@ -189,21 +134,10 @@ pub fn state_in_range(s: &[u8]) -> bool
 {
     let t = plan::last_tick(s);
     let next = plan::next_number(s);
-    if plan::crash_count(s) < plan::crashes_done(s) {
-        return false;
-    }
-    if plan::end_tick(s) < t {
-        return false;
-    }
-    if MOST_NEXT < next {
-        return false;
-    }
-    let dead = plan::crashed_list(s);
-    if !nodes_in_range(s, t, dead) {
-        return false;
-    }
-    if !messages_in_range(s, t, next) {
-        return false;
-    }
-    undone_in_range(s, t)
+    plan::crashes_done(s) <= plan::crash_count(s)
+        && t <= plan::end_tick(s)
+        && next <= MOST_NEXT
+        && nodes_in_range(s, t)
+        && messages_in_range(s, t, next)
+        && undone_in_range(s, t)
 }

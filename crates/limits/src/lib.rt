@@ -1,6 +1,9 @@
-// The figures of documents 01 and 02 and the numbers of their refusals, as the code of all crates has them. The definitions are
+// The figures of documents 01 and 02 and their refusals with their numbers, as the code of all crates has them. The definitions are
 // specs/Limits.antt and specs/Refusals.antt; a function that uses one of these is proved to meet a contract by the definition.
 #![tactic(auto)]
+
+ghost use Rattle.std.specs.Prelude.{◌≡◌};
+ghost use Rattle.limits.specs.Refusals.{number_of, answer_of};
 
 // The ring and the ranges of a run file.
 pub const MOST_NODES: usize = 64;
@@ -45,33 +48,55 @@ pub const PART_SIZE: usize = MOST_SENT * MESSAGE_SIZE;
 
 pub const FILE_ROOM: usize = 65536;
 
-// The numbers of refusals.
-pub const ACCEPTED: u64 = 0;
+// Why a call is refused.
+#[derive(Clone, Copy, Debug, PartialEq, Eq)]
+pub enum Refusal {
+    BadLength,
+    BadForm,
+    OutOfRange,
+    NotRising,
+    ManyDelays,
+    BadStore,
+    TooMany,
+    ShortPart,
+    BadRecord,
+    BadMessage,
+    BadTick,
+    NotEachOnce,
+    BadPart,
+    BadTurn,
+}
 
-pub const BAD_LENGTH: u64 = 1;
+impl Refusal {
+    // The number that stands for it in an answer.
+    pub fn number(self) -> u64
+        ensures { result ≡ number_of self }
+    {
+        match self {
+            Refusal::BadLength => 1,
+            Refusal::BadForm => 2,
+            Refusal::OutOfRange => 3,
+            Refusal::NotRising => 5,
+            Refusal::ManyDelays => 6,
+            Refusal::BadStore => 7,
+            Refusal::TooMany => 8,
+            Refusal::ShortPart => 9,
+            Refusal::BadRecord => 10,
+            Refusal::BadMessage => 11,
+            Refusal::BadTick => 12,
+            Refusal::NotEachOnce => 13,
+            Refusal::BadPart => 14,
+            Refusal::BadTurn => 15,
+        }
+    }
+}
 
-pub const BAD_FORM: u64 = 2;
-
-pub const OUT_OF_RANGE: u64 = 3;
-
-pub const NOT_RISING: u64 = 5;
-
-pub const MANY_DELAYS: u64 = 6;
-
-pub const BAD_STORE: u64 = 7;
-
-pub const TOO_MANY: u64 = 8;
-
-pub const SHORT_PART: u64 = 9;
-
-pub const BAD_RECORD: u64 = 10;
-
-pub const BAD_MESSAGE: u64 = 11;
-
-pub const BAD_TICK: u64 = 12;
-
-pub const NOT_EACH_ONCE: u64 = 13;
-
-pub const BAD_PART: u64 = 14;
-
-pub const BAD_TURN: u64 = 15;
+// What a call answers that gives nothing else: 0, or the number of its refusal.
+pub fn answer(outcome: Result<(), Refusal>) -> u64
+    ensures { result ≡ answer_of outcome }
+{
+    match outcome {
+        Ok(()) => 0,
+        Err(refusal) => refusal.number(),
+    }
+}

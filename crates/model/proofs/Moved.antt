@@ -5,6 +5,7 @@ use mathlib.Core.Logic.{◌≢◌}
 use mathlib.Core.Bool.{Bool, true, false, cond, not, ◌&&◌, true≢false}
 use mathlib.Core.List.{List}
 use Prim.Native.Nat.{ℕ, ◌<◌}
+use Rattle.std.specs.Prelude.{Some, None, is_some}
 use native.Mathlib.Omega.{arith}
 use borrow.Author.Tests.{eq-eqb, ne_eqb}
 use lib.Dec.{eqb}
@@ -33,6 +34,11 @@ leaves_emitter p s (message i) =
     alive p s.done m.to && (eqb m.kind R && (eqb m.subject (node_of s m.to).emitter && not (eqb m.subject m.to)))
 leaves_emitter p s (watch x) = true
 leaves_emitter p s (heartbeat x) = false
+
+-- a number passed is told exactly where the emitter moves
+tells-move : (b : Bool) (passed : ℕ) → is_some (cond b (Some passed) None) ≡ b
+tells-move true passed = refl
+tells-move false passed = refl
 
 -- ---- two nodes with one emitter, and with two
 
@@ -83,9 +89,9 @@ module _ (p : Plan) (pl : Plain p) (s : State) (r : Sound p s) (t : ℕ) where
       go u kind k (tells h o v q) = report-goes m.to m.subject f.to a v q ∙ rw (other-is-report kind k h o)
 
   -- K FOLLOWS exactly where a node leaves its emitter
-  pub moved-exactly : (ev : Event) → Chosen p pl s t ev → (deed_of p s (apply p s t ev) t ev).moved ≡ leaves_emitter p s ev
+  pub moved-exactly : (ev : Event) → Chosen p pl s t ev → is_some (deed_of p s (apply p s t ev) t ev).moved ≡ leaves_emitter p s ev
   unfolding Chosen apply deed_of crash_deed message_deed watch_deed heartbeat_deed leaves_emitter received
-  moved-exactly (crash k) ch = stays (node_of s k) (node_of s k) refl
+  moved-exactly (crash k) ch = tells-move _ _ ∙ stays (node_of s k) (node_of s k) refl
   moved-exactly (message i) ch =
       rw (node-taken p t m.to s (without i s.flight) (received p s t m) (rw r.nodes f.to)) (go (alive p s.done m.to) refl)
     where
@@ -102,14 +108,14 @@ module _ (p : Plan) (pl : Plain p) (s : State) (r : Sound p s) (t : ℕ) where
       turn b = cond b (on_message order p.w t m.to m.kind m.from m.subject m.list n) (silent n)
 
       go : (b : Bool) → alive p s.done m.to ≡ b
-          → (message_deed t m b n (turn b).node (turn b).passed).moved
+          → is_some (message_deed t m b n (turn b).node (turn b).passed).moved
           ≡ (b && (eqb m.kind R && (eqb m.subject n.emitter && not (eqb m.subject m.to))))
-      go true e = message-goes m f e
-      go false e = stays n n refl
+      go true e = tells-move _ _ ∙ message-goes m f e
+      go false e = tells-move _ _ ∙ stays n n refl
   moved-exactly (watch x) ch =
       let x_n : x < p.n = in-n p pl s r x ch.0 in
       rw (node-taken p t x s s.flight (on_watch_due order p.w t x (node_of s x)) ch.0)
-      (left-goes x x_n ch.1 ((r.live x ch.1).observes (λ z. omega (arith, ch.2))) _ (left order p.w t x (node_of s x)))
+      (tells-move _ _ ∙ left-goes x x_n ch.1 ((r.live x ch.1).observes (λ z. omega (arith, ch.2))) _ (left order p.w t x (node_of s x)))
   moved-exactly (heartbeat x) ch =
       rw (node-taken p t x s s.flight (on_heartbeat_due p.h t (node_of s x)) ch.0)
-      (stays (node_of s x) _ (ap (λ (u : Turn). u.node.emitter) (sym (beaten p.h t (node_of s x)))))
+      (tells-move _ _ ∙ stays (node_of s x) _ (ap (λ (u : Turn). u.node.emitter) (sym (beaten p.h t (node_of s x)))))

@@ -5,13 +5,13 @@ use Prim.Native.Nat.{ℕ, suc, ◌+◌, ◌-◌, ◌≤◌, ◌<◌}
 use native.Mathlib.Numerals.{add-one}
 use native.Mathlib.Omega.{arith}
 use lib.ListN.{length, get_or, take, drop, set, replicate, length-append, length-map, length-replicate, drop_of_length-le, replicate-append-replicate}
-use lib.Seq.{sets, sets-eq, drop-cons, take_at, get_or-take, length-take-le, drop-append-add, drop_at}
+use lib.Seq.{sets, sets-eq, drop-cons, take_at, drop-append-add, drop_at}
 use Rattle.ring.specs.Ring.{place, targets, row, jumps, count}
 use Rattle.ring.proofs.Counts.{length-targets, jumps-count-le, take_row}
 use Rattle.node.specs.declared.Message.{Message}
 use Rattle.node.specs.declared.Node.{Node}
 use Rattle.node.specs.declared.Turned.{Turned}
-use Rattle.node.specs.Node.{Turn, turn, R, message, reports, sending, places, turned, with_passed, relayed}
+use Rattle.node.specs.Node.{Turn, turn, R, message, reports, sending, places, turned, relayed}
 use Rattle.limits.specs.Limits.{most_sent}
 
 -- ---- a loop that puts reports
@@ -20,28 +20,25 @@ pub length-reports : (subject : ℕ) (nodes : List ℕ) → length (reports subj
 unfolding reports
 length-reports subject nodes = length-map nodes _
 
-module _ (subject : ℕ) (to : List ℕ) (from count : ℕ) where
+module _ (subject : ℕ) (nodes : List ℕ) (from : ℕ) where
   -- what is still to be put once i of the reports stand
   unfoldable pub rest : List Message → ℕ → List Message
-  rest out i = sets out (from + i) (reports subject (drop i (take count to)))
+  rest out i = sets out (from + i) (reports subject (drop i nodes))
 
-  pub rest-start : (out : List Message) → sets out from (reports subject (take count to)) ≡ rest out 0
+  pub rest-start : (out : List Message) → sets out from (reports subject nodes) ≡ rest out 0
   unfolding rest
   rest-start out = let e : from + 0 ≡ from = omega arith in rw e
 
-  pub rest-turn : (out : List Message) (i : ℕ) → i < count → count ≤ length to
-      → rest out i ≡ rest (set out (from + i) (message R (get_or to i 0) subject)) (i + 1)
+  pub rest-turn : (out : List Message) (i : ℕ) → i < length nodes
+      → rest out i ≡ rest (set out (from + i) (message R (get_or nodes i 0) subject)) (i + 1)
   unfolding rest reports
-  rest-turn out i h l =
+  rest-turn out i h =
       let e : from + suc i ≡ suc (from + i) = omega arith in
-      let n : i < length (take count to) = rw (length-take-le count to l) h in
-      rw (add-one, e, drop-cons (take count to) i 0 n, get_or-take count to i 0 h)
+      rw (add-one, e, drop-cons nodes i 0 h)
 
-  pub rest_end : (out : List Message) (i : ℕ) → count ≤ i → count ≤ length to → rest out i ≡ out
+  pub rest_end : (out : List Message) (i : ℕ) → length nodes ≤ i → rest out i ≡ out
   unfolding rest reports
-  rest_end out i h l =
-      let n : length (take count to) ≤ i = rw (length-take-le count to l) h in
-      rw (drop_of_length-le (take count to) {i = i} n)
+  rest_end out i h = rw (drop_of_length-le nodes {i = i} h)
 
 -- ---- seven places
 
@@ -80,6 +77,8 @@ relayed-turned order me subject n ms k h l =
 pub jumps-few : (order : List ℕ) (d m k : ℕ) → length order ≤ 64 → m ≡ count (length order) d → k ≡ jumps m → k ≤ 6
 jumps-few order d m k l mq kq = rw (kq, mq) (jumps-count-le (length order) d l)
 
+pub ruleset few_reports = (jumps-few)
+
 -- what a node sends, with the reports that the code puts after it
 pub relayed-put : (order : List ℕ) (me subject : ℕ) (t : Turned) (p m k : ℕ) (to : List ℕ) (sent : List Message)
     → p ≡ place order me → to ≡ row (targets order t.node.list p) → m ≡ count (length order) t.node.list → k ≡ jumps m
@@ -99,10 +98,10 @@ unfolding turned
 turned-count t u e = ap (λ (x : Turned). x.count) e
 
 -- a turn of which it is said how many listed nodes were passed
-pub turned-passed : (t t' : Turned) (n : Node) (ms : List Message) (k : ℕ) → t ≡ turned (sending n ms) → t' ≡ with_passed t k
-    → t' ≡ turned (turn n ms k)
-unfolding with_passed turned
-turned-passed t t' n ms k e w = w ∙ ap (λ (x : Turned). with_passed x k) e
+pub turned-passed : (t : Turned) (n : Node) (ms : List Message) (k : ℕ) → t ≡ turned (sending n ms)
+    → record { node = t.node; sent = t.sent; count = t.count; passed = k } ≡ turned (turn n ms k)
+unfolding turned
+turned-passed t n ms k e = rw e
 
 pub turned-sends : (t : Turned) (u : Turn) → t ≡ turned u → take t.count t.sent ≡ u.sends
 unfolding turned places

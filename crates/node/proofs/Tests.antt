@@ -1,14 +1,13 @@
--- The computed tests of a node hold exactly of what is in range, and the code's answers are theirs. Assumes nothing.
+-- The computed tests of a node hold exactly of what is in range. Assumes nothing.
 use mathlib.Core.Path.{◌≡◌, refl, sym}
 use mathlib.Core.Logic.{inl, inr, ◌≢◌}
-use mathlib.Core.Bool.{Bool, true, false, true≢false, not, ◌&&◌, ◌||◌, and-eq-true_iff}
-use Prim.Native.Nat.{ℕ, suc, ◌+◌, ◌-◌, ◌*◌, ◌^◌, ◌≤◌, ◌<◌}
+use mathlib.Core.Bool.{Bool, true, false, true≢false, not, ◌||◌, and-eq-true_iff}
+use Prim.Native.Nat.{ℕ, ◌^◌, ◌<◌}
 use native.Mathlib.Omega.{arith}
 use native.Mathlib.Decide.{ℕ_discrete}
-use borrow.Author.Tests.{eq-eqb, ne_eqb, eqb-true, leb-true, le-leb, lt-leb, ltb-true, lt-ltb, le-ltb, not-true}
-use lib.Dec.{eqb, leb, ltb}
-use lib.Pow.{pow_pos}
-use Rattle.ring.specs.Ring.{listed, part_of}
+use borrow.Author.Tests.{eq-eqb, ne_eqb, eqb-true, leb-true, le-leb, ltb-true, lt-ltb, not-true}
+use lib.Dec.{eqb, ltb}
+use Rattle.ring.specs.Ring.{listed}
 use Rattle.node.specs.declared.Node.{Node}
 use Rattle.node.specs.Node.{H, O, R}
 use Rattle.node.specs.Range.{NodeRange, LiveRange, NotOverdue, Known, node_test, apart, live_test, not_overdue, timers_test, kind_test}
@@ -49,44 +48,6 @@ module _ (n h w t : ℕ) (a : Node) where
         le-leb _ _ f.heartbeat,
       )
 
-  -- the answers of the code, test by test
-  pub emitter-out : n ≤ a.emitter → false ≡ node_test n h w t a
-  unfolding node_test
-  emitter-out e = rw (le-ltb a.emitter n e)
-
-  module _ (e< : a.emitter < n) where
-    pub observer-out : n ≤ a.observer → false ≡ node_test n h w t a
-    unfolding node_test
-    observer-out o = rw (lt-ltb a.emitter n e<, le-ltb a.observer n o)
-
-    module _ (o< : a.observer < n) (all : ℕ) (set : all ≡ 2 ^ n - 1) where
-      pub list-out : all < a.list → false ≡ node_test n h w t a
-      unfolding node_test
-      list-out l = rw (lt-ltb a.emitter n e<, lt-ltb a.observer n o<, le-ltb a.list (2 ^ n) (omega arith))
-
-      module _ (l≤ : a.list ≤ all) (r : Bool) (is : r ≡ listed a.list a.emitter) where
-        rest-on : node_test n h w t a ≡ (not r && (leb a.watch (suc (t + 2 * w)) && (leb a.heartbeat (suc (t + h)) && part_of a.mark a.list)))
-        unfolding node_test
-        rest-on =
-            rw (lt-ltb a.emitter n e<, lt-ltb a.observer n o<, lt-ltb a.list (2 ^ n) (omega (arith, pow_pos n)), ← is)
-
-        pub listed-out : r ≡ true → false ≡ node_test n h w t a
-        listed-out x = rw (rest-on, x)
-
-        module _ (un : r ≡ false) where
-          pub watch-out : t + 2 * w + 1 < a.watch → false ≡ node_test n h w t a
-          watch-out x = rw (rest-on, un, lt-leb a.watch (suc (t + 2 * w)) (omega arith))
-
-          module _ (w≤ : a.watch ≤ t + 2 * w + 1) where
-            watch-in : node_test n h w t a ≡ (leb a.heartbeat (suc (t + h)) && part_of a.mark a.list)
-            watch-in = rw (rest-on, un, le-leb a.watch (suc (t + 2 * w)) (omega arith))
-
-            pub heartbeat-out : t + h + 1 < a.heartbeat → false ≡ node_test n h w t a
-            heartbeat-out x = rw (watch-in, lt-leb a.heartbeat (suc (t + h)) (omega arith))
-
-            pub mark-last : a.heartbeat ≤ t + h + 1 → part_of a.mark a.list ≡ node_test n h w t a
-            mark-last x = rw (watch-in, le-leb a.heartbeat (suc (t + h)) (omega arith))
-
 -- ---- a live node
 
 module _ (timer other me : ℕ) where
@@ -117,21 +78,6 @@ module _ (me : ℕ) (a : Node) where
   pub facts-live : LiveRange me a → live_test me a ≡ true
   unfolding live_test
   facts-live l = rw (l.lists, facts-apart a.watch a.emitter me l.observes, facts-apart a.heartbeat a.observer me l.sends)
-
-  -- the answers of the code, test by test
-  module _ (r : Bool) (is : r ≡ listed a.list me) where
-    pub lists-itself : r ≡ true → false ≡ live_test me a
-    unfolding live_test
-    lists-itself e = rw (← is, e)
-
-    module _ (un : r ≡ false) where
-      pub observes-itself : apart a.watch a.emitter me ≡ false → false ≡ live_test me a
-      unfolding live_test
-      observes-itself e = rw (← is, un, e)
-
-      pub sends-last : apart a.watch a.emitter me ≡ true → apart a.heartbeat a.observer me ≡ live_test me a
-      unfolding live_test
-      sends-last e = rw (← is, un, e)
 
 -- ---- a timer that is not overdue
 

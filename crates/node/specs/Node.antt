@@ -183,10 +183,6 @@ places ms = ms ++ replicate (most_sent - length ms) (message 0 0 0)
 unfoldable pub turned : Turn → Turned
 turned u = record { node = u.node; sent = places u.sends; count = length u.sends; passed = u.passed }
 
--- a node after a rule whose search passed so many listed nodes
-unfoldable pub with_passed : Turned → ℕ → Turned
-with_passed t passed = record { node = t.node; sent = t.sent; count = t.count; passed = passed }
-
 -- a node after a rule, with R of a subject to its forward targets after what it sends already
 unfoldable pub relayed : List ℕ → ℕ → ℕ → Turned → Turned
 relayed order me subject t =

@@ -4,13 +4,16 @@
 
 ghost use Rattle.std.specs.Prelude.{◌≡◌, [], ◌∷◌, ◌+◌, ◌<◌, ◌≤◌, length, take};
 ghost use Rattle.std.proofs.lemmas.List.Edits.{sets};
-ghost use Rattle.limits.specs.Limits.{most_nodes, most_h, most_w, most_tick};
+ghost use Rattle.limits.specs.Limits.{most_nodes, most_h, most_w, most_tick, most_sent};
 ghost use Rattle.node.specs.Node.{message, reports, silent, sending, alone, opening, on_heartbeat, on_observer, on_report, on_heartbeat_due, on_watch_due};
-ghost use Rattle.node.specs.Node.{on_message, turned, relayed, leaving, with_passed, learnt};
+ghost use Rattle.node.specs.Node.{on_message, turned, relayed, leaving, learnt};
 ghost use Rattle.node.specs.Range.{node_test, apart, live_test};
 
+use limits::MOST_SENT;
+
 // A node's fields. The mark has those of its listed nodes of which it took a report, or which it left as its emitter: a further report of them does
-// nothing. A timer is 0 where it is off, else one more than the tick at which it is due.
+// nothing. A timer is 0 where it is off, else one more than the tick at which it is due: a number and no `Option`, since a store and a record keep it in
+// their bytes so (`off` and `due`, `NodeRange`).
 #[derive(Clone, Copy)]
 pub struct Node {
     pub emitter: u8,
@@ -21,7 +24,8 @@ pub struct Node {
     pub mark: u64,
 }
 
-// A message as its sender gives it away: its letter (b'H', b'O' or b'R'), its receiver, on R its subject and on H its sender's list.
+// A message as its sender gives it away: its letter (b'H', b'O' or b'R'), its receiver, on R its subject and on H its sender's list. The letter is a
+// byte and no enum, since the messages in flight and the log have it so (`Known`).
 #[derive(Clone, Copy)]
 pub struct Message {
     pub kind: u8,
@@ -30,44 +34,52 @@ pub struct Message {
     pub list: u64,
 }
 
-// A node after a rule, with what it sends: the first `count` of seven messages. The others are zero. And how many listed nodes its search for a
-// new emitter passed, 0 where there was none.
+// A node after a rule, with what it sends: the first `count` of seven messages, as nothing is allocated. The others are zero; `messages` hands out
+// those that are sent. And how many listed nodes its search for a new emitter passed, 0 where there was none.
 #[derive(Clone, Copy)]
 pub struct Turned {
     pub node: Node,
-    pub sent: [Message; 7],
+    pub sent: [Message; MOST_SENT],
     pub count: usize,
     pub passed: u8,
 }
 
-fn no_message() -> Message
-    ensures { result ≡ message 0 0 0 }
-{
-    Message {
-        kind: 0,
-        to: 0,
-        subject: 0,
-        list: 0,
+// What stands in a place that holds no message.
+const NO_MESSAGE: Message = Message {
+    kind: 0,
+    to: 0,
+    subject: 0,
+    list: 0,
+};
+
+impl Turned {
+    // The messages that it sends.
+    pub fn messages(&self) -> &[Message]
+        ensures { result.now ≡ take self.now.count self.now.sent }
+    {
+        &self.sent[..self.count.min(MOST_SENT)]
     }
 }
 
 // A node that sends nothing.
+#[tactic(auto, unfolding(crate::specs::Node::turned, crate::specs::Node::places))]
 pub fn quiet(n: Node) -> Turned
     ensures { result ≡ turned (silent n) }
 {
     Turned {
         node: n,
-        sent: [no_message(); 7],
+        sent: [NO_MESSAGE; MOST_SENT],
         count: 0,
         passed: 0,
     }
 }
 
 // A node that sends one message.
+#[tactic(auto, unfolding(crate::specs::Node::turned, crate::specs::Node::places))]
 fn sends_one(n: Node, m: Message) -> Turned
     ensures { result ≡ turned (sending n (m ∷ [])) }
 {
-    let mut sent = [no_message(); 7];
+    let mut sent = [NO_MESSAGE; MOST_SENT];
     sent[0] = m;
     Turned {
         node: n,
@@ -77,63 +89,42 @@ fn sends_one(n: Node, m: Message) -> Turned
     }
 }
 
-// A node after a rule whose search for a new emitter passed so many listed nodes.
-fn with_passed(t: Turned, passed: u8) -> Turned
-    ensures { result ≡ with_passed t passed }
-{
-    let node = t.node;
-    let sent = t.sent;
-    Turned {
-        node,
-        sent,
-        count: t.count,
-        passed,
-    }
-}
-
-// R of the subject to the first `count` of a row, put into seven places from `from` on.
+// R of the subject to each of some nodes, put into seven places from `from` on.
 fn put_reports(
-    places: [Message; 7],
+    places: [Message; MOST_SENT],
     from: usize,
-    to: [u8; 6],
-    count: usize,
+    nodes: &[u8],
     subject: u8,
-) -> [Message; 7]
-    requires { (count ≤ 6) × (from + count ≤ 7) }
-    ensures { result ≡ sets places from (reports subject (take count to)) }
+) -> [Message; MOST_SENT]
+    requires { from + length nodes.now ≤ most_sent }
+    ensures { result ≡ sets places from (reports subject nodes.now) }
 {
     let mut out = places;
-    let mut i: usize = 0;
-    while i < count {
+    for (i, to) in nodes.iter().enumerate() {
         out[from + i] = Message {
             kind: b'R',
-            to: to[i],
+            to: *to,
             subject,
             list: 0,
         };
-        i += 1;
     }
     out
 }
 
 // A node after a rule, with R of the subject to its forward targets after what it sends already.
+#[tactic(auto, using(crate::proofs::Messages::few_reports))]
 fn relay(order: &[u8], me: u8, subject: u8, t: Turned) -> Turned
     requires { (1 ≤ length order.now) × (length order.now ≤ most_nodes) × (t.count ≤ 1) }
     ensures { result ≡ relayed order.now me subject t }
 {
-    let node = t.node;
     let p = ring::place_of(order, me);
-    let to = ring::target_row(order, node.list, p);
-    let size = order.len() as u8;
-    let left = ring::count_unlisted(size, node.list);
+    let row = ring::target_row(order, t.node.list, p);
+    let left = ring::count_unlisted(order.len() as u8, t.node.list);
     let jumps = ring::jump_count(left) as usize;
-    let before = t.sent;
-    let sent = put_reports(before, t.count, to, jumps, subject);
     Turned {
-        node,
-        sent,
+        sent: put_reports(t.sent, t.count, &row[..jumps], subject),
         count: t.count + jumps,
-        passed: t.passed,
+        ..t
     }
 }
 
@@ -162,24 +153,33 @@ fn leave_emitter(order: &[u8], w: u32, tick: u32, me: u8, n: Node) -> Turned
     let p = ring::place_of(order, n.emitter);
     let found = ring::find_back(order, list, p + 1);
     if found.node == me {
-        return with_passed(quiet(lone(me, list, mark)), found.passed);
+        return Turned {
+            passed: found.passed,
+            ..quiet(lone(me, list, mark))
+        };
     }
-    let mut m = n;
-    m.emitter = found.node;
-    m.watch = tick + 2 * w + 1;
-    m.list = list;
-    m.mark = mark;
+    let moved = Node {
+        emitter: found.node,
+        watch: tick + 2 * w + 1,
+        list,
+        mark,
+        ..n
+    };
     let observe = Message {
         kind: b'O',
         to: found.node,
         subject: 0,
         list: 0,
     };
-    let turned = with_passed(sends_one(m, observe), found.passed);
-    relay(order, me, n.emitter, turned)
+    let sent = Turned {
+        passed: found.passed,
+        ..sends_one(moved, observe)
+    };
+    relay(order, me, n.emitter, sent)
 }
 
 // Opening, at tick 0.
+#[tactic(auto, unfolding(crate::specs::Node::opening))]
 pub fn opened(order: &[u8], h: u32, w: u32, me: u8) -> Node
     requires { (length order.now ≤ most_nodes) × (h ≤ most_h) × (w ≤ most_w) }
     ensures { result ≡ opening order.now h w me }
@@ -201,6 +201,7 @@ pub fn opened(order: &[u8], h: u32, w: u32, me: u8) -> Node
 }
 
 // What a node takes from the list that an H carries: not itself and not the sender.
+#[tactic(auto, unfolding(crate::specs::Node::learnt))]
 fn learnt_from(me: u8, from: u8, list: u64) -> u64
     requires { (me < most_nodes) × (from < most_nodes) }
     ensures { result ≡ learnt me from list }
@@ -218,44 +219,48 @@ pub fn on_heartbeat(w: u32, tick: u32, me: u8, from: u8, list: u64, n: Node) -> 
     if n.emitter != from {
         return quiet(n);
     }
-    let mut m = n;
-    m.watch = tick + w + 1;
-    m.list = ring::with_all(n.list, learnt_from(me, from, list));
-    quiet(m)
+    quiet(Node {
+        watch: tick + w + 1,
+        list: ring::with_all(n.list, learnt_from(me, from, list)),
+        ..n
+    })
 }
 
 // Message O: the sender is the new observer, and a heartbeat is due now.
+#[tactic(auto, unfolding(crate::specs::Node::on_observer))]
 pub fn on_observer(tick: u32, from: u8, n: Node) -> Turned
     requires { tick ≤ most_tick }
     ensures { result ≡ turned (on_observer tick from n) }
 {
-    let mut m = n;
-    m.observer = from;
-    m.heartbeat = tick + 1;
-    quiet(m)
+    quiet(Node {
+        observer: from,
+        heartbeat: tick + 1,
+        ..n
+    })
 }
 
 // Message R: a subject that is not marked here is marked, listed and reported on; an emitter is also left.
+#[tactic(auto, unfolding(crate::specs::Node::on_report))]
 pub fn on_report(order: &[u8], w: u32, tick: u32, me: u8, subject: u8, n: Node) -> Turned
     requires { (1 ≤ length order.now) × (length order.now ≤ most_nodes) × (w ≤ most_w) × (tick ≤ most_tick) × (subject < most_nodes) }
     ensures { result ≡ turned (on_report order.now w tick me subject n) }
 {
-    if ring::is_listed(n.mark, subject) {
-        return quiet(n);
-    }
-    if subject == me {
+    if ring::is_listed(n.mark, subject) || subject == me {
         return quiet(n);
     }
     if subject == n.emitter {
         return leave_emitter(order, w, tick, me, n);
     }
-    let mut m = n;
-    m.list = ring::with_listed(n.list, subject);
-    m.mark = ring::with_listed(n.mark, subject);
-    relay(order, me, subject, quiet(m))
+    let told = Node {
+        list: ring::with_listed(n.list, subject),
+        mark: ring::with_listed(n.mark, subject),
+        ..n
+    };
+    relay(order, me, subject, quiet(told))
 }
 
 // Heartbeat due: H to the observer, with the list.
+#[tactic(auto, unfolding(crate::specs::Node::on_heartbeat_due))]
 pub fn on_heartbeat_due(h: u32, tick: u32, n: Node) -> Turned
     requires { (h ≤ most_h) × (tick ≤ most_tick) }
     ensures { result ≡ turned (on_heartbeat_due h tick n) }
@@ -266,9 +271,11 @@ pub fn on_heartbeat_due(h: u32, tick: u32, n: Node) -> Turned
         subject: 0,
         list: n.list,
     };
-    let mut m = n;
-    m.heartbeat = tick + h + 1;
-    sends_one(m, beat)
+    let beaten = Node {
+        heartbeat: tick + h + 1,
+        ..n
+    };
+    sends_one(beaten, beat)
 }
 
 // Watch due: the emitter is left.
@@ -279,7 +286,9 @@ pub fn on_watch_due(order: &[u8], w: u32, tick: u32, me: u8, n: Node) -> Turned
     leave_emitter(order, w, tick, me, n)
 }
 
-// A message of a kind, its letter; all but H and O are taken as R.
+// A message of a kind, its letter; all but H and O are taken as R. The ring, W, the tick and the node's number stay parameters of their own, as
+// each rule's definition takes others of them (`on_heartbeat`, `on_observer`, `on_report`).
+#[tactic(auto, unfolding(crate::specs::Node::on_message))]
 pub fn on_message(
     order: &[u8],
     w: u32,
@@ -305,50 +314,34 @@ pub fn on_message(
 // ---- what a node may hold
 
 // Whether a node's fields are in range, where the ring has n nodes and t is the last tick.
+#[tactic(auto, unfolding(crate::specs::Range::node_test))]
 pub fn node_in_range(n: u8, h: u32, w: u32, t: u32, a: Node) -> bool
     requires { (1 ≤ n) × (n ≤ most_nodes) × (h ≤ most_h) × (w ≤ most_w) × (t ≤ most_tick) }
     ensures { result ≡ node_test n h w t a }
 {
-    if n <= a.emitter {
-        return false;
-    }
-    if n <= a.observer {
-        return false;
-    }
-    if ring::all_nodes(n) < a.list {
-        return false;
-    }
-    if ring::is_listed(a.list, a.emitter) {
-        return false;
-    }
-    if t + 2 * w + 1 < a.watch {
-        return false;
-    }
-    if t + h + 1 < a.heartbeat {
-        return false;
-    }
-    ring::is_part(a.mark, a.list)
+    a.emitter < n
+        && a.observer < n
+        && a.list <= ring::all_nodes(n)
+        && !ring::is_listed(a.list, a.emitter)
+        && a.watch <= t + 2 * w + 1
+        && a.heartbeat <= t + h + 1
+        && ring::is_part(a.mark, a.list)
 }
 
 // A timer is off, or what it is about is another node.
+#[tactic(auto, unfolding(crate::specs::Range::apart))]
 fn is_apart(timer: u32, other: u8, me: u8) -> bool
     ensures { result ≡ apart timer other me }
 {
-    if timer == 0 {
-        return true;
-    }
-    other != me
+    timer == 0 || other != me
 }
 
 // Whether a live node neither lists itself, nor observes itself with the watch on, nor sends to itself with the heartbeat on.
+#[tactic(auto, unfolding(crate::specs::Range::live_test))]
 pub fn live_in_range(me: u8, a: Node) -> bool
     ensures { result ≡ live_test me a }
 {
-    if ring::is_listed(a.list, me) {
-        return false;
-    }
-    if !is_apart(a.watch, a.emitter, me) {
-        return false;
-    }
-    is_apart(a.heartbeat, a.observer, me)
+    !ring::is_listed(a.list, me)
+        && is_apart(a.watch, a.emitter, me)
+        && is_apart(a.heartbeat, a.observer, me)
 }

@@ -3,7 +3,8 @@
 #![tactic(auto)]
 
 ghost use Rattle.std.specs.Prelude.{◌≡◌};
-ghost use Rattle.platform.specs.Calls.{open_file, step, run, write_file, step_refusal, run_refusal, write_refusal};
+ghost use Rattle.platform.specs.Calls.{open_file, step, run, write_file, run_refusal};
+ghost use Rattle.limits.specs.Refusals.{answer_of};
 ghost use Rattle.planner.specs.Answers.{number_and_line, step_letter, step_tick, step_node, step_other, step_size};
 ghost use Rattle.planner.specs.Answers.{run_events, run_spent, write_size};
 ghost use Rattle.planner.specs.Answers.{dispatch_turns, dispatch_events, dispatch_stopped};
@@ -38,7 +39,7 @@ pub extern "C" fn kelbraut_run(
 // Puts the store's run file into a lent part. Answers the number of the refusal, 0 where there is none. Puts the file's length.
 #[unsafe(no_mangle)]
 pub extern "C" fn kelbraut_write(store: &[u8], out: &mut [u8], size: &mut u64) -> u64
-    ensures value { result ≡ write_refusal (write_file store.now out.old).answer }
+    ensures value { result ≡ answer_of (write_file store.now out.old).answer }
     ensures size_after { size.new ≡ write_size (write_file store.now out.old).answer size.old }
     ensures out_after { out.new ≡ (write_file store.now out.old).out }
 {
@@ -57,7 +58,7 @@ pub extern "C" fn kelbraut_step(
     other: &mut u64,
     size: &mut u64,
 ) -> u64
-    ensures value { result ≡ step_refusal (step store.old log.old).answer }
+    ensures value { result ≡ answer_of (step store.old log.old).answer }
     ensures letter_after { letter.new ≡ step_letter (step store.old log.old).answer letter.old }
     ensures tick_after { tick.new ≡ step_tick (step store.old log.old).answer tick.old }
     ensures node_after { node.new ≡ step_node (step store.old log.old).answer node.old }
@@ -80,7 +81,7 @@ pub extern "C" fn kelbraut_dispatch(
     events: &mut [u64; 8],
     stopped: &mut u64,
 ) -> u64
-    ensures value { result ≡ (dispatch stores.old each turns).answer.number }
+    ensures value { result ≡ answer_of (dispatch stores.old each turns).answer }
     ensures given_after { given.new ≡ dispatch_turns (dispatch stores.old each turns).answer given.old }
     ensures events_after { events.new ≡ dispatch_events (dispatch stores.old each turns).answer events.old }
     ensures stopped_after { stopped.new ≡ dispatch_stopped (dispatch stores.old each turns).answer stopped.old }

@@ -15,7 +15,8 @@ use Rattle.plans.proofs.Facts.{plan-plain}
 use Rattle.model.proofs.Calls.{steps-add, calls-after}
 use Rattle.model.proofs.Theorems.{ranges}
 use Rattle.store.specs.Store.{encode, plan_in, state_in, store_in_range}
-use Rattle.limits.specs.Refusals.{bad_store}
+use Rattle.limits.specs.declared.Refusal.TheVariants.{BadStore}
+use Rattle.limits.specs.Refusals.{number_of}
 use Rattle.platform.specs.CallLists.{sized, store_after, store_after_all, NoneAnswers, events_of, Kept, Call}
 use Rattle.platform.proofs.Stores.{Holds, plan-of, state-of, in-range-of, call-store, call-not-7, Lends, lends, steps-hold}
 
@@ -61,12 +62,12 @@ module _ (p : Plan) (good : plan_test p ≡ true) where
       call-store p (after p e) (after_holds e) (after_small e) c in
       ap (store_after_all cs) (one ∙ ap (encode p) w.1) ∙ calls-store cs w.0 ∙ ap (λ (s : State). encode p (calls p (map sized cs) s)) (sym w.1)
 
-  pub none-seven : (cs : List Call) (e : ℕ) → NoneAnswers bad_store cs (encode p (after p e))
+  pub none-seven : (cs : List Call) (e : ℕ) → NoneAnswers (number_of BadStore) cs (encode p (after p e))
   unfolding NoneAnswers
   none-seven [] e = tt
   none-seven (c ∷ cs) e =
       let w = call-leads c e in
-      (call-not-7 p (after p e) (after_holds e) (after_small e) c, subst (NoneAnswers bad_store cs) (sym w.1) (none-seven cs w.0))
+      (call-not-7 p (after p e) (after_holds e) (after_small e) c, subst (NoneAnswers (number_of BadStore) cs) (sym w.1) (none-seven cs w.0))
 
   pub opened-at : start p ≡ after p 0
   unfolding after steps

@@ -12,11 +12,10 @@ use Rattle.plans.specs.Plan.{Plan, plan_test, start_plan}
 use Rattle.plans.specs.Plain.{no_crash, row_at}
 use Rattle.store.specs.Inside.{delay_at}
 use Rattle.runfile.specs.File.{FileAnswer, accepted, file_of, turned_down}
-use Rattle.runfile.specs.declared.Fields.{Fields}
 use Rattle.runfile.specs.declared.Outline.{Outline}
-use Rattle.runfile.specs.declared.Read.TheVariants.{Accepted as Read-as-Accepted, Refused as Read-as-Refused}
-use Rattle.runfile.specs.declared.Entry.{Entry}
-use Rattle.runfile.specs.Reader.{outline_of, read_of, entry_at, fields_at, ring_place, crash_place, delay_place}
+use Rattle.runfile.specs.declared.FileRefusal.{FileRefusal}
+use Rattle.text.specs.Field.{number_field_at}
+use Rattle.runfile.specs.Reader.{outline_of, read_of, fields_at, ring_place, crash_place, delay_place}
 use Rattle.plans.proofs.Tests.{Ranges, ranges, few-ring, few-delays}
 use Rattle.plans.proofs.Few.{crashes-few}
 use Rattle.runfile.proofs.Refusals.{refusal-small}
@@ -27,9 +26,10 @@ use Rattle.runfile.specs.Text.{start_text, ring_text, head_text, crash_text, del
 use Rattle.model.specs.Platform.{start}
 use Rattle.limits.specs.Limits.{store_size}
 use Rattle.store.specs.Store.{encode, plan_in}
-use Rattle.platform.specs.declared.Opened.TheVariants.{Ready, Refused as Unopened}
+use Rattle.std.specs.Prelude.{Some, None, Ok, Err}
 use Rattle.platform.specs.Calls.{AfterOpen, open_plan, open_answer, open_file}
-use Rattle.limits.specs.Refusals.{bad_store}
+use Rattle.limits.specs.declared.Refusal.TheVariants.{BadStore}
+use Rattle.limits.specs.Refusals.{number_of}
 use Rattle.store.specs.Filling.{put_ring, put_crash, put_delay, unopened, begun, Unopened as NotOpened, rows_up_to, filled}
 use Rattle.platform.specs.Accepts.{planned, plan_of, Accepts}
 use Rattle.store.proofs.Filling.{none-begun, ring-begun, none_filled, crash-filled, delay-filled, all-filled}
@@ -60,15 +60,23 @@ module _ (file : List ℕ) (ok : Accepts file) where
     pub number_fits : i < 64
     number_fits = omega (arith, ring-fits)
 
-    module _ {at : ℕ} {number : Entry} (place : at ≡ ring_place p i) (got : number ≡ entry_at file at) where
-      got_number : number ≡ record { value = get_or p.ring i 0; next = ring_place p (suc i) }
-      got_number = got ∙ ap (entry_at file) place ∙ ring-at file p ok i (omega arith)
+    module _ {at : ℕ} (place : at ≡ ring_place p i) where
+      number-there : number_field_at file at ≡ Some (get_or p.ring i 0, ring_place p (suc i))
+      number-there = ap (number_field_at file) place ∙ ring-at file p ok i (omega arith)
 
-      pub number-next : number.next ≡ ring_place p (i + 1)
-      number-next = ap (λ (e : Entry). e.next) got_number ∙ ap (ring_place p) (sym (add-one i))
+      pub number-found : number_field_at file at ≡ None → ⊥
+      number-found none_there = let z = sym number-there ∙ none_there in absurd (cc)
 
-      pub number_put : {s t : List ℕ} → s ≡ begun p i → t ≡ put_ring s i number.value → t ≡ begun p (i + 1)
-      number_put before put = put ∙ rw (before, got_number) (ring-begun p bounds.n-high ring-fits i (omega arith))
+      module _ {number next : ℕ} (got : Some (number, next) ≡ number_field_at file at) where
+        got_number : ◌≡◌ {A = ℕ × ℕ} (number, next) (get_or p.ring i 0, ring_place p (suc i))
+        got_number = let e = got ∙ number-there in cc
+
+        pub number-next : next ≡ ring_place p (i + 1)
+        number-next = ap (λ (e : ℕ × ℕ). e.1) got_number ∙ ap (ring_place p) (sym (add-one i))
+
+        pub number_put : {s t : List ℕ} → s ≡ begun p i → t ≡ put_ring s i number → t ≡ begun p (i + 1)
+        number_put before put =
+            put ∙ rw (before, ap (λ (e : ℕ × ℕ). e.0) got_number) (ring-begun p bounds.n-high ring-fits i (omega arith))
 
   -- the places of the P line's end, of the Q line's end and of the first row
   heads-small : length (head_text p) ≤ 27678
@@ -105,34 +113,51 @@ module _ (file : List ℕ) (ok : Accepts file) where
     pub crash-fits : i < 64
     crash-fits = omega (arith, crashes-fit)
 
-    module _ {at : ℕ} {row : Fields} (place : at ≡ crash_place p i) (got : row ≡ fields_at file at) where
-      got-crash : row ≡ record
-          { first = (row_at p i).tick; second = (row_at p i).node; next = crash_place p (suc i) }
-      got-crash = got ∙ ap (fields_at file) place ∙ crash-at file p ok no_crash i (omega arith)
+    module _ {at : ℕ} (place : at ≡ crash_place p i) where
+      crash-there : fields_at file at ≡ Some ((row_at p i).tick, (row_at p i).node, crash_place p (suc i))
+      crash-there = ap (fields_at file) place ∙ crash-at file p ok no_crash i (omega arith)
 
-      pub crash-next : row.next ≡ crash_place p (i + 1)
-      crash-next = ap (λ (r : Fields). r.next) got-crash ∙ ap (crash_place p) (sym (add-one i))
+      pub crash-found : fields_at file at ≡ None → ⊥
+      crash-found none_there = let z = sym crash-there ∙ none_there in absurd (cc)
 
-      pub crash-put : {s t : List ℕ} → s ≡ filled p i 0 → t ≡ put_crash s i row.first row.second → t ≡ filled p (i + 1) 0
-      crash-put before put = put ∙ rw (before, got-crash) (crash-filled p bounds.n-high ring-fits crashes-fit delays-fit i no_crash (omega arith))
+      module _ {tick node next : ℕ} (got : Some (tick, node, next) ≡ fields_at file at) where
+        got-crash : ◌≡◌ {A = ℕ × ℕ × ℕ} (tick, node, next) ((row_at p i).tick, (row_at p i).node, crash_place p (suc i))
+        got-crash = let e = got ∙ crash-there in cc
+
+        pub crash-next : next ≡ crash_place p (i + 1)
+        crash-next = ap (λ (r : ℕ × ℕ × ℕ). r.2) got-crash ∙ ap (crash_place p) (sym (add-one i))
+
+        pub crash-put : {s t : List ℕ} → s ≡ filled p i 0 → t ≡ put_crash s i tick node → t ≡ filled p (i + 1) 0
+        crash-put before put =
+            put
+            ∙ rw (before, ap (λ (r : ℕ × ℕ × ℕ). r.0) got-crash, ap (λ (r : ℕ × ℕ × ℕ). r.1) got-crash)
+            (crash-filled p bounds.n-high ring-fits crashes-fit delays-fit i no_crash (omega arith))
 
   -- the same of an L row
   module _ (i : ℕ) {count : ℕ} (less : i < count) (all : count ≡ length p.delays) where
     pub delay-fits : i < 2048
     delay-fits = omega (arith, delays-fit)
 
-    module _ {at : ℕ} {row : Fields} (place : at ≡ delay_place p i) (got : row ≡ fields_at file at) where
-      got-delay : row ≡ record
-          { first = (delay_at p i).number; second = (delay_at p i).delay; next = delay_place p (suc i) }
-      got-delay = got ∙ ap (fields_at file) place ∙ delay-at file p ok (record { number = 0; delay = 0 }) i (omega arith)
+    module _ {at : ℕ} (place : at ≡ delay_place p i) where
+      delay-there : fields_at file at ≡ Some ((delay_at p i).number, (delay_at p i).delay, delay_place p (suc i))
+      delay-there = ap (fields_at file) place ∙ delay-at file p ok (record { number = 0; delay = 0 }) i (omega arith)
 
-      pub delay-next : row.next ≡ delay_place p (i + 1)
-      delay-next = ap (λ (r : Fields). r.next) got-delay ∙ ap (delay_place p) (sym (add-one i))
+      pub delay-found : fields_at file at ≡ None → ⊥
+      delay-found none_there = let z = sym delay-there ∙ none_there in absurd (cc)
 
-      pub delay-put : {s t : List ℕ} → s ≡ filled p (length p.crashes) i → t ≡ put_delay s i row.first row.second
-          → t ≡ filled p (length p.crashes) (i + 1)
-      delay-put before put =
-          put ∙ rw (before, got-delay) (delay-filled p bounds.n-high ring-fits crashes-fit delays-fit i (record { number = 0; delay = 0 }) (omega arith))
+      module _ {number delay next : ℕ} (got : Some (number, delay, next) ≡ fields_at file at) where
+        got-delay : ◌≡◌ {A = ℕ × ℕ × ℕ} (number, delay, next) ((delay_at p i).number, (delay_at p i).delay, delay_place p (suc i))
+        got-delay = let e = got ∙ delay-there in cc
+
+        pub delay-next : next ≡ delay_place p (i + 1)
+        delay-next = ap (λ (r : ℕ × ℕ × ℕ). r.2) got-delay ∙ ap (delay_place p) (sym (add-one i))
+
+        pub delay-put : {s t : List ℕ} → s ≡ filled p (length p.crashes) i → t ≡ put_delay s i number delay
+            → t ≡ filled p (length p.crashes) (i + 1)
+        delay-put before put =
+            put
+            ∙ rw (before, ap (λ (r : ℕ × ℕ × ℕ). r.0) got-delay, ap (λ (r : ℕ × ℕ × ℕ). r.1) got-delay)
+            (delay-filled p bounds.n-high ring-fits crashes-fit delays-fit i (record { number = 0; delay = 0 }) (omega arith))
 
 -- ---- the end of a loop that counts
 
@@ -191,59 +216,57 @@ module _ (file : List ℕ) (ok : Accepts file) (o : Outline) (same : o ≡ outli
 -- ---- opening's answers
 
 -- an accepted file, by what the reader answers
-pub read-accepts : (file : List ℕ) (o : Outline) → Read-as-Accepted o ≡ read_of (file_of file) → Accepts file × (o ≡ outline_of (plan_of file))
+pub read-accepts : (file : List ℕ) (o : Outline) → Ok o ≡ read_of (file_of file) → Accepts file × (o ≡ outline_of (plan_of file))
 unfolding planned read_of
 read-accepts file o e = go (file_of file) refl e
   where
-    go : (a : FileAnswer) → file_of file ≡ a → Read-as-Accepted o ≡ read_of a
+    go : (a : FileAnswer) → file_of file ≡ a → Ok o ≡ read_of a
         → (file_of file ≡ accepted (planned (file_of file))) × (o ≡ outline_of (planned (file_of file)))
     go (accepted p) same h = let out : o ≡ outline_of p = cc in (rw same refl, rw same out)
-    go (turned_down number line) same h = let z : ◌≡◌ {A = ℕ} 0 1 = cc in absurd (omega arith)
+    go (turned_down refusal line) same h = absurd (cc)
 
 module _ (file store : List ℕ) where
-  pub open-refused : {number line : ℕ} → Read-as-Refused number line ≡ read_of (file_of file)
-      → (Unopened number line ≡ (open_file file store).answer) × (store ≡ (open_file file store).store)
+  pub open-refused : {r : FileRefusal} → Err r ≡ read_of (file_of file)
+      → (Err r ≡ (open_file file store).answer) × (store ≡ (open_file file store).store)
   unfolding open_file open_answer read_of
-  open-refused {number} {line} e = go (file_of file) e
+  open-refused {r} e = go (file_of file) e
     where
-      go : (a : FileAnswer) → Read-as-Refused number line ≡ read_of a
-          → (Unopened number line ≡ (open_answer a store).answer) × (store ≡ (open_answer a store).store)
-      go (accepted p) h = let z : ◌≡◌ {A = ℕ} 0 1 = cc in absurd (omega arith)
-      go (turned_down k l) h = let a : number ≡ k = cc in let b : line ≡ l = cc in (rw (a, b), refl)
+      go : (a : FileAnswer) → Err r ≡ read_of a → (Err r ≡ (open_answer a store).answer) × (store ≡ (open_answer a store).store)
+      go (accepted p) h = absurd (cc)
+      go (turned_down refusal line) h = let same : r ≡ record { refusal = refusal; line = line } = cc in (rw same, refl)
 
   open-plan : Accepts file → open_file file store ≡ open_plan (plan_of file) store
   unfolding open_file open_answer
   open-plan ok = ap (λ (a : FileAnswer). open_answer a store) ok
 
   pub open-short : Accepts file → (length store ≡ store_size → ⊥)
-      → (Unopened bad_store 0 ≡ (open_file file store).answer) × (store ≡ (open_file file store).store)
+      → (Err (record { refusal = BadStore; line = 0 }) ≡ (open_file file store).answer) × (store ≡ (open_file file store).store)
   unfolding open_plan
   open-short ok h = rw (open-plan ok, ne_eqb (length store) store_size h) (refl, refl)
 
   pub open-ready : {t : List ℕ} → Accepts file → length store ≡ store_size → t ≡ encode (plan_of file) (start (plan_of file))
-      → (Ready ≡ (open_file file store).answer) × (t ≡ (open_file file store).store)
+      → (Ok tt ≡ (open_file file store).answer) × (t ≡ (open_file file store).store)
   unfolding open_plan
   open-ready ok h e = rw (open-plan ok, eq-eqb (length store) store_size h) (refl, e)
 
 -- a refused opening has a number of 1 to 13 and a line of at most 65,536
-pub opening-small : (file store : List ℕ) (number line : ℕ) → (open_file file store).answer ≡ Unopened number line
-    → (1 ≤ number) × (number ≤ 13) × (line ≤ 65536)
+pub opening-small : (file store : List ℕ) (r : FileRefusal) → (open_file file store).answer ≡ Err r
+    → (1 ≤ number_of r.refusal) × (number_of r.refusal ≤ 13) × (r.line ≤ 65536)
 unfolding open_file open_answer open_plan
-opening-small file store number line e = go (file_of file) refl e
+opening-small file store r e = go (file_of file) refl e
   where
     ready : AfterOpen → Bool → AfterOpen
-    ready after t = cond t after (record { answer = Unopened bad_store 0; store = store })
+    ready after t = cond t after (record { answer = Err (record { refusal = BadStore; line = 0 }); store = store })
 
-    tested : (p : Plan) (t : Bool) → (ready (record { answer = Ready; store = encode p (start p) }) t).answer ≡ Unopened number line
-        → (1 ≤ number) × (number ≤ 13) × (line ≤ 65536)
-    tested p true h = let z : ◌≡◌ {A = ℕ} 0 1 = cc in absurd (omega arith)
-    tested p false h = let a : bad_store ≡ number = cc in let b : ◌≡◌ {A = ℕ} 0 line = cc in omega arith
+    tested : (p : Plan) (t : Bool) → (ready (record { answer = Ok tt; store = encode p (start p) }) t).answer ≡ Err r
+        → (1 ≤ number_of r.refusal) × (number_of r.refusal ≤ 13) × (r.line ≤ 65536)
+    tested p true h = absurd (cc)
+    tested p false h = let same : record { refusal = BadStore; line = 0 } ≡ r = cc in rw (← same) (omega arith, omega arith, omega arith)
 
-    go : (a : FileAnswer) → file_of file ≡ a → (open_answer a store).answer ≡ Unopened number line
-        → (1 ≤ number) × (number ≤ 13) × (line ≤ 65536)
+    go : (a : FileAnswer) → file_of file ≡ a → (open_answer a store).answer ≡ Err r
+        → (1 ≤ number_of r.refusal) × (number_of r.refusal ≤ 13) × (r.line ≤ 65536)
     go (accepted p) same h = tested p (eqb (length store) store_size) h
-    go (turned_down k l) same h =
-        let a : k ≡ number = cc in
-        let b : l ≡ line = cc in
-        let s = refusal-small file k l same in
-        omega (arith, s.0, s.1, s.2)
+    go (turned_down refusal line) same h =
+        let one : record { refusal = refusal; line = line } ≡ r = cc in
+        let s = refusal-small file refusal line same in
+        rw (← one) (s.0, s.1, s.2)

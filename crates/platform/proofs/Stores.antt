@@ -26,11 +26,11 @@ use Rattle.store.specs.Store.{columns, encode, plan_in, state_in, store_in_range
 use Rattle.store.specs.Inside.{Fits, Held}
 use Rattle.store.proofs.Store.{plan-encode, state-encode, held-read}
 use Rattle.store.proofs.Fitting.{Room, sound-fits}
-use Rattle.platform.specs.declared.Stepped.TheVariants.{Refused as Unstepped}
-use Rattle.platform.specs.declared.Wrote.TheVariants.{Bytes}
-use Rattle.limits.specs.Refusals.{bad_store, short_part}
+use Rattle.std.specs.Prelude.{Ok, Err}
+use Rattle.limits.specs.declared.Refusal.TheVariants.{BadStore, ShortPart}
+use Rattle.limits.specs.Refusals.{number_of, answer_of}
 use Rattle.platform.specs.Calls.{AfterStep, AfterRun, step_outcome, step, ran, run_state, run}
-use Rattle.platform.specs.Calls.{write_file, step_refusal, run_refusal, events_done}
+use Rattle.platform.specs.Calls.{write_file, run_refusal, events_done}
 use Rattle.platform.specs.CallLists.{Call, a_step, a_run, sized, store_after, refusal}
 use Rattle.platform.proofs.Encoded.{in-range-encode}
 
@@ -59,7 +59,7 @@ module _ (p : Plan) (s : State) (h : Holds p s) where
 
 module _ (b : List ℕ) (p : Plan) (s : State) (ok : store_in_range b ≡ true) (plan : plan_in b ≡ p) (state : state_in b ≡ s) where
   pub step_in : (log : List ℕ) → step b log
-      ≡ cond (ltb (length log) log_room) (record { answer = Unstepped short_part; store = b; log = log }) (step_outcome p s (try p s) b log)
+      ≡ cond (ltb (length log) log_room) (record { answer = Err ShortPart; store = b; log = log }) (step_outcome p s (try p s) b log)
   unfolding step
   step_in log = rw (ok, plan, state)
 
@@ -68,7 +68,7 @@ module _ (b : List ℕ) (p : Plan) (s : State) (ok : store_in_range b ≡ true) 
   run_in budget = rw (ok, plan, state)
 
   pub write-in : (out : List ℕ) → file_room ≤ length out
-      → write_file b out ≡ record { answer = Bytes (length (plan_text p)); out = put out 0 (plan_text p) }
+      → write_file b out ≡ record { answer = Ok (length (plan_text p)); out = put out 0 (plan_text p) }
   unfolding write_file
   write-in out room = rw (ok, plan, le-ltb (length out) file_room room)
 
@@ -79,8 +79,8 @@ outcome-store p s (did e s') log = refl
 outcome-store p s ended log = refl
 outcome-store p s refused log = refl
 
-outcome-not-7 : (p : Plan) (s : State) (o : Outcome) (b log : List ℕ) → step_refusal (step_outcome p s o b log).answer ≢ bad_store
-unfolding step_outcome step_refusal
+outcome-not-7 : (p : Plan) (s : State) (o : Outcome) (b log : List ℕ) → answer_of (step_outcome p s o b log).answer ≢ number_of BadStore
+unfolding step_outcome
 outcome-not-7 p s (did e s') b log = λ e. omega arith
 outcome-not-7 p s ended b log = λ e. omega arith
 outcome-not-7 p s refused b log = λ e. omega arith
@@ -98,7 +98,7 @@ ran-number finished k l = refl
 ran-number spent k l = refl
 ran-number overfull k l = refl
 
-ran-not-7 : (a : Ending) (k : ℕ) → run_refusal (ran a k) ≢ bad_store
+ran-not-7 : (a : Ending) (k : ℕ) → run_refusal (ran a k) ≢ number_of BadStore
 unfolding ran run_refusal
 ran-not-7 finished k = λ e. omega arith
 ran-not-7 spent k = λ e. omega arith
@@ -109,7 +109,7 @@ module _ (p : Plan) (s : State) (h : Holds p s) (cap : s.next ≤ most_next) whe
   in-range = in-range-of p s h ∙ le-leb s.next most_next cap
 
   abbrev stepped : Bool → List ℕ → AfterStep
-  stepped short log = cond short (record { answer = Unstepped short_part; store = encode p s; log = log }) (step_outcome p s (try p s) (encode p s) log)
+  stepped short log = cond short (record { answer = Err ShortPart; store = encode p s; log = log }) (step_outcome p s (try p s) (encode p s) log)
 
   step_of : (log : List ℕ) → step (encode p s) log ≡ stepped (ltb (length log) log_room) log
   step_of log = step_in (encode p s) p s in-range (plan-of p s h) (state-of p s h) log
@@ -127,19 +127,19 @@ module _ (p : Plan) (s : State) (h : Holds p s) (cap : s.next ≤ most_next) whe
       go false = outcome-store p s (try p s) log
   call-store (a_run budget) = ap (λ (a : AfterRun). a.store) (run_of budget)
 
-  pub call-not-7 : (c : Call) → refusal c (encode p s) ≢ bad_store
-  unfolding refusal run_state step_refusal
-  call-not-7 (a_step log) = subst (λ (a : AfterStep). step_refusal a.answer ≢ bad_store) (sym (step_of log)) (go (ltb (length log) log_room))
+  pub call-not-7 : (c : Call) → refusal c (encode p s) ≢ number_of BadStore
+  unfolding refusal run_state
+  call-not-7 (a_step log) = subst (λ (a : AfterStep). answer_of a.answer ≢ number_of BadStore) (sym (step_of log)) (go (ltb (length log) log_room))
     where
-      go : (short : Bool) → step_refusal (stepped short log).answer ≢ bad_store
+      go : (short : Bool) → answer_of (stepped short log).answer ≢ number_of BadStore
       go true = λ e. omega arith
       go false = outcome-not-7 p s (try p s) (encode p s) log
   call-not-7 (a_run budget) =
-      subst (λ (a : AfterRun). run_refusal a.answer ≢ bad_store) (sym (run_of budget)) (ran-not-7 (run_answer p budget s) (event_count p budget s))
+      subst (λ (a : AfterRun). run_refusal a.answer ≢ number_of BadStore) (sym (run_of budget)) (ran-not-7 (run_answer p budget s) (event_count p budget s))
 
   -- the writer puts the plan's text
   pub writes : (out : List ℕ) → file_room ≤ length out → write_file (encode p s) out ≡ record
-      { answer = Bytes (length (plan_text p)); out = put out 0 (plan_text p) }
+      { answer = Ok (length (plan_text p)); out = put out 0 (plan_text p) }
   writes out room = write-in (encode p s) p s in-range (plan-of p s h) (state-of p s h) out room
 
 -- ---- however many events are done on a lent store

@@ -6,7 +6,7 @@ use Rattle.runfile.specs.File.{FileAnswer, accepted, file_of, turned_down}
 -- a refused file plans nothing
 unfoldable pub planned : FileAnswer → Plan
 planned (accepted p) = p
-planned (turned_down number line) = start_plan 0 0 0 0 0
+planned (turned_down refusal line) = start_plan 0 0 0 0 0
 
 abbrev pub plan_of : List ℕ → Plan
 plan_of file = planned (file_of file)

@@ -5,7 +5,8 @@ use Rattle.plans.specs.Plan.{Plan}
 use Rattle.model.specs.Platform.{events, step as step_of, run as run_of, SizedCall}
 use Rattle.limits.specs.Limits.{most_next}
 use Rattle.store.specs.Store.{plan_in, state_in, store_in_range}
-use Rattle.platform.specs.Calls.{step, run, step_refusal, run_refusal}
+use Rattle.limits.specs.Refusals.{answer_of}
+use Rattle.platform.specs.Calls.{step, run, run_refusal}
 
 -- ---- a list of calls
 
@@ -31,7 +32,7 @@ store_after_all (c ∷ cs) store = store_after_all cs (store_after c store)
 
 -- the number that refuses a call, 0 where it is not refused
 unfoldable pub refusal : Call → List ℕ → ℕ
-refusal (a_step log) store = step_refusal (step store log).answer
+refusal (a_step log) store = answer_of (step store log).answer
 refusal (a_run budget) store = run_refusal (run store budget).answer
 
 -- no call in the list answers a number

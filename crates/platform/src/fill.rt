@@ -10,6 +10,8 @@ ghost use Rattle.store.specs.Filling.{begun, filled};
 
 use runfile::Outline;
 
+// One function for add_numbers, add_crashes and add_delays would be no plainer: each has a reader, a writer and a contract of its own.
+
 // The numbers of the file's Q line, the first of which stands at the place first. Answers the place after them.
 fn add_numbers(s: &mut [u8], file: &[u8], first: usize, count: usize) -> usize
     requires accepts { Accepts file.now }
@@ -19,12 +21,12 @@ fn add_numbers(s: &mut [u8], file: &[u8], first: usize, count: usize) -> usize
     ensures s_after { s.new ≡ begun (plan_of file.now) count }
 {
     let mut at = first;
-    let mut i: usize = 0;
-    while i < count {
-        let number = runfile::number_at(file, at);
-        store::fill::put_ring(s, i, number.value);
-        at = number.next;
-        i += 1;
+    for i in 0..count {
+        let Some((number, next)) = text::read_field(file, at) else {
+            unreachable!()
+        };
+        store::fill::put_ring(s, i, number);
+        at = next;
     }
     at
 }
@@ -66,12 +68,12 @@ fn add_crashes(s: &mut [u8], file: &[u8], first: usize, count: usize) -> usize
     ensures s_after { s.new ≡ filled (plan_of file.now) count 0 }
 {
     let mut at = first;
-    let mut i: usize = 0;
-    while i < count {
-        let row = runfile::row_at(file, at);
-        store::fill::put_crash(s, i, row.first, row.second);
-        at = row.next;
-        i += 1;
+    for i in 0..count {
+        let Some((tick, node, next)) = runfile::row_at(file, at) else {
+            unreachable!()
+        };
+        store::fill::put_crash(s, i, tick, node);
+        at = next;
     }
     at
 }
@@ -84,12 +86,12 @@ fn add_delays(s: &mut [u8], file: &[u8], first: usize, count: usize)
     ensures { s.new ≡ filled (plan_of file.now) (length (plan_of file.now).crashes) count }
 {
     let mut at = first;
-    let mut i: usize = 0;
-    while i < count {
-        let row = runfile::row_at(file, at);
-        store::fill::put_delay(s, i, row.first, row.second);
-        at = row.next;
-        i += 1;
+    for i in 0..count {
+        let Some((number, delay, next)) = runfile::row_at(file, at) else {
+            unreachable!()
+        };
+        store::fill::put_delay(s, i, number, delay);
+        at = next;
     }
 }
 

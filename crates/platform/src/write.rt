@@ -1,92 +1,78 @@
 // Writes the run file of a store.
 ghost use Rattle.std.specs.Prelude.{◌+◌, ◌≤◌, length};
-ghost use Rattle.text.specs.Put.{Put};
+ghost use Rattle.text.specs.Put.{Put, Writes};
 ghost use Rattle.text.specs.Field.{field};
 ghost use Rattle.runfile.specs.Text.{ring_text, head_text, crash_text, delay_text, rows_text, plan_text};
 ghost use Rattle.store.specs.Store.{plan_in};
 ghost use Rattle.store.specs.Inside.{Held};
 
 use store::plan;
+use text::Writer;
 
-// The numbers of the Q line, from the place first on. Answers the place after them.
-fn put_numbers(store: &[u8], out: &mut [u8], first: usize) -> usize
+// The numbers of the Q line.
+fn put_numbers(store: &[u8], out: &mut Writer)
     requires held { Held store.now }
-    requires store_in_bounds { first + length (rows_text field (plan_in store.now).ring) ≤ length out.old }
-    ensures { Put out.old first (rows_text field (plan_in store.now).ring) result out.new }
+    requires room { out.old.at + length (rows_text field (plan_in store.now).ring) ≤ length out.old.out.now }
+    ensures { Writes out.old out.new (rows_text field (plan_in store.now).ring) }
 {
-    let count = plan::ring_size(store);
-    let mut at = first;
-    let mut i: usize = 0;
-    while i < count {
-        let k = plan::ring_at(store, i);
-        at = runfile::put_ring_node(out, at, k as u64);
-        i += 1;
+    for i in 0..plan::ring_size(store) {
+        out.field(plan::ring_at(store, i) as u64);
     }
-    at
 }
 
-// The Q line, where there is one, from the place first on. Answers the place after it.
-#[tactic(auto, using(crate::proofs::Writing::none_long, crate::proofs::Writing::none_put))]
-fn put_ring(store: &[u8], out: &mut [u8], first: usize) -> usize
+// The Q line, where there is one.
+fn put_ring(store: &[u8], out: &mut Writer)
     requires held { Held store.now }
-    requires store_in_bounds { first + length (ring_text (plan_in store.now).ring) ≤ length out.old }
-    ensures { Put out.old first (ring_text (plan_in store.now).ring) result out.new }
+    requires room { out.old.at + length (ring_text (plan_in store.now).ring) ≤ length out.old.out.now }
+    ensures { Writes out.old out.new (ring_text (plan_in store.now).ring) }
 {
     if plan::ring_size(store) == 0 {
-        return first;
+        return;
     }
-    let numbers = runfile::put_ring_letter(out, first);
-    let end = put_numbers(store, out, numbers);
-    runfile::put_ring_end(out, end)
+    out.byte(b'Q');
+    put_numbers(store, out);
+    out.byte(b'\n');
 }
 
-// The P line and the Q line, from the start of out on. Answers the place after them.
-fn put_head(store: &[u8], out: &mut [u8]) -> usize
+// The P line and the Q line.
+fn put_head(store: &[u8], out: &mut Writer)
     requires held { Held store.now }
-    requires store_in_bounds { length (head_text (plan_in store.now)) ≤ length out.old }
-    ensures { Put out.old 0 (head_text (plan_in store.now)) result out.new }
+    requires room { out.old.at + length (head_text (plan_in store.now)) ≤ length out.old.out.now }
+    ensures { Writes out.old out.new (head_text (plan_in store.now)) }
 {
-    let n = plan::node_count(store) as u64;
-    let h = plan::period(store) as u64;
-    let w = plan::time_out(store) as u64;
-    let d = plan::longest_delay(store) as u64;
-    let end = plan::end_tick(store) as u64;
-    let ring = runfile::put_start(out, 0, n, h, w, d, end);
-    put_ring(store, out, ring)
+    runfile::put_start(
+        out,
+        plan::node_count(store) as u64,
+        plan::period(store) as u64,
+        plan::time_out(store) as u64,
+        plan::longest_delay(store) as u64,
+        plan::end_tick(store) as u64,
+    );
+    put_ring(store, out);
 }
 
-// The C lines, from the place first on. Answers the place after them.
-fn put_crashes(store: &[u8], out: &mut [u8], first: usize) -> usize
+// The C lines. They and the L lines have a function each, as rows have a type, a reader and a text of their own.
+fn put_crashes(store: &[u8], out: &mut Writer)
     requires held { Held store.now }
-    requires store_in_bounds { first + length (rows_text crash_text (plan_in store.now).crashes) ≤ length out.old }
-    ensures { Put out.old first (rows_text crash_text (plan_in store.now).crashes) result out.new }
+    requires room { out.old.at + length (rows_text crash_text (plan_in store.now).crashes) ≤ length out.old.out.now }
+    ensures { Writes out.old out.new (rows_text crash_text (plan_in store.now).crashes) }
 {
-    let count = plan::crash_count(store);
-    let mut at = first;
-    let mut i: usize = 0;
-    while i < count {
+    for i in 0..plan::crash_count(store) {
         let row = plan::crash_at(store, i);
-        at = runfile::put_crash(out, at, row.tick as u64, row.node as u64);
-        i += 1;
+        runfile::put_crash(out, row.tick as u64, row.node as u64);
     }
-    at
 }
 
-// The L lines, from the place first on. Answers the place after them.
-fn put_delays(store: &[u8], out: &mut [u8], first: usize) -> usize
+// The L lines.
+fn put_delays(store: &[u8], out: &mut Writer)
     requires held { Held store.now }
-    requires store_in_bounds { first + length (rows_text delay_text (plan_in store.now).delays) ≤ length out.old }
-    ensures { Put out.old first (rows_text delay_text (plan_in store.now).delays) result out.new }
+    requires room { out.old.at + length (rows_text delay_text (plan_in store.now).delays) ≤ length out.old.out.now }
+    ensures { Writes out.old out.new (rows_text delay_text (plan_in store.now).delays) }
 {
-    let count = plan::delay_count(store);
-    let mut at = first;
-    let mut i: usize = 0;
-    while i < count {
+    for i in 0..plan::delay_count(store) {
         let row = plan::delay_at(store, i);
-        at = runfile::put_delay(out, at, row.number as u64, row.delay as u64);
-        i += 1;
+        runfile::put_delay(out, row.number as u64, row.delay as u64);
     }
-    at
 }
 
 // The whole file, from the start of out on. Answers its length.
@@ -95,7 +81,9 @@ pub fn put_file(store: &[u8], out: &mut [u8]) -> usize
     requires store_in_bounds { length (plan_text (plan_in store.now)) ≤ length out.old }
     ensures { Put out.old 0 (plan_text (plan_in store.now)) result out.new }
 {
-    let crashes = put_head(store, out);
-    let delays = put_crashes(store, out, crashes);
-    put_delays(store, out, delays)
+    let mut writer = Writer::new(out);
+    put_head(store, &mut writer);
+    put_crashes(store, &mut writer);
+    put_delays(store, &mut writer);
+    writer.at
 }

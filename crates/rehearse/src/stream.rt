@@ -23,12 +23,13 @@ fn try_again(rt: &impl Clock, error: &io::Error) -> bool
     kind == ErrorKind::Interrupted
 }
 
-// Reads some bytes of the input. Answers how many, 0 at its end, or why it cannot be read.
+// Reads some bytes of the input. Answers how many, 0 at its end, or why it cannot be read. Reads and writes have a loop each: one over a closure
+// would have to ask of the closure what a read and a write promise by themselves.
 pub fn read_some(rt: &impl Clock, input: &mut impl Read, buf: &mut [u8]) -> io::Result<usize>
     ensures moved { IfOk result (λ got. got ≤ length buf.old) }
     ensures retried { IfErr result (λ error. (error_kind error ≢ ErrorKind.WouldBlock) × (error_kind error ≢ ErrorKind.Interrupted)) }
 {
-    for _ in 0..crate::TURNS {
+    for _ in 0..u64::MAX {
         match input.read(buf) {
             Ok(got) => return Ok(got),
             Err(error) => {
@@ -46,7 +47,7 @@ pub fn write_some(rt: &(impl Print + Clock), buf: &[u8]) -> io::Result<usize>
     ensures moved { IfOk result (λ put. put ≤ length buf.now) }
     ensures retried { IfErr result (λ error. (error_kind error ≢ ErrorKind.WouldBlock) × (error_kind error ≢ ErrorKind.Interrupted)) }
 {
-    for _ in 0..crate::TURNS {
+    for _ in 0..u64::MAX {
         match rt.write_some(buf) {
             Ok(put) => return Ok(put),
             Err(error) => {

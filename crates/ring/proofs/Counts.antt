@@ -2,23 +2,24 @@
 -- targets by exponents, as the code finds them. Assumes nothing.
 use mathlib.Core.Path.{◌≡◌, refl, sym, ap, ap₂, ◌∙◌}
 use mathlib.Core.Bool.{Bool, true, false, cond, not}
-use mathlib.Core.List.{List, [], ◌∷◌, map, map-map}
+use mathlib.Core.List.{List, [], ◌∷◌, ◌++◌, map, map-map}
 use Prim.Native.Nat.{ℕ, zero, suc, ◌+◌, ◌-◌, ◌*◌, ◌/◌, ◌%◌, ◌^◌, ◌≤◌, ◌<◌}
 use native.Mathlib.Nat.{sub-zero, add-mul, mod-lt, zero-sub, pow-suc, div-one}
 use native.Mathlib.Numerals.{add-one}
 use native.Mathlib.Decide.{dec_lt}
 use native.Mathlib.Omega.{arith}
 use borrow.Author.Tests.{lt-ltb, le-ltb}
-use lib.Count.{ones, ones_step, count_leading_zeros, leading_length}
+use lib.Count.{ones, ones_step, count_leading_zeros, leading_length, leading_le}
 use lib.Dec.{ltb}
-use lib.ListN.{length, take, replicate, length-map}
+use lib.ListN.{length, take, drop, replicate, length-map}
 use lib.Seq.{take_at}
 use lib.Pow.{pow_mono, pow_pos, shr_lt, shr-shr, ones_split, split, field, mod-mod-pow}
 use lib.Bits.{bit_and, and_mask}
 use lib.Arith.{digits_mod}
 use Rattle.limits.specs.Limits.{most_nodes}
 use Rattle.ring.specs.Ring.{row_size, none, keep, numbers, listed, unlisted, unlisted_set, ahead, count, powers, jumps, targets, row}
-use Rattle.ring.proofs.Rows.{length-numbers, filled}
+use Rattle.std.proofs.lemmas.List.{take-replicate, drop-replicate}
+use Rattle.ring.proofs.Rows.{length-numbers, filled, full}
 
 -- ---- the ones of the unlisted set
 
@@ -211,7 +212,21 @@ unfolding row
 take_row order d p k e = take_at (targets order d p) (replicate (row_size - length (targets order d p)) none) k (length-targets order d p ∙ sym e)
 
 -- the row as a loop fills it
-pub row-filled : (order : List ℕ) (d p : ℕ)
-    → filled (λ j. ahead order d p (2 ^ j)) none row_size (jumps (count (length order) d)) ≡ row (targets order d p)
-unfolding filled row
-row-filled order d p = rw (length-targets, ← targets-are order d p)
+-- a row, of the targets and of what stands behind them in a row of none; last is how many targets there are
+module _ (order : List ℕ) (d p last : ℕ) (e : last ≡ jumps (count (length order) d)) where
+  pub targets-fit : length order ≤ most_nodes → last ≤ row_size
+  targets-fit h = rw e (jumps-count-le (length order) d h)
+
+  pub row-begun : last ≤ row_size → take last (replicate row_size none) ≡ filled (λ j. ahead order d p (2 ^ j)) none last 0
+  unfolding filled numbers
+  row-begun h = rw sub-zero (take-replicate last row_size none h)
+
+  pub row-filled : (found : List ℕ) (j : ℕ) → found ≡ filled (λ i. ahead order d p (2 ^ i)) none last j → j ≡ last
+      → found ++ drop last (replicate row_size none) ≡ row (targets order d p)
+  unfolding row
+  row-filled found j f q =
+      rw (f, q, drop-replicate last row_size none, full (λ i. ahead order d p (2 ^ i)) none last, length-targets order d p, targets-are order d p, e)
+
+pub ruleset unlisted_ones = (ones-count)
+
+pub ruleset jumps_by_zeros = (jumps-leading, jumps-zero, leading_le)

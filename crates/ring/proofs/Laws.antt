@@ -109,3 +109,5 @@ module _ (order : List ℕ) (p s z : ℕ) where
       ap (λ (n : ℕ). get_or (drop p order ++ take p order) n z) e
       ∙ get_or-append-add (drop p order) (take p order) rest z
       ∙ get_or-take p order rest z (omega arith)
+
+pub ruleset round_places = (round-past, round-near, round-far)

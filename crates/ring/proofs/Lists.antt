@@ -8,9 +8,11 @@ use native.Mathlib.Nat.{add-zero, div-one, div_self, div-eq_of_lt, mul-mod_left,
 use native.Mathlib.Omega.{arith}
 use native.Mathlib.Decide.{dec_lt, ℕ_discrete}
 use borrow.Author.Tests.{eq-eqb, ne_eqb, eqb-true}
-use lib.Bits.{bit_or, or_zero_l, or_lt, or_shr, or_mod, or_add_and, and_le_r}
+use lib.Bits.{bit_and, bit_or, or_zero_l, or_lt, or_shr, or_mod, or_add_and, and_le_r}
 use lib.Dec.{eqb}
 use lib.Pow.{pow-lt, pow_pos, pow-add, shl-shr, shr-shr}
+use Rattle.std.proofs.lemmas.Nat.{and_comm, and-not}
+use Rattle.std.proofs.lemmas.Nat.Bits.{and_high}
 use Rattle.ring.specs.Ring.{numbers, listed, listing, unlisting, merging, part_of, place}
 use Rattle.ring.proofs.Laws.{listed-beyond}
 
@@ -218,14 +220,25 @@ unlisting-less d i k h = listed-unlisting d i k ∙ go (eqb i k)
 pub unlisting-keeps : (d i k : ℕ) → i ≢ k → listed d k ≡ true → listed (unlisting d i) k ≡ true
 unlisting-keeps d i k ne h = listed-unlisting d i k ∙ rw (ne_eqb i k ne) h
 
--- the code's two answers
-pub unlisting-none : (d i : ℕ) → listed d i ≡ false → d ≡ unlisting d i
-unfolding unlisting
-unlisting-none d i e = rw e
+-- a list without a node, by the machine's complement of one bit
+pub unlisting-mask : (w d i : ℕ) → d < 2 ^ w → i < w → bit_and d (2 ^ w - 1 - 2 ^ i) ≡ unlisting d i
+unfolding unlisting listed
+unlisting-mask w d i h l = go (d / 2 ^ i % 2) refl
+  where
+    rest : bit_and d (2 ^ w - 1 - 2 ^ i) + bit_and d (2 ^ i) ≡ d
+    rest = rw (and_comm d (2 ^ w - 1 - 2 ^ i), and_comm d (2 ^ i)) (and-not w (2 ^ i) d (pow-lt l) h)
 
-pub unlisting-one : (d i : ℕ) → listed d i ≡ true → (d - 2 ^ i ≡ unlisting d i) × (2 ^ i ≤ d)
-unfolding unlisting
-unlisting-one d i e = (rw e, less-bit d i e)
+    bit : bit_and d (2 ^ i) ≡ d / 2 ^ i % 2 * 2 ^ i
+    bit =
+        let next : 1 + i ≡ suc i = omega arith in
+        let two : 2 ^ (1 + i) ≡ 2 ^ i * 2 = ap (λ (k : ℕ). 2 ^ k) next ∙ pow-suc 2 i in
+        let one : 2 ^ (1 + i) - 2 ^ i ≡ 2 ^ i = omega arith in
+        rw one at (and_high d 1 i)
+
+    go : (b : ℕ) → d / 2 ^ i % 2 ≡ b → bit_and d (2 ^ w - 1 - 2 ^ i) ≡ cond (eqb b 1) (d - 2 ^ i) d
+    go zero e = let z : bit_and d (2 ^ i) ≡ 0 * 2 ^ i = rw e at bit in omega (arith, rest, z)
+    go (suc zero) e = let z : bit_and d (2 ^ i) ≡ 1 * 2 ^ i = rw e at bit in omega (arith, rest, z)
+    go (suc (suc b)) e = absurd (omega arith)
 
 -- ---- a list that is part of another
 

@@ -4,7 +4,7 @@ use mathlib.Core.Path.{◌≡◌, refl, sym, ap, ◌∙◌}
 use mathlib.Core.Bool.{Bool, true, false, cond}
 use mathlib.Core.List.{List, [], ◌∷◌}
 use Prim.Native.Nat.{ℕ, zero, suc, ◌+◌, ◌≤◌, ◌<◌}
-use native.Mathlib.Nat.{zero-add, add-zero}
+use native.Mathlib.Nat.{zero-add}
 use native.Mathlib.Omega.{arith}
 use native.Mathlib.Decide.{dec_lt}
 use borrow.Author.Tests.{eq-eqb, ne_eqb, eqb-true}
@@ -13,6 +13,7 @@ use lib.ListN.{length, get_or, take, length-take}
 use lib.Seq.{get_or-take}
 use Rattle.ring.specs.Ring.{keep, numbers, unlisted, count, place, InOrder}
 use Rattle.ring.proofs.Rows.{length-numbers}
+pub use Rattle.ring.proofs.Rows.{get_or-numbers}
 use Rattle.ring.proofs.Lists.{place-numbers}
 
 -- ---- what a test keeps, by places
@@ -63,14 +64,6 @@ before-first t z xs w i h = go (t (get_or xs i 0)) refl
         absurd (omega (arith, w.before))
 
 -- ---- number order
-
-pub get_or-numbers : (n j q z : ℕ) → q < n → get_or (numbers j n) q z ≡ j + q
-unfolding numbers
-get_or-numbers zero j q z h = absurd (omega arith)
-get_or-numbers (suc n) j zero z h = sym (add-zero j)
-get_or-numbers (suc n) j (suc q) z h =
-    let e : suc j + q ≡ j + suc q = omega arith in
-    get_or-numbers n (suc j) q z (omega arith) ∙ e
 
 place-in-numbers : (n k : ℕ) → k < n → place (numbers 0 n) k ≡ k
 place-in-numbers n k h = rw zero-add at (place-numbers n 0 k h)

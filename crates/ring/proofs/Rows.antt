@@ -1,12 +1,13 @@
--- Numbers in order, and lists as the loops fill them. Assumes nothing.
-use mathlib.Core.Path.{◌≡◌, refl, ap, ◌∙◌}
-use mathlib.Core.List.{List, [], ◌∷◌, ◌++◌, map, map-id, map-append, append_assoc, append-nil}
+-- Numbers in order, and lists filled place by place. Assumes nothing.
+use mathlib.Core.Path.{◌≡◌, refl, sym, ap, ◌∙◌}
+use mathlib.Core.List.{List, [], ◌∷◌, ◌++◌, map, map-append, append_assoc, append-nil}
 use Prim.Native.Nat.{ℕ, zero, suc, ◌+◌, ◌-◌, ◌≤◌, ◌<◌}
 use native.Mathlib.Nat.{le_of_suc-le-suc, sub_self, zero-add, add-suc, suc-add, add-zero}
 use native.Mathlib.Numerals.{add-one}
 use native.Mathlib.Omega.{arith}
-use lib.ListN.{length, take, set, replicate, length-map}
+use lib.ListN.{length, get_or, take, set, replicate, length-map}
 use lib.Seq.{set_at}
+use Rattle.std.proofs.lemmas.List.{ext_get_or}
 use Rattle.ring.specs.Ring.{numbers}
 
 pub length-numbers : (n i : ℕ) → length (numbers i n) ≡ n
@@ -24,6 +25,14 @@ unfolding numbers
 take-numbers zero k i h = refl
 take-numbers (suc n) zero i h = absurd (omega arith)
 take-numbers (suc n) (suc k) i h = ap (λ (l : List ℕ). i ∷ l) (take-numbers n k (suc i) (le_of_suc-le-suc h))
+
+pub get_or-numbers : (n j q z : ℕ) → q < n → get_or (numbers j n) q z ≡ j + q
+unfolding numbers
+get_or-numbers zero j q z h = absurd (omega arith)
+get_or-numbers (suc n) j zero z h = sym (add-zero j)
+get_or-numbers (suc n) j (suc q) z h =
+    let e : suc j + q ≡ j + suc q = omega arith in
+    get_or-numbers n (suc j) q z (omega arith) ∙ e
 
 -- the first j of what f gives, and z in the rest of k places
 module _ {A : Type 0} (f : ℕ → A) (z : A) (k : ℕ) where
@@ -45,6 +54,8 @@ module _ {A : Type 0} (f : ℕ → A) (z : A) (k : ℕ) where
   unfolding filled
   full = rw (sub_self, append-nil)
 
--- a list filled with its own places
-pub full-numbers : (z k : ℕ) → filled (λ j. j) z k k ≡ numbers 0 k
-full-numbers z k = full (λ j. j) z k ∙ map-id (numbers 0 k)
+-- each place has its own number
+pub are-numbers : (k : ℕ) (xs : List ℕ) → length xs ≡ k → ((i : ℕ) → i < k → get_or xs i 0 ≡ i) → xs ≡ numbers 0 k
+are-numbers k xs long at =
+    ext_get_or 0 xs (numbers 0 k) (long ∙ sym (length-numbers k 0))
+    (λ i l. let low : i < k = rw (← long) l in at i low ∙ sym (get_or-numbers k 0 i 0 low ∙ zero-add i))

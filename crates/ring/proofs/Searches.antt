@@ -1,16 +1,20 @@
 -- One turn, and the end, of each search over a lent order: ahead, back, and for a place. Assumes nothing.
-use mathlib.Core.Path.{◌≡◌, refl, sym, ◌∙◌}
+use mathlib.Core.Path.{◌≡◌, refl, sym, ap, ◌∙◌}
 use mathlib.Core.Bool.{Bool, true, false, not, cond}
-use mathlib.Core.List.{List, [], ◌∷◌, reverse, reverse-append}
-use Prim.Native.Nat.{ℕ, zero, suc, ◌+◌, ◌-◌, ◌≤◌, ◌<◌}
+use mathlib.Core.List.{List, [], ◌∷◌, ◌++◌, reverse, reverse-append}
+use Prim.Native.Nat.{ℕ, zero, suc, min, ◌+◌, ◌-◌, ◌≤◌, ◌<◌}
 use native.Mathlib.Nat.{zero-add, add-zero}
 use native.Mathlib.Numerals.{add-one, sub-one}
+use native.Mathlib.Decide.{dec_lt}
 use native.Mathlib.Omega.{arith}
-use borrow.Author.Tests.{eq-eqb, ne_eqb, not-true, not-false}
+use borrow.Author.Tests.{ltb-false, not-true, not-false}
 use lib.Arith.{le-zero}
-use lib.Dec.{eqb}
+use lib.Dec.{eqb, ltb}
 use lib.ListN.{length, get_or, take, drop, drop_of_length-le}
 use lib.Seq.{take-suc, drop-cons, take_all}
+use Rattle.std.specs.Prelude.{Option, Some, None, unwrap_or}
+use Rattle.std.specs.List.{position_or_len}
+use Rattle.std.proofs.lemmas.List.Recursion.{is_position_or_len}
 use Rattle.ring.specs.declared.NodeBefore.{NodeBefore}
 use Rattle.ring.specs.Ring.{keep, none, node_before, passing, listed, unlisted, round, ahead, first_unlisted, back, next, place}
 use Rattle.ring.proofs.Laws.{unlisted-yes, unlisted-no, length-round}
@@ -86,32 +90,21 @@ pub turn-back-done : (order : List ℕ) (d p s k : ℕ) → s ≤ 0 → after k 
 unfolding first_unlisted
 turn-back-done order d p s k h = rw (le-zero h, add-zero)
 
--- the next node by the search ahead, from the place after p or, past the last place, from the first
-pub next-after : (order : List ℕ) (d p : ℕ) → ahead order d (p + 1) 0 ≡ next order d p
-unfolding ahead next
-next-after order d p = rw add-one
-
-pub next_past : (order : List ℕ) (d p : ℕ) → length order ≤ p → ahead order d p 0 ≡ next order d p
+-- the next node by the search ahead, from the place after p; m bounds the places that there can be
+pub next-from : (order : List ℕ) (d p q m : ℕ) → length order ≤ m → q ≡ min (p + 1) m → ahead order d q 0 ≡ next order d p
 unfolding ahead next round
-next_past order d p h =
-    let g : length order ≤ suc p = omega arith in
-    rw (drop_of_length-le order {i = p} h, take_all p order h, drop_of_length-le order {i = suc p} g, take_all (suc p) order g)
+next-from order d p q m l e = go (dec_lt p m)
+  where
+    go : Dec (p < m) → get_or (unlisted d (drop q order ++ take q order)) 0 none ≡ get_or (unlisted d (drop (suc p) order ++ take (suc p) order)) 0 none
+    go (yes h) =
+        let z : q ≡ suc p = omega arith in
+        rw z
+    go (no h) =
+        let a : length order ≤ q = omega arith in
+        let b : length order ≤ suc p = omega arith in
+        rw (drop_of_length-le order {i = q} a, take_all q order a, drop_of_length-le order {i = suc p} b, take_all (suc p) order b)
 
 -- ---- places
-
--- one turn of the search for a place
-pub place-hit : (order : List ℕ) (i p : ℕ) → p < length order → get_or order p 0 ≡ i → p + place (drop p order) i ≡ p
-unfolding place
-place-hit order i p h e = rw (drop-cons order p 0, eq-eqb (get_or order p 0) i e) (omega arith)
-
-pub place-pass : (order : List ℕ) (i p : ℕ) → p < length order → (get_or order p 0 ≡ i → ⊥)
-    → p + place (drop p order) i ≡ p + 1 + place (drop (p + 1) order) i
-unfolding place
-place-pass order i p h e = rw (add-one, drop-cons order p 0, ne_eqb (get_or order p 0) i e) (omega arith)
-
-pub place-done : (order : List ℕ) (i p : ℕ) → length order ≤ p → p + place (drop p order) i ≡ p
-unfolding place
-place-done order i p h = rw (drop_of_length-le order {i = p} h) (omega arith)
 
 -- a place, or the length where there is none
 pub place-le : (order : List ℕ) (i : ℕ) → place order i ≤ length order
@@ -122,3 +115,19 @@ place-le (x ∷ order) i = go (eqb x i) (place-le order i)
     go : (b : Bool) → place order i ≤ length order → cond b zero (suc (place order i)) ≤ suc (length order)
     go true h = omega arith
     go false h = omega arith
+
+-- the place is the one that the library's search finds
+pub place-found : (order : List ℕ) (i : ℕ) (r : Option ℕ)
+    → r ≡ cond (ltb (position_or_len (λ x. eqb x i) order) (length order)) (Some (position_or_len (λ x. eqb x i) order)) None
+    → unwrap_or r (length order) ≡ place order i
+unfolding place
+place-found order i r e = rw (e, ← same) (go (ltb (place order i) (length order)) refl)
+  where
+    same : place order i ≡ position_or_len (λ x. eqb x i) order
+    same = is_position_or_len (λ (xs : List ℕ). place xs i) (λ x. eqb x i) refl (λ x xs. ap (cond (eqb x i) zero) (omega arith)) order
+
+    go : (b : Bool) → ltb (place order i) (length order) ≡ b → unwrap_or (cond b (Some (place order i)) None) (length order) ≡ place order i
+    go true q = refl
+    go false q = omega (arith, place-le order i, ltb-false (place order i) (length order) q)
+
+pub ruleset after_place = (next-from)

@@ -1,11 +1,12 @@
 -- The ring of nodes as document 01 fixes it: dead lists, going ahead and back, forward targets, the forwarding table.
 -- A node is a number. The ring is given by its order, a list that has each node below n once, and a place is a position
 -- in that list: 01's ring is number order, `numbers 0 n`, one instance. Assumes nothing.
-use Rattle.std.specs.Prelude.{◌≡◌, Bool, true, false, cond, not, ◌&&◌, ◌||◌, List, [], ◌∷◌, ◌++◌, map, reverse, ℕ}
-use Rattle.std.specs.Prelude.{zero, suc, ◌-◌, ◌/◌, ◌%◌, ◌^◌, ◌<◌, eqb, ltb, leb, length, get_or, take, drop, replicate}
+use Rattle.std.specs.Prelude.{◌≡◌, Bool, true, false, cond, not, ◌&&◌, ◌||◌, List, [], ◌∷◌, ◌++◌, map, reverse, Result}
+use Rattle.std.specs.Prelude.{Ok, Err, is_ok, ℕ, zero, suc, ◌-◌, ◌/◌, ◌%◌, ◌^◌, ◌<◌, eqb, ltb, leb, length, get_or, take, drop, replicate}
 use Rattle.std.specs.Int.Bits.{bit_or}
 use Rattle.limits.specs.Limits.{most_nodes}
-use Rattle.limits.specs.Refusals.{accepted, out_of_range}
+use Rattle.limits.specs.declared.Refusal.{Refusal}
+use Rattle.limits.specs.declared.Refusal.TheVariants.{OutOfRange}
 use Rattle.ring.specs.declared.NodeBefore.{NodeBefore}
 
 -- ---- 01's numbers
@@ -154,9 +155,9 @@ unfoldable pub table_row : List ℕ → ℕ → ℕ → List ℕ
 table_row order d i = row (cond (ltb i (length order) && not (listed d i)) (targets order d (place order i)) [])
 
 -- "N outside 1 to 64, or a list with a bit from N on, is refused by 3"
-unfoldable pub table_answer : ℕ → ℕ → ℕ
-table_answer n d = cond (leb 1 n && leb n most_nodes && ltb d (2 ^ n)) accepted out_of_range
+unfoldable pub table_answer : ℕ → ℕ → Result (Unit {0}) Refusal
+table_answer n d = cond (leb 1 n && leb n most_nodes && ltb d (2 ^ n)) (Ok tt) (Err OutOfRange)
 
 -- "64 rows" in number order; of a refused table, all are empty
 unfoldable pub table_rows : ℕ → ℕ → List (List ℕ)
-table_rows n d = cond (eqb (table_answer n d) 0) (map (table_row (numbers 0 n) d) (numbers 0 most_nodes)) (replicate most_nodes (row []))
+table_rows n d = cond (is_ok (table_answer n d)) (map (table_row (numbers 0 n) d) (numbers 0 most_nodes)) (replicate most_nodes (row []))

@@ -7,21 +7,18 @@ ghost use Rattle.limits.specs.Limits.{most_nodes};
 ghost use Rattle.ring.specs.Ring.{numbers, listed, listing, unlisting, merging, part_of, unlisted_set, place, round, ahead, back, next, count, jumps};
 ghost use Rattle.ring.specs.Ring.{targets, row, table_answer, table_row, table_rows};
 
-use limits::MOST_NODES;
+use limits::{MOST_NODES, Refusal};
 
 // The targets in a row.
 pub const ROW_SIZE: usize = 6;
 
-// The target where there is none.
+// The target where there is none. The searches answer it, and no `None`, since `row`, `opening` and `leaving` have 255 there: each caller would put it back.
 pub const NONE: u8 = 255;
 
-// The refusal of a number outside its range, as a table has it.
-const OUT_OF_RANGE: u8 = limits::OUT_OF_RANGE as u8;
-
-// The forwarding table, with the number of its answer: 0, or 3 where it is refused.
+// The forwarding table, or why it is refused: its rows are empty then.
 #[derive(Drop)]
 pub struct Table {
-    pub answer: u8,
+    pub answer: Result<(), Refusal>,
     pub rows: [[u8; ROW_SIZE]; MOST_NODES],
 }
 
@@ -36,14 +33,11 @@ pub struct NodeBefore {
 pub fn is_listed(d: u64, i: u8) -> bool
     ensures { result ≡ listed d i }
 {
-    if (i as usize) < MOST_NODES {
-        (d >> i) % 2 == 1
-    } else {
-        false
-    }
+    (i as usize) < MOST_NODES && (d >> i) % 2 == 1
 }
 
 // The dead list d with node i listed.
+#[tactic(auto, using(crate::proofs::Laws::one_shl), unfolding(crate::specs::Ring::listing))]
 pub fn with_listed(d: u64, i: u8) -> u64
     requires { i < most_nodes }
     ensures { result ≡ listing d i }
@@ -56,13 +50,11 @@ pub fn with_unlisted(list: u64, i: u8) -> u64
     requires { i < most_nodes }
     ensures { result ≡ unlisting list i }
 {
-    if is_listed(list, i) {
-        return list - (1 << i);
-    }
-    list
+    list & !(1 << i)
 }
 
 // The dead list d with all that e lists.
+#[tactic(auto, unfolding(crate::specs::Ring::merging))]
 pub fn with_all(d: u64, e: u64) -> u64
     ensures { result ≡ merging d e }
 {
@@ -70,6 +62,7 @@ pub fn with_all(d: u64, e: u64) -> u64
 }
 
 // Whether d lists every node that m lists.
+#[tactic(auto, unfolding(crate::specs::Ring::part_of))]
 pub fn is_part(m: u64, d: u64) -> bool
     ensures { result ≡ part_of m d }
 {
@@ -77,11 +70,12 @@ pub fn is_part(m: u64, d: u64) -> bool
 }
 
 // The set of all of n nodes.
+#[tactic(auto, using(crate::proofs::Laws::ones_shr))]
 pub fn all_nodes(n: u8) -> u64
     requires { (1 ≤ n) × (n ≤ most_nodes) }
     ensures { result ≡ 2 ^ n - 1 }
 {
-    0xffff_ffff_ffff_ffff >> (MOST_NODES as u8 - n)
+    u64::MAX >> (MOST_NODES as u8 - n)
 }
 
 // The set of the nodes below n that d does not list.
@@ -93,51 +87,41 @@ pub fn unlisted_set(n: u8, d: u64) -> u64
 }
 
 // How many of n nodes d does not list: the ones of the unlisted set.
+#[tactic(auto, using(crate::proofs::Counts::unlisted_ones))]
 pub fn count_unlisted(n: u8, d: u64) -> u32
     requires { (1 ≤ n) × (n ≤ most_nodes) }
     ensures { result ≡ count n d }
 {
-    u64::count_ones(unlisted_set(n, d))
+    unlisted_set(n, d).count_ones()
 }
 
 // How many powers of two are below m, by the leading zeros of m - 1.
+#[tactic(auto, using(crate::proofs::Counts::jumps_by_zeros))]
 pub fn jump_count(m: u32) -> u32
     ensures { result ≡ jumps m }
 {
     if m == 0 {
         return 0;
     }
-    32 - u32::leading_zeros(m - 1)
+    u32::BITS - (m - 1).leading_zeros()
 }
 
 // The ring of 64 nodes in number order; its first n are the ring of n nodes.
 pub fn number_order() -> [u8; MOST_NODES]
     ensures { result ≡ numbers 0 most_nodes }
 {
-    let mut order = [0u8; MOST_NODES];
-    let mut i: usize = 0;
-    while i < MOST_NODES {
-        order[i] = i as u8;
-        i += 1;
-    }
-    order
+    std::array::from_fn(|i| i as u8)
 }
 
 // The place of node i in the ring, or the ring's length where it has none.
 pub fn place_of(order: &[u8], i: u8) -> usize
     ensures { result ≡ place order.now i }
 {
-    let mut p: usize = 0;
-    while p < order.len() {
-        if order[p] == i {
-            return p;
-        }
-        p += 1;
-    }
-    p
+    order.iter().position(|x| *x == i).unwrap_or(order.len())
 }
 
 // The node s places after the place p, round the ring.
+#[tactic(auto, using(crate::proofs::Laws::round_places))]
 pub fn step(order: &[u8], p: usize, s: usize) -> u8
     requires { s < length order.now }
     ensures { result ≡ get_or (round order.now p) s 0 }
@@ -152,13 +136,13 @@ pub fn step(order: &[u8], p: usize, s: usize) -> u8
     order[s - left]
 }
 
-// The node that is k unlisted nodes ahead of the place p, or 255.
+// The node that is k unlisted nodes ahead of the place p, or 255. A chain of the ring's two parts with `filter` and `nth` was tried here: it takes half as
+// long again where the node is near, as it is in `target_row` and `find_next`.
 pub fn find_ahead(order: &[u8], d: u64, p: usize, k: usize) -> u8
     ensures { result ≡ ahead order.now d p k }
 {
     let mut left = k;
-    let mut s: usize = 0;
-    while s < order.len() {
+    for s in 0..order.len() {
         let x = step(order, p, s);
         if !is_listed(d, x) {
             if left == 0 {
@@ -166,7 +150,6 @@ pub fn find_ahead(order: &[u8], d: u64, p: usize, k: usize) -> u8
             }
             left -= 1;
         }
-        s += 1;
     }
     NONE
 }
@@ -177,9 +160,7 @@ pub fn find_back(order: &[u8], d: u64, p: usize) -> NodeBefore
     ensures { result ≡ back order.now d p }
 {
     let mut passed: u8 = 0;
-    let mut s = order.len();
-    while 0 < s {
-        s -= 1;
+    for s in (0..order.len()).rev() {
         let x = step(order, p, s);
         if !is_listed(d, x) {
             return NodeBefore { node: x, passed };
@@ -190,13 +171,11 @@ pub fn find_back(order: &[u8], d: u64, p: usize) -> NodeBefore
 }
 
 // The first unlisted node ahead of the place p, or 255.
+#[tactic(auto, using(crate::proofs::Searches::after_place))]
 pub fn find_next(order: &[u8], d: u64, p: usize) -> u8
     ensures { result ≡ next order.now d p }
 {
-    if order.len() <= p {
-        return find_ahead(order, d, p, 0);
-    }
-    find_ahead(order, d, p + 1, 0)
+    find_ahead(order, d, p.saturating_add(1), 0)
 }
 
 // The forward targets of the unlisted node at the place p.
@@ -207,39 +186,30 @@ pub fn target_row(order: &[u8], d: u64, p: usize) -> [u8; ROW_SIZE]
     let n = order.len() as u8;
     let last = jump_count(count_unlisted(n, d)) as usize;
     let mut out = [NONE; ROW_SIZE];
-    let mut j: usize = 0;
-    while j < last {
-        out[j] = find_ahead(order, d, p, 1 << j);
-        j += 1;
+    for (j, target) in out[..last].iter_mut().enumerate() {
+        *target = find_ahead(order, d, p, 1 << j);
     }
     out
 }
 
-// 0, or 3 where n nodes and the dead list d have no forwarding table.
-fn table_answer(n: u64, d: u64) -> u8
+// Whether n nodes and the dead list d have a forwarding table.
+#[tactic(auto, unfolding(crate::specs::Ring::table_answer))]
+fn table_answer(n: u64, d: u64) -> Result<(), Refusal>
     ensures { result ≡ table_answer n d }
 {
-    if n < 1 {
-        return OUT_OF_RANGE;
+    if n < 1 || n > MOST_NODES as u64 || d > all_nodes(n as u8) {
+        return Err(Refusal::OutOfRange);
     }
-    if n > MOST_NODES as u64 {
-        return OUT_OF_RANGE;
-    }
-    if d > all_nodes(n as u8) {
-        return OUT_OF_RANGE;
-    }
-    0
+    Ok(())
 }
 
 // The row of number i in the forwarding table of a ring.
+#[tactic(auto, using(crate::proofs::TableLaws::rows_of_table))]
 fn table_row(order: &[u8], d: u64, i: u8) -> [u8; ROW_SIZE]
     requires { length order.now ≤ most_nodes }
     ensures { result ≡ table_row order.now d i }
 {
-    if order.len() <= i as usize {
-        return [NONE; ROW_SIZE];
-    }
-    if is_listed(d, i) {
+    if order.len() <= i as usize || is_listed(d, i) {
         return [NONE; ROW_SIZE];
     }
     target_row(order, d, place_of(order, i))
@@ -250,38 +220,23 @@ fn table_rows(n: u64, d: u64) -> [[u8; ROW_SIZE]; MOST_NODES]
     ensures { result ≡ table_rows n d }
 {
     let mut rows = [[NONE; ROW_SIZE]; MOST_NODES];
-    if table_answer(n, d) != 0 {
+    if table_answer(n, d).is_err() {
         return rows;
     }
     let all = number_order();
-    let end = n as usize;
-    let mut i: usize = 0;
-    while i < MOST_NODES {
-        rows[i] = table_row(&all[..end], d, i as u8);
-        i += 1;
+    let ring = &all[..n as usize];
+    for (i, row) in rows.iter_mut().enumerate() {
+        *row = table_row(ring, d, i as u8);
     }
     rows
-}
-
-// A table of its parts.
-fn table_of(answer: u8, rows: [[u8; ROW_SIZE]; MOST_NODES]) -> Table
-    ensures { (result.answer ≡ answer) × (result.rows ≡ rows) }
-{
-    Table { answer, rows }
-}
-
-// The rows of a table.
-pub fn rows_of(t: Table) -> [[u8; ROW_SIZE]; MOST_NODES]
-    ensures { result ≡ t.rows }
-{
-    t.rows
 }
 
 // The forwarding table of n nodes and the dead list d.
 pub fn forwarding_table(n: u64, d: u64) -> Table
     ensures { (result.answer ≡ table_answer n d) × (result.rows ≡ table_rows n d) }
 {
-    let answer = table_answer(n, d);
-    let rows = table_rows(n, d);
-    table_of(answer, rows)
+    Table {
+        answer: table_answer(n, d),
+        rows: table_rows(n, d),
+    }
 }

@@ -4,7 +4,7 @@ use native.Mathlib.Omega.{arith}
 use mathlib.Core.Path.{◌≡◌, refl, sym, ap, ◌∙◌}
 use mathlib.Core.Bool.{Bool, true, false, ◌&&◌, and-eq-true_iff}
 use mathlib.Core.List.{List, [], ◌∷◌, ◌++◌}
-use mathlib.Core.Option.{Option, none, some}
+use Rattle.std.specs.Prelude.{Option, None, Some}
 use lib.Dec.{eqb}
 use lib.ListN.{length, length-append}
 use borrow.Author.Tests.{eq-eqb, eqb-true}
@@ -12,6 +12,7 @@ use Rattle.plans.specs.Plan.{Crash, Delay, Plan, start_ranges, crash_range, dela
 use Rattle.plans.specs.Plan.{crash_test, delay_test, plan_test, rising, none_twice, ring_count, ring_range, with_ring, with_crash, with_delay}
 use Rattle.ring.specs.Ring.{each_once}
 use Rattle.runfile.specs.Text.{line_text, start_text}
+use Rattle.limits.specs.declared.Refusal.{Refusal}
 use Rattle.runfile.specs.File.{Row, start, ring, crash, delay, row_of, Step, next, or_else, start_line, fresh, ring_line, early, crash_line, delay_line}
 use Rattle.runfile.specs.File.{first_line, later_line}
 use Rattle.plans.proofs.Orders.{no-ring-taken, ring-node}
@@ -19,7 +20,7 @@ use Rattle.plans.proofs.Tests.{ranges-of, ranges-good, ring-good, crash-good, de
 use Rattle.runfile.proofs.Written.{Small, small_all}
 use Rattle.runfile.proofs.Trip.{start-text, start-rows, ring-text}
 
-else-inv : (t : Bool) (k : ℕ) (s : Step) (q : Plan) → or_else t k s ≡ next q → (t ≡ true) × (s ≡ next q)
+else-inv : (t : Bool) (k : Refusal) (s : Step) (q : Plan) → or_else t k s ≡ next q → (t ≡ true) × (s ≡ next q)
 unfolding or_else
 else-inv true k s q e = (refl, e)
 else-inv false k s q e = let z : ◌≡◌ {A = ℕ} 0 1 = cc in absurd (omega arith)
@@ -28,19 +29,19 @@ else-inv false k s q e = let z : ◌≡◌ {A = ℕ} 0 1 = cc in absurd (omega a
 
 -- the first line is the P line of the plan q
 pub record Opened (x : Option Row) (q : Plan) : Type 0 where
-  pub row : x ≡ some (start q)
+  pub row : x ≡ Some (start q)
   pub ranges : start_ranges q ≡ true
 
 pub first-inv : (x : Option Row) (q : Plan) → first_line x ≡ next q → Opened x q
 unfolding first_line start_line
-first-inv none q e = let z : ◌≡◌ {A = ℕ} 0 1 = cc in absurd (omega arith)
-first-inv (some (start p)) q e =
+first-inv None q e = let z : ◌≡◌ {A = ℕ} 0 1 = cc in absurd (omega arith)
+first-inv (Some (start p)) q e =
     let a = else-inv (start_ranges p) _ _ q e in
     let same : p ≡ q = cc a.1 in
-    record { row = ap (λ (r : Plan). some (start r)) same; ranges = ap start_ranges (sym same) ∙ a.0 }
-first-inv (some (ring ks)) q e = let z : ◌≡◌ {A = ℕ} 0 1 = cc in absurd (omega arith)
-first-inv (some (crash r)) q e = let z : ◌≡◌ {A = ℕ} 0 1 = cc in absurd (omega arith)
-first-inv (some (delay r)) q e = let z : ◌≡◌ {A = ℕ} 0 1 = cc in absurd (omega arith)
+    record { row = ap (λ (r : Plan). Some (start r)) same; ranges = ap start_ranges (sym same) ∙ a.0 }
+first-inv (Some (ring ks)) q e = let z : ◌≡◌ {A = ℕ} 0 1 = cc in absurd (omega arith)
+first-inv (Some (crash r)) q e = let z : ◌≡◌ {A = ℕ} 0 1 = cc in absurd (omega arith)
+first-inv (Some (delay r)) q e = let z : ◌≡◌ {A = ℕ} 0 1 = cc in absurd (omega arith)
 
 -- the P line's bytes
 pub opened-text : (l : List ℕ) (q : Plan) → Opened (row_of 0 l) q → l ≡ start_text q
@@ -59,7 +60,7 @@ opened-good l q o =
 
 -- a Q line adds its numbers
 pub record AddsRing (p : Plan) (x : Option Row) (q : Plan) (ks : List ℕ) : Type 0 where
-  pub row : x ≡ some (ring ks)
+  pub row : x ≡ Some (ring ks)
   pub no-ring : p.ring ≡ []
   pub no-crashes : p.crashes ≡ []
   pub no-delays : p.delays ≡ []
@@ -69,7 +70,7 @@ pub record AddsRing (p : Plan) (x : Option Row) (q : Plan) (ks : List ℕ) : Typ
 
 -- a C line adds its row
 pub record AddsCrash (p : Plan) (x : Option Row) (q : Plan) (r : Crash) : Type 0 where
-  pub row : x ≡ some (crash r)
+  pub row : x ≡ Some (crash r)
   pub first : p.delays ≡ []
   pub range : crash_range p r ≡ true
   pub order : crash_order (p.crashes ++ (r ∷ [])) ≡ true
@@ -77,7 +78,7 @@ pub record AddsCrash (p : Plan) (x : Option Row) (q : Plan) (r : Crash) : Type 0
 
 -- an L line adds its row
 pub record AddsDelay (p : Plan) (x : Option Row) (q : Plan) (r : Delay) : Type 0 where
-  pub row : x ≡ some (delay r)
+  pub row : x ≡ Some (delay r)
   pub range : delay_range p r ≡ true
   pub order : delay_order (p.delays ++ (r ∷ [])) ≡ true
   pub few : few_delays (p.delays ++ (r ∷ [])) ≡ true
@@ -94,12 +95,12 @@ no_rows (x ∷ xs) e = absurd (omega arith)
 
 pub later-inv : (p : Plan) (x : Option Row) (q : Plan) → later_line p x ≡ next q → Grown p x q
 unfolding later_line ring_line crash_line delay_line fresh early with_crash with_delay
-later-inv p none q e = let z : ◌≡◌ {A = ℕ} 0 1 = cc in absurd (omega arith)
-later-inv p (some (start s)) q e = let z : ◌≡◌ {A = ℕ} 0 1 = cc in absurd (omega arith)
-later-inv p (some (ring ks)) q e =
-    let a = else-inv (fresh p) 2 _ q e in
-    let b = else-inv (ring_range p ks) 3 _ q a.1 in
-    let c = else-inv (each_once ks) 13 _ q b.1 in
+later-inv p None q e = let z : ◌≡◌ {A = ℕ} 0 1 = cc in absurd (omega arith)
+later-inv p (Some (start s)) q e = let z : ◌≡◌ {A = ℕ} 0 1 = cc in absurd (omega arith)
+later-inv p (Some (ring ks)) q e =
+    let a = else-inv (fresh p) _ _ q e in
+    let b = else-inv (ring_range p ks) _ _ q a.1 in
+    let c = else-inv (each_once ks) _ _ q b.1 in
     let same : with_ring p ks ≡ q = cc c.1 in
     let no = (and-eq-true_iff (eqb (length p.ring) 0) (eqb (length p.crashes) 0 && eqb (length p.delays) 0)).0 a.0 in
     let rows = (and-eq-true_iff (eqb (length p.crashes) 0) (eqb (length p.delays) 0)).0 no.1 in
@@ -112,16 +113,16 @@ later-inv p (some (ring ks)) q e =
       once = c.0;
       plan = sym same;
     })
-later-inv p (some (crash r)) q e =
-    let a = else-inv (early p) 2 _ q e in
-    let b = else-inv (crash_range p r) 3 _ q a.1 in
-    let c = else-inv (crash_order (p.crashes ++ (r ∷ []))) 5 _ q b.1 in
+later-inv p (Some (crash r)) q e =
+    let a = else-inv (early p) _ _ q e in
+    let b = else-inv (crash_range p r) _ _ q a.1 in
+    let c = else-inv (crash_order (p.crashes ++ (r ∷ []))) _ _ q b.1 in
     let same : with_crash p r ≡ q = cc c.1 in
     by-crash r (record { row = refl; first = no_rows p.delays (eqb-true _ 0 a.0); range = b.0; order = c.0; plan = sym same })
-later-inv p (some (delay r)) q e =
-    let a = else-inv (delay_range p r) 3 _ q e in
-    let b = else-inv (delay_order (p.delays ++ (r ∷ []))) 5 _ q a.1 in
-    let c = else-inv (few_delays (p.delays ++ (r ∷ []))) 6 _ q b.1 in
+later-inv p (Some (delay r)) q e =
+    let a = else-inv (delay_range p r) _ _ q e in
+    let b = else-inv (delay_order (p.delays ++ (r ∷ []))) _ _ q a.1 in
+    let c = else-inv (few_delays (p.delays ++ (r ∷ []))) _ _ q b.1 in
     let same : with_delay p r ≡ q = cc c.1 in
     by-delay r (record { row = refl; range = a.0; order = b.0; few = c.0; plan = sym same })
 

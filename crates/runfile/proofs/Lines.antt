@@ -1,21 +1,27 @@
 -- The lines of a file. Assumes nothing.
-use Prim.Native.Nat.{ℕ, suc, ◌+◌, ◌-◌, ◌≤◌, ◌<◌}
+use Prim.Native.Nat.{ℕ, zero, suc, ◌+◌, ◌≤◌, ◌<◌, min}
 use native.Mathlib.Omega.{arith}
-use mathlib.Core.Path.{◌≡◌, refl}
+use mathlib.Core.Path.{◌≡◌, refl, sym, ap, ◌∙◌}
 use mathlib.Core.Bool.{Bool, true, false, cond}
-use mathlib.Core.List.{List, [], ◌∷◌}
-use lib.ListN.{length, take, drop, get_or, drop_of_length-le, length-drop}
-use lib.Seq.{drop-drop}
+use mathlib.Core.List.{List, [], ◌∷◌, ◌++◌}
+use lib.ListN.{length, take, drop, length-append}
+use lib.Seq.{take_at, drop_at}
 use lib.Dec.{eqb}
-use borrow.Author.Tests.{eq-eqb, ne_eqb}
-use Rattle.text.proofs.PutLaws.{drop-next}
-use Rattle.plans.specs.Plan.{Plan}
-use Rattle.text.specs.Field.{onto}
-use Rattle.runfile.specs.File.{accepted, lines, row_of, first_line, later_line, step_then, later_lines, all_lines}
-use Rattle.runfile.specs.Reader.{line_length}
+use Rattle.std.specs.List.{IsFirstMatchOrLen}
+use Rattle.std.specs.Fn.{Called, ComputesKey}
+use Rattle.std.proofs.lemmas.Fn.{always_returns_same}
+use denote.Param.Members.{Mut}
+use denote.Ref.{Bor}
+use Rattle.text.specs.Field.{line_feed, onto}
+use Rattle.runfile.specs.File.{lines}
+
+-- how many bytes the first line of s takes, its line feed included where it has one
+unfoldable line_length : List ℕ → ℕ
+line_length [] = 0
+line_length (b ∷ s) = cond (eqb b line_feed) 1 (1 + line_length s)
 
 -- the first line of s, and the lines after it
-pub first-line : (s : List ℕ) → 0 < length s → lines s ≡ take (line_length s) s ∷ lines (drop (line_length s) s)
+first-line : (s : List ℕ) → 0 < length s → lines s ≡ take (line_length s) s ∷ lines (drop (line_length s) s)
 unfolding lines onto line_length
 first-line [] h = absurd (omega arith)
 first-line (b ∷ s) h = by (eqb b 10) s (λ k. first-line s k)
@@ -31,52 +37,24 @@ first-line (b ∷ s) h = by (eqb b 10) s (λ k. first-line s k)
     by true s ih = refl
     by false s ih = let e : 1 + line_length s ≡ suc (line_length s) = omega arith in rw e (more s ih)
 
--- a line has a byte
-pub line-some : (s : List ℕ) → 0 < length s → 0 < line_length s
+-- the first line ends with the first line feed, or else with the text
+line-ends : (s : List ℕ) (i : ℕ) → IsFirstMatchOrLen (λ b. eqb b 10) s i → line_length s ≡ min (i + 1) (length s)
 unfolding line_length
-line-some [] h = absurd (omega arith)
-line-some (b ∷ s) h = by (eqb b 10)
-  where
-    by : (t : Bool) → 0 < cond t 1 (1 + line_length s)
-    by true = omega arith
-    by false = omega arith
+line-ends [] i h = omega arith
+line-ends (b ∷ s) zero h = let feed : eqb b 10 ≡ true = h.1 (omega arith) 0 in rw feed (omega arith)
+line-ends (b ∷ s) (suc i) h =
+    let other : eqb b 10 ≡ false = h.0 0 0 (omega arith) (omega arith) in
+    rw other (omega (arith, line-ends s i (λ k d low high. h.0 (suc k) d (omega arith) (omega arith), λ here d. h.1 (omega arith) d)))
 
-module _ (s : List ℕ) (i : ℕ) where
-  pub line-here : i < length s → get_or s i 0 ≡ 10 → line_length (drop i s) ≡ 1
-  unfolding line_length
-  line-here h e = rw (drop-next s i h, eq-eqb _ _ e)
-
-  pub line-more : i < length s → (get_or s i 0 ≡ 10 → ⊥) → line_length (drop i s) ≡ 1 + line_length (drop (i + 1) s)
-  unfolding line_length
-  line-more h e = rw (drop-next s i h, ne_eqb _ _ e)
-
-  pub line-none : length s ≤ i → line_length (drop i s) ≡ 0
-  unfolding line_length
-  line-none h = rw (drop_of_length-le s h)
-
--- a line ends after it starts
-pub line-grows : (s : List ℕ) (at e : ℕ) → at < length s → e ≡ at + line_length (drop at s) → at < e
-line-grows s at e h p =
-    let some : 0 < length (drop at s) = simp length-drop (omega arith) in
-    omega (arith, line-some (drop at s) some)
-
--- the first line of a file, which ends at the place e
-pub file-first : (s : List ℕ) (e : ℕ) → 0 < length s → e ≡ 0 + line_length (drop 0 s)
-    → all_lines (lines s) ≡ step_then (first_line (row_of 0 (take e s))) 1 (λ p. later_lines p 2 (lines (drop e s)))
-unfolding all_lines
-file-first s e h p = let z : 0 + line_length s ≡ line_length s = omega arith in rw (first-line s h, p, z)
-
--- a later line, from the place `at` up to the place e
-pub file-later : (s : List ℕ) (at e : ℕ) (p : Plan) (line : ℕ) → at < length s → e ≡ at + line_length (drop at s)
-    → later_lines p line (lines (drop at s))
-    ≡ step_then (later_line p (row_of p.n (take (e - at) (drop at s)))) line (λ q. later_lines q (line + 1) (lines (drop e s)))
-unfolding later_lines
-file-later s at e p line h q =
-    let k : e - at ≡ line_length (drop at s) = omega arith in
-    let some : 0 < length (drop at s) = simp length-drop (omega arith) in
-    let up : line + 1 ≡ suc line = omega arith in
-    rw (k, up, first-line (drop at s) some, drop-drop (line_length (drop at s)) at s, q)
-
-pub file-end : (s : List ℕ) (at : ℕ) (p : Plan) (line : ℕ) → length s ≤ at → later_lines p line (lines (drop at s)) ≡ accepted p
-unfolding later_lines lines
-file-end s at p line h = rw (drop_of_length-le s h)
+-- what a call of `split_inclusive`'s iterator took from a text of lines is the first of them
+pub next-line : {F : Type 0} {g : Mut F (Bor ℕ × Unit {0}) Bool} {f f' : F} {s x : List ℕ} (t : List ℕ)
+    → (s ≡ x ++ t)
+    × ((i : ℕ) × (length x ≡ min (i + 1) (length s)) × ((p : ℕ → Bool) → ComputesKey g p f → ComputesKey g p f' × IsFirstMatchOrLen p s i))
+    × (0 < length s)
+    → ((a : Bor ℕ × Unit {0}) (r : Bool) (h : F) → Called g f a r h → (r ≡ eqb a.0.now 10) × (h ≡ f))
+    → (lines s ≡ x ∷ lines t) × (1 + length t ≤ length s)
+next-line {F} {g} {f} {f'} {s} {x} t (e, (i, n, first), some) feeds =
+    let ends : line_length s ≡ min (i + 1) (length s) = line-ends s i (first (λ b. eqb b 10) (always_returns_same g _ f feeds)).1 in
+    let front : take (line_length s) s ≡ x = rw e (take_at x t _ (n ∙ sym ends ∙ ap line_length e)) in
+    let back : drop (line_length s) s ≡ t = rw e (drop_at x t _ (n ∙ sym ends ∙ ap line_length e)) in
+    (rw (first-line s some, front, back), omega (arith, n, ap length e, length-append x t))

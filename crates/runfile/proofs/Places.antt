@@ -6,16 +6,19 @@ use mathlib.Core.Logic.{◌≢◌}
 use mathlib.Core.Bool.{Bool, true, false, cond}
 use mathlib.Core.List.{List, [], ◌∷◌, ◌++◌, append_assoc, append-nil}
 use lib.Dec.{eqb}
-use lib.ListN.{length, take, drop, get_or, length-append, length-drop, drop_of_length-le}
+use lib.ListN.{length, take, drop, get_or, length-append, length-drop}
 use lib.Seq.{take-suc, split_at, drop-append-add, drop_at, take-length}
+use Rattle.std.proofs.lemmas.List.{get_or_past}
 use Rattle.text.proofs.PutLaws.{drop-next}
-use Rattle.text.specs.declared.Number.TheVariants.{Value, NoNumber}
-use Rattle.text.specs.Number.{digit, ceiling, digits_from, number_from}
-use Rattle.text.specs.Field.{field, field_from, number_field_at}
+use Rattle.text.proofs.FieldTrip.{comma-trip}
+use Rattle.text.specs.Number.{digit, ceiling, digits_from, number_from, number_at}
+use Rattle.std.specs.Prelude.{Some, None}
+use Rattle.std.proofs.lemmas.Option.{none-some, same_Some, some_pair_parts, option_and_then_some}
+use Rattle.text.specs.Field.{after_comma, field, number_field_at}
 use Rattle.plans.specs.Plan.{Crash, Delay, Plan, crash_range, delay_range, plan_test}
 use Rattle.runfile.specs.Text.{fields_text, line_text, start_text, crash_text, delay_text, rows_text, head_text, plan_text}
 use Rattle.runfile.specs.File.{accepted, file_of}
-use Rattle.runfile.specs.Reader.{entry_of, entry_at, row_then, fields_at, ring_place, crash_place, delay_place}
+use Rattle.runfile.specs.Reader.{fields_at, ring_place, crash_place, delay_place}
 use Rattle.plans.proofs.Tests.{tests-of, crash-small, delay-small, ranges, ranges-good, ring-nodes}
 use Rattle.runfile.proofs.Written.{field_next, field-last}
 use Rattle.plans.proofs.Rows.{every-at}
@@ -25,68 +28,38 @@ use Rattle.runfile.proofs.Size.{pair_size}
 
 -- ---- a field that was read lies within the text
 
-digits-within : (a i : ℕ) (s : List ℕ) (v j : ℕ) → digits_from a i s ≡ Value v j → j ≤ i + length s
-digits-within a i [] v j e = let q : i ≡ j = cc in omega arith
-digits-within a i (b ∷ s) v j e = by (digit b) e (digits-within (a * 10 + (b - 48)) (i + 1) s v j)
+digits-within : (a i : ℕ) (s : List ℕ) → (digits_from a i s).1 ≤ i + length s
+digits-within a i [] = omega arith
+digits-within a i (b ∷ s) = by (digit b) (digits-within (a * 10 + (b - 48)) (i + 1) s)
   where
-    by : (t : Bool) → cond t (digits_from (a * 10 + (b - 48)) (i + 1) s) (Value (min a ceiling) i) ≡ Value v j
-        → (digits_from (a * 10 + (b - 48)) (i + 1) s ≡ Value v j → j ≤ i + 1 + length s) → j ≤ i + suc (length s)
-    by true e ih = omega (arith, ih e)
-    by false e ih = let q : i ≡ j = cc in omega arith
+    by : (t : Bool) → (digits_from (a * 10 + (b - 48)) (i + 1) s).1 ≤ i + 1 + length s
+        → (cond t (digits_from (a * 10 + (b - 48)) (i + 1) s) (min a ceiling, i)).1 ≤ i + suc (length s)
+    by true h = omega arith
+    by false h = omega arith
 
-number-within : (i : ℕ) (s : List ℕ) (v j : ℕ) → number_from i s ≡ Value v j → j ≤ i + length s
-number-within i [] v j e = let z : ◌≡◌ {A = ℕ} 0 1 = cc in absurd (omega arith)
+number-within : (i : ℕ) (s : List ℕ) (v j : ℕ) → number_from i s ≡ Some (v, j) → j ≤ i + length s
+number-within i [] v j e = absurd (none-some _ e)
 number-within i (b ∷ s) v j e = by (eqb b 48) (digit b) e
   where
-    by : (x y : Bool)
-        → cond x (Value 0 (i + 1)) (cond y (cond y (digits_from (0 * 10 + (b - 48)) (i + 1) s) (Value (min 0 ceiling) i)) NoNumber) ≡ Value v j
-        → j ≤ i + suc (length s)
-    by true y e = let q : i + 1 ≡ j = cc in omega arith
-    by false true e = omega (arith, digits-within (0 * 10 + (b - 48)) (i + 1) s v j e)
-    by false false e = let z : ◌≡◌ {A = ℕ} 0 1 = cc in absurd (omega arith)
+    by : (x y : Bool) → cond x (Some (0, i + 1)) (cond y (Some (digits_from 0 i (b ∷ s))) None) ≡ Some (v, j) → j ≤ i + suc (length s)
+    by true y e = let p = some_pair_parts 0 v (i + 1) j e in omega arith
+    by false true e = let p = ap (λ (q : ℕ × ℕ). q.1) (same_Some _ _ e) in omega (arith, digits-within 0 i (b ∷ s))
+    by false false e = absurd (none-some _ e)
 
-field-from-within : (i : ℕ) (s : List ℕ) (v j : ℕ) → field_from i s ≡ Value v j → (1 ≤ length s) × (j ≤ i + length s)
-field-from-within i [] v j e = let z : ◌≡◌ {A = ℕ} 0 1 = cc in absurd (omega arith)
-field-from-within i (b ∷ s) v j e = by (eqb b 44) e
-  where
-    by : (t : Bool) → cond t (number_from (i + 1) s) NoNumber ≡ Value v j → (1 ≤ suc (length s)) × (j ≤ i + suc (length s))
-    by true e = (omega arith, omega (arith, number-within (i + 1) s v j e))
-    by false e = let z : ◌≡◌ {A = ℕ} 0 1 = cc in absurd (omega arith)
-
-pub field-within : (s : List ℕ) (at v j : ℕ) → number_field_at s at ≡ Value v j → j ≤ length s
+pub field-within : (s : List ℕ) (at v j : ℕ) → number_field_at s at ≡ Some (v, j) → j ≤ length s
 unfolding number_field_at
-field-within s at v j e = let w = field-from-within at (drop at s) v j e in omega (arith, w.0, w.1, length-drop at s)
+field-within s at v j e = option_and_then_some (number_at s) (after_comma s at) (v, j) e λ i p q.
+    let c = comma-trip s at i p in
+    let long = ap length c.1 in
+    omega (arith, number-within i (drop i s) v j q, length-drop i s, length-drop at s, long, c.0)
 
--- ---- a number at its place
+-- at the end of a text no field stands
+pub field-none : (s : List ℕ) (at : ℕ) → length s ≤ at → number_field_at s at ≡ None
+unfolding number_field_at
+field-none s at h = rw (get_or_past s at 0 h)
 
-module _ (s : List ℕ) (at : ℕ) where
-  pub no_number : number_field_at s at ≡ NoNumber → entry_at s at ≡ record { value = 0; next = at }
-  unfolding entry_at entry_of
-  no_number e = rw e
-
-  pub number-there : (x i : ℕ) → number_field_at s at ≡ Value x i → entry_at s at ≡ record { value = x; next = i }
-  unfolding entry_at entry_of
-  number-there x i e = rw e
-
--- ---- a row at its place
-
-module _ (s : List ℕ) (at : ℕ) where
-  pub no_row : length s ≤ at → fields_at s at ≡ record { first = 0; second = 0; next = at }
-  unfolding fields_at row_then number_field_at
-  no_row h = let past : length s ≤ at + 1 = omega arith in rw (drop_of_length-le s past)
-
-  pub no-first : number_field_at s (at + 1) ≡ NoNumber → fields_at s at ≡ record { first = 0; second = 0; next = at }
-  unfolding fields_at row_then
-  no-first e = rw e
-
-  module _ (a i : ℕ) (f : number_field_at s (at + 1) ≡ Value a i) where
-    pub no_second : number_field_at s i ≡ NoNumber → fields_at s at ≡ record { first = 0; second = 0; next = at }
-    unfolding fields_at row_then
-    no_second e = rw (f, e)
-
-    pub row-there : (b j : ℕ) → number_field_at s i ≡ Value b j → fields_at s at ≡ record { first = a; second = b; next = j + 1 }
-    unfolding fields_at row_then
-    row-there b j e = rw (f, e)
+-- for the places of a row's fields
+pub ruleset within_text = (field-within, field-none)
 
 fields-cut : (i : ℕ) (xs : List ℕ) → fields_text xs ≡ rows_text field (take i xs) ++ fields_text (drop i xs)
 unfolding fields_text rows_text
@@ -97,7 +70,7 @@ fields-cut (suc i) (x ∷ xs) =
 
 -- a written number, with what stands after it, is read
 field-read : (l : List ℕ) (at x : ℕ) (xs rest : List ℕ) → drop at l ≡ fields_text (x ∷ xs) ++ rest → x < ceiling
-    → number_field_at l at ≡ Value x (at + length (field x))
+    → number_field_at l at ≡ Some (x, at + length (field x))
 field-read l at x [] rest e h = (field-last l at x rest e h).0
 field-read l at x (y ∷ ys) rest e h = (field_next l at x y ys rest e h).0
 
@@ -109,16 +82,16 @@ rows_cut text xs r ys = rows_append text xs (r ∷ ys)
 -- a written row, with what stands before and after it, is read at its place
 row_read : (before : List ℕ) (letter a b : ℕ) (rest : List ℕ) → a < ceiling → b < ceiling
     → fields_at (before ++ (line_text letter (a ∷ b ∷ []) ++ rest)) (length before)
-    ≡ record { first = a; second = b; next = length (before ++ line_text letter (a ∷ b ∷ [])) }
-unfolding line_text
+    ≡ Some (a, b, length (before ++ line_text letter (a ∷ b ∷ [])))
+unfolding line_text fields_at
 row_read before letter a b rest ha hb =
     let s : List ℕ = before ++ (line_text letter (a ∷ b ∷ []) ++ rest) in
     let there : drop (length before + 1) s ≡ fields_text (a ∷ b ∷ []) ++ rest = drop-append-add before (line_text letter (a ∷ b ∷ []) ++ rest) 1 in
     let x = field_next s (length before + 1) a b [] rest there ha in
     let y = field-last s (length before + 1 + length (field a)) b rest x.1 hb in
-    row-there s (length before) a _ x.0 b _ y.0
-    ∙ ap (λ (k : ℕ). record { first = a; second = b; next = k })
-    (omega (arith, length-append before (line_text letter (a ∷ b ∷ [])), pair_size letter a b))
+    rw (x.0, y.0)
+    (ap (λ (k : ℕ). Some (a, b, k))
+    (omega (arith, length-append before (line_text letter (a ∷ b ∷ [])), pair_size letter a b)))
 
 -- ---- places
 
@@ -212,7 +185,7 @@ module _ (p : Plan) (g : plan_test p ≡ true) where
 
 module _ (s : List ℕ) (p : Plan) (e : file_of s ≡ accepted p) where
   -- at the place of number i of the Q line stands its field, and after it the place of the next number
-  pub ring-at : (i : ℕ) → i < length p.ring → entry_at s (ring_place p i) ≡ record { value = get_or p.ring i 0; next = ring_place p (suc i) }
+  pub ring-at : (i : ℕ) → i < length p.ring → number_field_at s (ring_place p i) ≡ Some (get_or p.ring i 0, ring_place p (suc i))
   ring-at i h =
       let g = accepted-plan s p e in
       let x : ℕ = get_or p.ring i 0 in
@@ -220,11 +193,11 @@ module _ (s : List ℕ) (p : Plan) (e : file_of s ≡ accepted p) where
       let there : drop (ring_place p i) s ≡ fields_text (x ∷ drop (i + 1) p.ring) ++ rest =
       ap (drop (ring_place p i)) (sym (written_back s p e)) ∙ ring-parts-at p i h in
       let read = field-read s (ring_place p i) x (drop (i + 1) p.ring) rest there (omega (arith, ring-nodes p g i h, (ranges p g).n-high)) in
-      number-there s (ring_place p i) x _ read ∙ ap (λ (k : ℕ). record { value = x; next = k }) (sym (ring-place-next p i h))
+      read ∙ ap (λ (k : ℕ). Some (x, k)) (sym (ring-place-next p i h))
 
   -- at the place of crash row i stands its line, and after it the place of the next row
   pub crash-at : (z : Crash) (i : ℕ) → i < length p.crashes
-      → fields_at s (crash_place p i) ≡ record { first = (get_or p.crashes i z).tick; second = (get_or p.crashes i z).node; next = crash_place p (suc i) }
+      → fields_at s (crash_place p i) ≡ Some ((get_or p.crashes i z).tick, (get_or p.crashes i z).node, crash_place p (suc i))
   unfolding crash_place crash_text
   crash-at z i h =
       let g = accepted-plan s p e in
@@ -235,10 +208,10 @@ module _ (s : List ℕ) (p : Plan) (e : file_of s ≡ accepted p) where
       let text : s ≡ before ++ (crash_text r ++ rest) = sym (written_back s p e) ∙ crash-parts p z i h in
       ap (λ (t : List ℕ). fields_at t (length before)) text
       ∙ row_read before 67 r.tick r.node rest (omega (arith, small.0)) (omega (arith, small.1))
-      ∙ ap (λ (k : ℕ). record { first = r.tick; second = r.node; next = k }) (length-append before (crash_text r) ∙ sym (crash-place-next p z i h))
+      ∙ ap (λ (k : ℕ). Some (r.tick, r.node, k)) (length-append before (crash_text r) ∙ sym (crash-place-next p z i h))
 
   pub delay-at : (z : Delay) (i : ℕ) → i < length p.delays
-      → fields_at s (delay_place p i) ≡ record { first = (get_or p.delays i z).number; second = (get_or p.delays i z).delay; next = delay_place p (suc i) }
+      → fields_at s (delay_place p i) ≡ Some ((get_or p.delays i z).number, (get_or p.delays i z).delay, delay_place p (suc i))
   unfolding delay_place delay_text
   delay-at z i h =
       let g = accepted-plan s p e in
@@ -249,4 +222,4 @@ module _ (s : List ℕ) (p : Plan) (e : file_of s ≡ accepted p) where
       let text : s ≡ before ++ (delay_text r ++ rest) = sym (written_back s p e) ∙ delay-parts p z i h in
       ap (λ (t : List ℕ). fields_at t (length before)) text
       ∙ row_read before 76 r.number r.delay rest (omega (arith, small.0)) (omega (arith, small.1))
-      ∙ ap (λ (k : ℕ). record { first = r.number; second = r.delay; next = k }) (length-append before (delay_text r) ∙ sym (delay-place-next p z i h))
+      ∙ ap (λ (k : ℕ). Some (r.number, r.delay, k)) (length-append before (delay_text r) ∙ sym (delay-place-next p z i h))

@@ -8,11 +8,13 @@ use mathlib.Core.Bool.{Bool, true, false, cond, ◌&&◌}
 use mathlib.Core.List.Memᴰ.{head as here}
 use mathlib.Core.List.Memᴰ.{tail as there}
 use mathlib.Core.List.{List, [], ◌∷◌, Memᴰ}
-use mathlib.Core.Option.{Option, none, some}
+use Rattle.std.specs.Prelude.{Option, None, Some}
 use lib.Dec.{eqb, leb}
 use lib.ListN.{length}
 use borrow.Author.Tests.{leb-true}
-use Rattle.limits.specs.Refusals.{bad_length, bad_form, out_of_range, short_time_out, not_rising, many_delays, not_each_once}
+use Rattle.limits.specs.declared.Refusal.{Refusal}
+use Rattle.limits.specs.declared.Refusal.TheVariants.{BadLength, BadForm, OutOfRange, NotRising, ManyDelays, NotEachOnce}
+use Rattle.limits.specs.Refusals.{number_of, short_time_out}
 use Rattle.plans.specs.Plan.{Plan, within, start_ranges, crash_range, delay_range, crash_order, delay_order, few_delays, with_crash, with_delay}
 use Rattle.plans.specs.Plan.{ring_range}
 use Rattle.ring.specs.Ring.{each_once}
@@ -23,56 +25,56 @@ use mathlib.Mathlib.Data.Bool.Basic.{and_elim_right}
 
 -- ---- the number
 
--- the numbers by which a line is refused
-abbrev pub OfLine : ℕ → Type 0
-OfLine number = Memᴰ number (bad_form ∷ out_of_range ∷ not_rising ∷ many_delays ∷ not_each_once ∷ [])
+-- what a line is refused by
+abbrev pub OfLine : Refusal → Type 0
+OfLine refusal = Memᴰ refusal (BadForm ∷ OutOfRange ∷ NotRising ∷ ManyDelays ∷ NotEachOnce ∷ [])
 
 -- a line is refused by one of them, or by none
 unfoldable Numbered : Step → Type 0
 Numbered (next p) = Unit
-Numbered (stop number) = OfLine number
+Numbered (stop refusal) = OfLine refusal
 
-else-numbered : (t : Bool) (number : ℕ) (step : Step) → OfLine number → Numbered step → Numbered (or_else t number step)
+else-numbered : (t : Bool) (refusal : Refusal) (step : Step) → OfLine refusal → Numbered step → Numbered (or_else t refusal step)
 unfolding or_else Numbered
-else-numbered true number step h k = k
-else-numbered false number step h k = h
+else-numbered true refusal step h k = k
+else-numbered false refusal step h k = h
 
-bad-form : OfLine bad_form
+bad-form : OfLine BadForm
 bad-form = here refl
 
-out-of-range : OfLine out_of_range
+out-of-range : OfLine OutOfRange
 out-of-range = there (here refl)
 
-not-rising : OfLine not_rising
+not-rising : OfLine NotRising
 not-rising = there (there (here refl))
 
-many-delays : OfLine many_delays
+many-delays : OfLine ManyDelays
 many-delays = there (there (there (here refl)))
 
-not-each-once : OfLine not_each_once
+not-each-once : OfLine NotEachOnce
 not-each-once = there (there (there (there (here refl))))
 
 first-numbered : (x : Option Row) → Numbered (first_line x)
 unfolding first_line start_line Numbered
-first-numbered none = bad-form
-first-numbered (some (start p)) = else-numbered (start_ranges p) _ _ out-of-range tt
-first-numbered (some (ring ks)) = bad-form
-first-numbered (some (crash r)) = bad-form
-first-numbered (some (delay r)) = bad-form
+first-numbered None = bad-form
+first-numbered (Some (start p)) = else-numbered (start_ranges p) _ _ out-of-range tt
+first-numbered (Some (ring ks)) = bad-form
+first-numbered (Some (crash r)) = bad-form
+first-numbered (Some (delay r)) = bad-form
 
 later-numbered : (p : Plan) (x : Option Row) → Numbered (later_line p x)
 unfolding later_line ring_line crash_line delay_line Numbered
-later-numbered p none = bad-form
-later-numbered p (some (start q)) = bad-form
-later-numbered p (some (ring ks)) =
+later-numbered p None = bad-form
+later-numbered p (Some (start q)) = bad-form
+later-numbered p (Some (ring ks)) =
     else-numbered (fresh p) _ _ bad-form
     (else-numbered (ring_range p ks) _ _ out-of-range
     (else-numbered (each_once ks) _ _ not-each-once tt))
-later-numbered p (some (crash r)) =
+later-numbered p (Some (crash r)) =
     else-numbered (early p) _ _ bad-form
     (else-numbered (crash_range p r) _ _ out-of-range
     (else-numbered (crash_order (with_crash p r).crashes) _ _ not-rising tt))
-later-numbered p (some (delay r)) =
+later-numbered p (Some (delay r)) =
     else-numbered (delay_range p r) _ _ out-of-range
     (else-numbered (delay_order (with_delay p r).delays) _ _ not-rising
     (else-numbered (few_delays (with_delay p r).delays) _ _ many-delays tt))
@@ -97,13 +99,13 @@ lines-few (b ∷ s) = by (eqb b 10) (lines-few s)
 -- an answer that refuses, where it does, by one of these numbers and a line from 1 to 65,536
 unfoldable ByLine : FileAnswer → Type 0
 ByLine (accepted p) = Unit
-ByLine (turned_down number line) = OfLine number × (1 ≤ line) × (line ≤ 65536)
+ByLine (turned_down refusal line) = OfLine refusal × (1 ≤ line) × (line ≤ 65536)
 
 then-by-line : (step : Step) (line : ℕ) (f : Plan → FileAnswer) → Numbered step → 1 ≤ line → line ≤ 65536 → ((p : Plan) → ByLine (f p))
     → ByLine (step_then step line f)
 unfolding step_then Numbered ByLine
 then-by-line (next p) line f h low high rest = rest p
-then-by-line (stop number) line f h low high rest = (h, low, high)
+then-by-line (stop refusal) line f h low high rest = (h, low, high)
 
 later-by-line : (p : Plan) (line : ℕ) (ls : List (List ℕ)) → 1 ≤ line → line + length ls ≤ 65537 → ByLine (later_lines p line ls)
 unfolding later_lines ByLine
@@ -121,9 +123,9 @@ all-by-line (l ∷ ls) h =
 
 -- ---- a refused file
 
-module _ (s : List ℕ) (number line : ℕ) (e : file_of s ≡ turned_down number line) where
+module _ (s : List ℕ) (refusal : Refusal) (line : ℕ) (e : file_of s ≡ turned_down refusal line) where
   -- of a length that is allowed
-  pub refused-by-line : (leb 1 (length s) && leb (length s) 65536) ≡ true → OfLine number × (1 ≤ line) × (line ≤ 65536)
+  pub refused-by-line : (leb 1 (length s) && leb (length s) 65536) ≡ true → OfLine refusal × (1 ≤ line) × (line ≤ 65536)
   unfolding file_of within ByLine
   refused-by-line good =
       let few : length s ≤ 65536 = leb-true (length s) 65536 (and_elim_right (leb 1 (length s)) (leb (length s) 65536) good) in
@@ -131,26 +133,26 @@ module _ (s : List ℕ) (number line : ℕ) (e : file_of s ≡ turned_down numbe
       subst ByLine (sym all ∙ e) (all-by-line (lines s) (omega (arith, lines-few s, few)))
 
   -- of any length: the numbers go from 1 to 13, and none is 4
-  pub refusal-small : (1 ≤ number) × (number ≤ 13) × (line ≤ 65536) × (number ≢ short_time_out)
+  pub refusal-small : (1 ≤ number_of refusal) × (number_of refusal ≤ 13) × (line ≤ 65536) × (number_of refusal ≢ short_time_out)
   unfolding file_of within
   refusal-small = by (leb 1 (length s) && leb (length s) 65536) refl
     where
-      of-line : (n : ℕ) → OfLine n → (1 ≤ n) × (n ≤ 13) × (n ≢ short_time_out)
-      of-line n (here q) = (omega arith, omega arith, λ k. omega arith)
-      of-line n (there (here q)) = (omega arith, omega arith, λ k. omega arith)
-      of-line n (there (there (here q))) = (omega arith, omega arith, λ k. omega arith)
-      of-line n (there (there (there (here q)))) = (omega arith, omega arith, λ k. omega arith)
-      of-line n (there (there (there (there (here q))))) = (omega arith, omega arith, λ k. omega arith)
-      of-line n (there (there (there (there (there q))))) = elim q [ ]
+      of-line : (r : Refusal) → OfLine r → (1 ≤ number_of r) × (number_of r ≤ 13) × (number_of r ≢ short_time_out)
+      of-line r (here q) = rw q (omega arith, omega arith, λ k. omega arith)
+      of-line r (there (here q)) = rw q (omega arith, omega arith, λ k. omega arith)
+      of-line r (there (there (here q))) = rw q (omega arith, omega arith, λ k. omega arith)
+      of-line r (there (there (there (here q)))) = rw q (omega arith, omega arith, λ k. omega arith)
+      of-line r (there (there (there (there (here q))))) = rw q (omega arith, omega arith, λ k. omega arith)
+      of-line r (there (there (there (there (there q))))) = elim q [ ]
 
       by : (t : Bool) → (leb 1 (length s) && leb (length s) 65536) ≡ t
-          → (1 ≤ number) × (number ≤ 13) × (line ≤ 65536) × (number ≢ short_time_out)
+          → (1 ≤ number_of refusal) × (number_of refusal ≤ 13) × (line ≤ 65536) × (number_of refusal ≢ short_time_out)
       by true good =
           let r = refused-by-line good in
-          let o = of-line number r.0 in
+          let o = of-line refusal r.0 in
           (o.0, o.1, r.2, o.2)
       by false bad =
-          let same : turned_down bad_length 0 ≡ turned_down number line = sym (rw bad refl) ∙ e in
-          let a : bad_length ≡ number = cc in
+          let same : turned_down BadLength 0 ≡ turned_down refusal line = sym (rw bad refl) ∙ e in
+          let a : BadLength ≡ refusal = cc in
           let b : ◌≡◌ {A = ℕ} 0 line = cc in
-          (omega arith, omega arith, omega arith, λ k. omega arith)
+          rw (← a, ← b) (omega arith, omega arith, omega arith, λ k. omega arith)

@@ -14,6 +14,7 @@ use Rattle.plans.specs.Plan.{Crash, Delay, Plan, within, start_ranges, crash_ran
 use Rattle.plans.specs.Plan.{plan_test, start_plan, ring_range, with_ring, with_crash, with_delay}
 use Rattle.runfile.specs.Text.{line_text, start_text, ring_text, crash_text, delay_text, rows_text, head_text, plan_text}
 use Rattle.text.specs.Field.{onto}
+use Rattle.limits.specs.declared.Refusal.TheVariants.{BadLength}
 use Rattle.runfile.specs.File.{FileAnswer, accepted, turned_down, Step, next, stop, lines, row_of, or_else, fresh, early, start_line, ring_line, crash_line}
 use Rattle.runfile.specs.File.{delay_line, first_line, later_line, step_then, later_lines, all_lines, file_of}
 use Rattle.plans.proofs.Rows.{every-there, crash-order-start, delay-order-start, few-start}
@@ -123,7 +124,7 @@ file-holds : (s : List ℕ) (q : Plan) → file_of s ≡ accepted q → Holds s 
 unfolding file_of
 file-holds s q e = by (within 1 65536 (length s)) e
   where
-    by : (t : Bool) → cond t (all_lines (lines s)) (turned_down 1 0) ≡ accepted q → Holds s q
+    by : (t : Bool) → cond t (all_lines (lines s)) (turned_down BadLength 0) ≡ accepted q → Holds s q
     by true e = subst (λ (t : List ℕ). Holds t q) (lines-joined s) (all_hold (lines s) q e)
     by false e = let z : ◌≡◌ {A = ℕ} 0 1 = cc in absurd (omega arith)
 

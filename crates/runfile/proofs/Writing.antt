@@ -1,45 +1,27 @@
--- The writers put a line part by part. Assumes nothing.
-use Prim.Native.Nat.{ℕ, ◌+◌, ◌≤◌}
+-- A line in the parts that are written one after another. Assumes nothing.
+use Prim.Native.Nat.{ℕ, ◌+◌, ◌≤◌, ◌<◌}
 use native.Mathlib.Omega.{arith}
 use mathlib.Core.Path.{◌≡◌, refl, sym, ap, ◌∙◌}
 use mathlib.Core.Logic.{◌≢◌}
 use mathlib.Core.List.{List, [], ◌∷◌, ◌++◌, append_assoc}
-use lib.ListN.{length, length-append}
+use lib.ListN.{length, drop, get_or, drop_of_length-le}
 use Rattle.text.specs.Field.{field}
-use Rattle.text.specs.Put.{Put}
-use Rattle.text.proofs.PutLaws.{put_then, put-text, put-kept}
-use Rattle.runfile.specs.Text.{fields_text, line_text, start_text, ring_text, rows_text}
-use Rattle.plans.specs.Plan.{start_plan}
+use Rattle.text.proofs.PutLaws.{drop-next}
+use Rattle.runfile.specs.Text.{fields_text, line_text, ring_text, rows_text}
 
--- a text in two parts that fits has room for the first
-pub room-first : (size at : ℕ) (w t u : List ℕ) → w ≡ t ++ u → at + length w ≤ size → at + length t ≤ size
-room-first size at w t u e h = omega (arith, ap length e, length-append t u, h)
+-- a line is its letter and its fields
+pub line-parts : (letter : ℕ) (xs : List ℕ) → line_text letter xs ≡ (letter ∷ []) ++ fields_text xs
+unfolding line_text
+line-parts letter xs = refl
 
--- and, once that is put, for the second
-pub room-rest : {l m : List ℕ} {at r : ℕ} (w : List ℕ) {t : List ℕ} (u : List ℕ) → w ≡ t ++ u → at + length w ≤ length l → Put l at t r m
-    → r + length u ≤ length m
-room-rest {l} {m} {at} {r} w {t} u e h p =
-    omega (arith, ap length e, length-append t u, h, p.next, put-kept (room-first (length l) at w t u e h) p)
+-- the fields from place i on: the one there and those after it; from the end on, the line feed
+pub fields-next : (xs : List ℕ) (i : ℕ) → i < length xs → fields_text (drop i xs) ≡ field (get_or xs i 0) ++ fields_text (drop (i + 1) xs)
+unfolding fields_text
+fields-next xs i h = ap fields_text (drop-next xs i h)
 
--- both parts put are the text put
-pub put_both : {l m k : List ℕ} {at r q : ℕ} (w : List ℕ) {t u : List ℕ} → w ≡ t ++ u → at + length w ≤ length l → Put l at t r m
-    → Put m r u q k
-    → Put l at w q k
-put_both {l} {m} {k} {at} {r} {q} w {t} {u} e h p s = put-text (sym e) (put_then (room-first (length l) at w t u e h) p s)
-
--- a line of two numbers, part by part
-pub row-parts : (letter a b : ℕ) → line_text letter (a ∷ b ∷ []) ≡ (letter ∷ []) ++ ((field a ++ field b) ++ (10 ∷ []))
-unfolding line_text fields_text
-row-parts letter a b = ap (λ (l : List ℕ). letter ∷ l) (sym (append_assoc (field a) (field b) (10 ∷ [])))
-
--- a P line, part by part
-pub start-parts : (n h w d end : ℕ)
-    → start_text (start_plan n h w d end) ≡ (80 ∷ []) ++ ((field n ++ field h) ++ ((field w ++ field d) ++ (field end ++ (10 ∷ []))))
-unfolding start_text start_plan line_text fields_text
-start-parts n h w d end =
-    let last : List ℕ = field end ++ (10 ∷ []) in
-    ap (λ (l : List ℕ). 80 ∷ l) (sym (append_assoc (field n) (field h) ((field w ++ field d) ++ last)
-    ∙ ap (λ (l : List ℕ). field n ++ (field h ++ l)) (append_assoc (field w) (field d) last)))
+pub fields-last : (xs : List ℕ) (i : ℕ) → length xs ≤ i → fields_text (drop i xs) ≡ 10 ∷ []
+unfolding fields_text
+fields-last xs i h = ap fields_text (drop_of_length-le xs h)
 
 -- numbers as fields, and the line's end
 fields-parts : (ks : List ℕ) → fields_text ks ≡ rows_text field ks ++ (10 ∷ [])

@@ -5,18 +5,16 @@ use native.Mathlib.Decide.{dec_lt}
 use mathlib.Core.Path.{◌≡◌, refl, sym, ap, ◌∙◌}
 use mathlib.Core.Bool.{true, false}
 use mathlib.Core.List.{List, [], ◌∷◌, ◌++◌, append_assoc, append-nil}
-use mathlib.Core.Option.{Option, some}
+use Rattle.std.specs.Prelude.{Option, Some}
 use lib.ListN.{length, drop, get_or, length-drop}
 use borrow.Author.Tests.{ne_eqb}
 use Rattle.text.specs.Number.{digit, ceiling, decimal}
 use Rattle.text.specs.Field.{ends, field, onto, number_field_at}
-use Rattle.text.specs.declared.Number.TheVariants.{Value}
 use Rattle.text.proofs.NumberLaws.{decimal-small, decimal-more}
 use Rattle.text.proofs.FieldTrip.{drop_past, field_back, ends-back}
 use Rattle.plans.specs.Plan.{Crash, Delay, Plan, start_plan}
 use Rattle.runfile.specs.Text.{fields_text, line_text, start_text, crash_text, delay_text}
-use Rattle.runfile.specs.File.{Row, start, ring, crash, delay, lines, field_then, pair_of, numbers_then, ring_of, start_of, crash_of, delay_of, form_of, row_of}
-use Rattle.runfile.proofs.Forms.{pair-some, start-some}
+use Rattle.runfile.specs.File.{Row, start, ring, crash, delay, lines, two_of, numbers_then, ring_of, start_of, crash_of, delay_of, form_of, row_of}
 
 -- ---- fields that were written
 
@@ -40,7 +38,7 @@ feed-no = refl
 
 -- a field before another one, in a line that r follows
 pub field_next : (l : List ℕ) (at x y : ℕ) (ys r : List ℕ) → drop at l ≡ fields_text (x ∷ y ∷ ys) ++ r → x < ceiling
-    → (number_field_at l at ≡ Value x (at + length (field x))) × (drop (at + length (field x)) l ≡ fields_text (y ∷ ys) ++ r)
+    → (number_field_at l at ≡ Some (x, at + length (field x))) × (drop (at + length (field x)) l ≡ fields_text (y ∷ ys) ++ r)
 unfolding fields_text
 field_next l at x y ys r e h =
     let parts = e ∙ append_assoc (field x) (fields_text (y ∷ ys)) r in
@@ -48,7 +46,7 @@ field_next l at x y ys r e h =
 
 -- the last field
 pub field-last : (l : List ℕ) (at x : ℕ) (r : List ℕ) → drop at l ≡ fields_text (x ∷ []) ++ r → x < ceiling
-    → (number_field_at l at ≡ Value x (at + length (field x))) × (drop (at + length (field x)) l ≡ 10 ∷ r)
+    → (number_field_at l at ≡ Some (x, at + length (field x))) × (drop (at + length (field x)) l ≡ 10 ∷ r)
 unfolding fields_text
 field-last l at x r e h =
     let parts = e ∙ append_assoc (field x) (10 ∷ []) r in
@@ -58,18 +56,17 @@ field-last l at x r e h =
 end-there : (l : List ℕ) (at : ℕ) → drop at l ≡ 10 ∷ [] → ends l at ≡ true
 end-there l at e = ends-back l at (omega (arith, length-drop at l, ap length e)) e
 
-pub pair-back : (row : ℕ → ℕ → Row) (letter a b : ℕ) → a < ceiling → b < ceiling
-    → pair_of row (line_text letter (a ∷ b ∷ [])) ≡ some (row a b)
-unfolding line_text
-pair-back row letter a b ha hb =
+two-back : (letter a b : ℕ) → a < ceiling → b < ceiling → two_of (line_text letter (a ∷ b ∷ [])) ≡ Some (a, b)
+unfolding line_text two_of
+two-back letter a b ha hb =
     let l : List ℕ = letter ∷ fields_text (a ∷ b ∷ []) in
     let x = field_next l 1 a b [] [] (sym (append-nil (fields_text (a ∷ b ∷ [])))) ha in
     let y = field-last l (1 + length (field a)) b [] x.1 hb in
-    pair-some row l a _ x.0 b _ y.0 (end-there l _ y.1)
+    rw (x.0, y.0, end-there l _ y.1)
 
 pub start_back : (n h w d end : ℕ) → n < ceiling → h < ceiling → w < ceiling → d < ceiling → end < ceiling
-    → start_of (line_text 80 (n ∷ h ∷ w ∷ d ∷ end ∷ [])) ≡ some (start (start_plan n h w d end))
-unfolding line_text
+    → start_of (line_text 80 (n ∷ h ∷ w ∷ d ∷ end ∷ [])) ≡ Some (start (start_plan n h w d end))
+unfolding line_text start_of
 start_back n h w d end hn hh hw hd he =
     let l : List ℕ = 80 ∷ fields_text (n ∷ h ∷ w ∷ d ∷ end ∷ []) in
     let a = field_next l 1 n h (w ∷ d ∷ end ∷ []) [] (sym (append-nil (fields_text (n ∷ h ∷ w ∷ d ∷ end ∷ [])))) hn in
@@ -77,12 +74,12 @@ start_back n h w d end hn hh hw hd he =
     let c = field_next l _ w d (end ∷ []) [] b.1 hw in
     let e = field_next l _ d end [] [] c.1 hd in
     let f = field-last l _ end [] e.1 he in
-    start-some l n _ a.0 h _ b.0 w _ c.0 d _ e.0 end _ f.0 (end-there l _ f.1)
+    rw (a.0, b.0, c.0, e.0, f.0, end-there l _ f.1)
 
 -- the numbers of a Q line
 numbers-back : (l : List ℕ) (i : ℕ) (ks : List ℕ) (f : List ℕ → Option Row) → drop i l ≡ fields_text ks → Small ks
     → numbers_then (length ks) l i f ≡ f ks
-unfolding numbers_then field_then fields_text Small
+unfolding numbers_then fields_text Small
 numbers-back l i [] f e small = rw (end-there l i e)
 numbers-back l i (x ∷ []) f e small =
     let a = field-last l i x [] (e ∙ sym (append-nil (fields_text (x ∷ [])))) small.0 in
@@ -91,20 +88,20 @@ numbers-back l i (x ∷ y ∷ ys) f e small =
     let a = field_next l i x y ys [] (e ∙ sym (append-nil (fields_text (x ∷ y ∷ ys)))) small.0 in
     rw a.0 (numbers-back l (i + length (field x)) (y ∷ ys) (λ xs. f (x ∷ xs)) (a.1 ∙ append-nil (fields_text (y ∷ ys))) small.1)
 
-pub ring-read : (n : ℕ) (ks : List ℕ) → length ks ≡ n → Small ks → row_of n (line_text 81 ks) ≡ some (ring ks)
+pub ring-read : (n : ℕ) (ks : List ℕ) → length ks ≡ n → Small ks → row_of n (line_text 81 ks) ≡ Some (ring ks)
 unfolding line_text row_of form_of ring_of
-ring-read n ks e small = rw (← e) (numbers-back (81 ∷ fields_text ks) 1 ks (λ xs. some (ring xs)) refl small)
+ring-read n ks e small = rw (← e) (numbers-back (81 ∷ fields_text ks) 1 ks (λ xs. Some (ring xs)) refl small)
 
-pub crash-read : (n : ℕ) (r : Crash) → r.tick < ceiling → r.node < ceiling → row_of n (crash_text r) ≡ some (crash r)
-unfolding crash_text line_text row_of form_of crash_of
-crash-read n r ht hk = pair-back (λ t k. crash (record { tick = t; node = k })) 67 r.tick r.node ht hk
+pub crash-read : (n : ℕ) (r : Crash) → r.tick < ceiling → r.node < ceiling → row_of n (crash_text r) ≡ Some (crash r)
+unfolding crash_text row_of form_of crash_of line_text
+crash-read n r ht hk = rw (two-back 67 r.tick r.node ht hk)
 
-pub delay-read : (n : ℕ) (r : Delay) → r.number < ceiling → r.delay < ceiling → row_of n (delay_text r) ≡ some (delay r)
-unfolding delay_text line_text row_of form_of delay_of
-delay-read n r hk ht = pair-back (λ k t. delay (record { number = k; delay = t })) 76 r.number r.delay hk ht
+pub delay-read : (n : ℕ) (r : Delay) → r.number < ceiling → r.delay < ceiling → row_of n (delay_text r) ≡ Some (delay r)
+unfolding delay_text row_of form_of delay_of line_text
+delay-read n r hk ht = rw (two-back 76 r.number r.delay hk ht)
 
 pub start-read : (p : Plan) → p.n < ceiling → p.h < ceiling → p.w < ceiling → p.d < ceiling → p.end < ceiling
-    → row_of 0 (start_text p) ≡ some (start (start_plan p.n p.h p.w p.d p.end))
+    → row_of 0 (start_text p) ≡ Some (start (start_plan p.n p.h p.w p.d p.end))
 unfolding start_text line_text row_of form_of
 start-read p hn hh hw hd he = start_back p.n p.h p.w p.d p.end hn hh hw hd he
 

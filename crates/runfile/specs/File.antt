@@ -1,22 +1,20 @@
--- What a run file comes to: the plan that it holds, or the number and line of its refusal. Document 01's 'Run file and log' and the
+-- What a run file comes to: the plan that it holds, or its refusal and the line of it. Document 01's 'Run file and log' and the
 -- numbers 1 to 6 of 'Where a call is turned down': 'Places are tried downwards; lines one after another, the first bad line deciding'; document
 -- 02's #101 for the line Q and number 13, and its #109, by which 4 'is given no longer'. Assumes nothing.
-use Rattle.std.specs.Prelude.{Bool, cond, ◌&&◌, List, [], ◌∷◌, ℕ, zero, suc, eqb, length}
-use Rattle.std.proofs.Math.Option.{Option, none, some}
+use Rattle.std.specs.Prelude.{Bool, cond, ◌&&◌, Option, Some, None, List, [], ◌∷◌, ℕ, zero, suc, eqb, length}
 use Rattle.limits.specs.Limits.{most_bytes}
-use Rattle.limits.specs.Refusals.{bad_length, bad_form, out_of_range, not_rising, many_delays, not_each_once}
+use Rattle.limits.specs.declared.Refusal.{Refusal}
+use Rattle.limits.specs.declared.Refusal.TheVariants.{BadLength, BadForm, OutOfRange, NotRising, ManyDelays, NotEachOnce}
 use Rattle.ring.specs.Ring.{each_once}
-use Rattle.text.specs.declared.Number.{Number}
-use Rattle.text.specs.declared.Number.TheVariants.{Value, NoNumber}
-use Rattle.text.specs.Field.{line_feed, onto, ends, number_field_at}
+use Rattle.text.specs.Field.{line_feed, onto, read_then, ends, number_field_at}
 use Rattle.plans.specs.Plan.{Crash, Delay, Plan, start_plan, with_crash, with_delay, within, start_ranges, crash_range, delay_range, crash_order}
 use Rattle.plans.specs.Plan.{delay_order, few_delays, with_ring, ring_range}
 use Rattle.runfile.specs.Text.{letter_p, letter_q, letter_c, letter_l}
 
 pub data FileAnswer : Type 0 where
   accepted : Plan → FileAnswer
-  -- the refusal's number and its line, from 1, else 0
-  turned_down : ℕ → ℕ → FileAnswer
+  -- the refusal and its line, from 1, else 0
+  turned_down : Refusal → ℕ → FileAnswer
 
 -- ---- lines
 
@@ -34,42 +32,37 @@ pub data Row : Type 0 where
   crash : Crash → Row
   delay : Delay → Row
 
--- what a field that was read leads to
-unfoldable pub field_then : Number → (ℕ → ℕ → Option Row) → Option Row
-field_then (Value x i) f = f x i
-field_then NoNumber f = none
-
 -- two numbers after the letter, and the line's end
-unfoldable pub pair_of : (ℕ → ℕ → Row) → List ℕ → Option Row
-pair_of row l =
-    field_then (number_field_at l 1) λ a i.
-    field_then (number_field_at l i) λ b j.
-    cond (ends l j) (some (row a b)) none
+unfoldable pub two_of : List ℕ → Option (ℕ × ℕ)
+two_of l =
+    read_then (number_field_at l 1) λ a i.
+    read_then (number_field_at l i) λ b j.
+    cond (ends l j) (Some (a, b)) None
 
 unfoldable pub crash_of : List ℕ → Option Row
-crash_of l = pair_of (λ t k. crash (record { tick = t; node = k })) l
+crash_of l = read_then (two_of l) λ t k. Some (crash (record { tick = t; node = k }))
 
 unfoldable pub delay_of : List ℕ → Option Row
-delay_of l = pair_of (λ k t. delay (record { number = k; delay = t })) l
+delay_of l = read_then (two_of l) λ k t. Some (delay (record { number = k; delay = t }))
 
 -- five numbers after the letter, and the line's end
 unfoldable pub start_of : List ℕ → Option Row
 start_of l =
-    field_then (number_field_at l 1) λ n i.
-    field_then (number_field_at l i) λ h j.
-    field_then (number_field_at l j) λ w k.
-    field_then (number_field_at l k) λ d m.
-    field_then (number_field_at l m) λ end e.
-    cond (ends l e) (some (start (start_plan n h w d end))) none
+    read_then (number_field_at l 1) λ n i.
+    read_then (number_field_at l i) λ h j.
+    read_then (number_field_at l j) λ w k.
+    read_then (number_field_at l k) λ d m.
+    read_then (number_field_at l m) λ end e.
+    cond (ends l e) (Some (start (start_plan n h w d end))) None
 
 -- k numbers from a place on, and the line's end; what they lead to
 unfoldable pub numbers_then : ℕ → List ℕ → ℕ → (List ℕ → Option Row) → Option Row
-numbers_then zero l i f = cond (ends l i) (f []) none
-numbers_then (suc k) l i f = field_then (number_field_at l i) λ x j. numbers_then k l j (λ xs. f (x ∷ xs))
+numbers_then zero l i f = cond (ends l i) (f []) None
+numbers_then (suc k) l i f = read_then (number_field_at l i) λ x j. numbers_then k l j (λ xs. f (x ∷ xs))
 
 -- 'one line Q with N node numbers'
 unfoldable pub ring_of : ℕ → List ℕ → Option Row
-ring_of n l = numbers_then n l 1 (λ ks. some (ring ks))
+ring_of n l = numbers_then n l 1 (λ ks. Some (ring ks))
 
 -- a line of a file with n nodes, by its letter; none where its form is bad: 'letter, field count, digits, line feed'
 unfoldable pub form_of : ℕ → ℕ → List ℕ → Option Row
@@ -77,26 +70,26 @@ form_of n letter l =
     cond (eqb letter letter_p) (start_of l)
     (cond (eqb letter letter_q) (ring_of n l)
     (cond (eqb letter letter_c) (crash_of l)
-    (cond (eqb letter letter_l) (delay_of l) none)))
+    (cond (eqb letter letter_l) (delay_of l) None)))
 
 unfoldable pub row_of : ℕ → List ℕ → Option Row
-row_of n [] = none
+row_of n [] = None
 row_of n (letter ∷ l) = form_of n letter (letter ∷ l)
 
 -- ---- a line after those before it
 
--- what the file plans up to a line, or the number that refuses the line
+-- what the file plans up to a line, or what refuses the line
 pub data Step : Type 0 where
   next : Plan → Step
-  stop : ℕ → Step
+  stop : Refusal → Step
 
--- a number is given where its test is not passed
-unfoldable pub or_else : Bool → ℕ → Step → Step
-or_else passed number step = cond passed step (stop number)
+-- a line is refused where a test is not passed
+unfoldable pub or_else : Bool → Refusal → Step → Step
+or_else passed refusal step = cond passed step (stop refusal)
 
 -- a P line: out of range. 'A file with W below H + D .. now runs by the same rules'
 unfoldable pub start_line : Plan → Step
-start_line p = or_else (start_ranges p) out_of_range (next p)
+start_line p = or_else (start_ranges p) OutOfRange (next p)
 
 -- no Q, C or L line came yet: 'order of letters'
 unfoldable pub fresh : Plan → Bool
@@ -105,9 +98,9 @@ fresh p = eqb (length p.ring) 0 && (eqb (length p.crashes) 0 && eqb (length p.de
 -- a Q line: not right after the P line, out of range, then not each node once
 unfoldable pub ring_line : Plan → List ℕ → Step
 ring_line p ks =
-    or_else (fresh p) bad_form
-    (or_else (ring_range p ks) out_of_range
-    (or_else (each_once ks) not_each_once
+    or_else (fresh p) BadForm
+    (or_else (ring_range p ks) OutOfRange
+    (or_else (each_once ks) NotEachOnce
     (next (with_ring p ks))))
 
 -- no L line came yet: 'order of letters'
@@ -117,41 +110,41 @@ early p = eqb (length p.delays) 0
 -- a C line: after an L line, out of range, then not rising
 unfoldable pub crash_line : Plan → Crash → Step
 crash_line p r =
-    or_else (early p) bad_form
-    (or_else (crash_range p r) out_of_range
-    (or_else (crash_order (with_crash p r).crashes) not_rising
+    or_else (early p) BadForm
+    (or_else (crash_range p r) OutOfRange
+    (or_else (crash_order (with_crash p r).crashes) NotRising
     (next (with_crash p r))))
 
 -- an L line: out of range, not rising, then the 2,049th
 unfoldable pub delay_line : Plan → Delay → Step
 delay_line p r =
-    or_else (delay_range p r) out_of_range
-    (or_else (delay_order (with_delay p r).delays) not_rising
-    (or_else (few_delays (with_delay p r).delays) many_delays
+    or_else (delay_range p r) OutOfRange
+    (or_else (delay_order (with_delay p r).delays) NotRising
+    (or_else (few_delays (with_delay p r).delays) ManyDelays
     (next (with_delay p r))))
 
 -- the first line is the P line
 unfoldable pub first_line : Option Row → Step
-first_line none = stop bad_form
-first_line (some (start p)) = start_line p
-first_line (some (ring ks)) = stop bad_form
-first_line (some (crash r)) = stop bad_form
-first_line (some (delay r)) = stop bad_form
+first_line None = stop BadForm
+first_line (Some (start p)) = start_line p
+first_line (Some (ring ks)) = stop BadForm
+first_line (Some (crash r)) = stop BadForm
+first_line (Some (delay r)) = stop BadForm
 
 -- and no later line is
 unfoldable pub later_line : Plan → Option Row → Step
-later_line p none = stop bad_form
-later_line p (some (start q)) = stop bad_form
-later_line p (some (ring ks)) = ring_line p ks
-later_line p (some (crash r)) = crash_line p r
-later_line p (some (delay r)) = delay_line p r
+later_line p None = stop BadForm
+later_line p (Some (start q)) = stop BadForm
+later_line p (Some (ring ks)) = ring_line p ks
+later_line p (Some (crash r)) = crash_line p r
+later_line p (Some (delay r)) = delay_line p r
 
 -- ---- the whole file
 
 -- a line, and then the rest
 unfoldable pub step_then : Step → ℕ → (Plan → FileAnswer) → FileAnswer
 step_then (next p) line f = f p
-step_then (stop number) line f = turned_down number line
+step_then (stop refusal) line f = turned_down refusal line
 
 -- the lines after the P line, from this line on
 unfoldable pub later_lines : Plan → ℕ → List (List ℕ) → FileAnswer
@@ -160,9 +153,9 @@ later_lines p line (l ∷ ls) = step_then (later_line p (row_of p.n l)) line (λ
 
 -- the first line, before which no node is known, and the others
 unfoldable pub all_lines : List (List ℕ) → FileAnswer
-all_lines [] = turned_down bad_form 1
+all_lines [] = turned_down BadForm 1
 all_lines (l ∷ ls) = step_then (first_line (row_of 0 l)) 1 (λ p. later_lines p 2 ls)
 
 -- a file of a length that is allowed, line after line
 unfoldable pub file_of : List ℕ → FileAnswer
-file_of s = cond (within 1 most_bytes (length s)) (all_lines (lines s)) (turned_down bad_length 0)
+file_of s = cond (within 1 most_bytes (length s)) (all_lines (lines s)) (turned_down BadLength 0)

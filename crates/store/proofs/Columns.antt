@@ -13,7 +13,8 @@ use lib.Seq.{length-take-le}
 use Rattle.fields.specs.Fields.{field_at, put_at, cleared}
 use Rattle.model.specs.Platform.{without}
 use Rattle.store.specs.Gap.{closed}
-use Rattle.store.specs.Columns.{Field, Column, with_values, cell, cell_put, cell_out, field_cleared, numbers_put, size, used, packs, column_bytes, bytes_of}
+use Rattle.store.specs.declared.layout.Field.{Field}
+use Rattle.store.specs.Columns.{Column, with_values, cell, cell_put, cell_out, field_cleared, numbers_put, size, used, packs, column_bytes, bytes_of}
 use Rattle.store.proofs.Parts.{cleared-part, length-packs, get-packs, put-packs, closed-packs, add-packs}
 
 pub length_without : {A : Type 0} (i : ℕ) (l : List A) → i < length l → suc (length (without i l)) ≡ length l

@@ -10,7 +10,6 @@ use borrow.Author.Tests.{ltb-true, eq-eqb, ne_eqb}
 use lib.Dec.{ltb}
 use lib.ListN.{length, get_or}
 use Rattle.plans.specs.Plan.{Delay, above, rising, rising_from, delay_order}
-use Rattle.fields.specs.Fields.{field_at}
 use Rattle.model.specs.Platform.{delay_in, delay_of}
 use Rattle.store.specs.Store.{plan_in, delay_numbers, delay_ticks}
 use Rattle.store.specs.Inside.{delay_number, FirstRow}
@@ -156,7 +155,7 @@ module _ (b : List ℕ) (x n : ℕ) (rise : delay_order (plan_in b).delays ≡ t
       unfolding delay_of
       delay-other h = sym (first-other (plan_in b).d rows x up r first below (λ e. h (sym (number_at r below) ∙ e)))
 
-      pub delay-found : cell b delay_numbers r ≡ x → field_at b (delay_ticks.at + r) 1 ≡ delay_of (plan_in b) x
+      pub delay-found : cell b delay_numbers r ≡ x → cell b delay_ticks r ≡ delay_of (plan_in b) x
       unfolding delay_of
       delay-found e =
           sym (delay-here (plan_in b).d rows x r up below (number_at r below ∙ e) ∙ ap (λ (q : Delay). q.delay) (delay-read b r below))

@@ -4,38 +4,25 @@ use Prim.Native.Nat.{ℕ, zero, suc, ◌+◌, ◌≤◌, ◌<◌}
 use mathlib.Core.Path.{◌≡◌, refl, sym, ap, ◌∙◌}
 use mathlib.Core.Bool.{Bool, true, false, ◌&&◌, and-eq-true_iff}
 use mathlib.Core.List.{List, [], ◌∷◌, ◌++◌, map, map-append, append_assoc}
+use native.Mathlib.Numerals.{add-one}
 use native.Mathlib.Omega.{arith}
 use borrow.Author.Tests.{eqb-true, leb-true, le-leb}
 use lib.Dec.{eqb, leb}
 use lib.ListN.{length, take, drop, get_or, set, length-map, length-set, length-append}
+use Rattle.std.proofs.lemmas.List.{map-set, take-map, drop-map, get_or-map}
 use Rattle.model.specs.Platform.{without}
-use Rattle.store.specs.Columns.{Field, Column, cell_put, cell_out, field_cleared, cell, bytes_of, room_test, rest_zero, unused_test}
+use Rattle.store.specs.declared.layout.Field.{Field}
+use Rattle.store.specs.Columns.{Column, cell_put, cell_out, field_cleared, cell, bytes_of, room_test, rest_zero, unused_test}
 use Rattle.store.specs.Columns.{Part, column_of, columns_of, numbers_of, cells_at, RowFits, RowsFit}
 use Rattle.store.specs.Columns.{each_part, row_put, row_out, rows_cleared, places_test, rest_test}
 use Rattle.store.proofs.Columns.{Laid, laid-with, get-cell, put-cell, add-cell, take-cell, clear-cells}
 use Rattle.store.proofs.Columns.{length_without, has_number, with_number, number_put}
 
--- ---- a part of rows of which one is changed
+-- ---- a part of rows of which one is taken out
 
-module _ {A : Type 0} (f : A → ℕ) where
-  pub map-set : (l : List A) (i : ℕ) (a : A) → map f (set l i a) ≡ set (map f l) i (f a)
-  map-set [] i a = refl
-  map-set (x ∷ l) zero a = refl
-  map-set (x ∷ l) (suc i) a = ap (λ (r : List ℕ). f x ∷ r) (map-set l i a)
-
-  map-take : (i : ℕ) (l : List A) → map f (take i l) ≡ take i (map f l)
-  map-take zero l = refl
-  map-take (suc i) [] = refl
-  map-take (suc i) (x ∷ l) = ap (λ (r : List ℕ). f x ∷ r) (map-take i l)
-
-  map-drop : (i : ℕ) (l : List A) → map f (drop i l) ≡ drop i (map f l)
-  map-drop zero l = refl
-  map-drop (suc i) [] = refl
-  map-drop (suc i) (x ∷ l) = map-drop i l
-
-  pub map-without : (i : ℕ) (l : List A) → map f (without i l) ≡ without i (map f l)
-  unfolding without
-  map-without i l = map-append f (take i l) (drop (suc i) l) ∙ rw (map-take i l, map-drop (suc i) l)
+pub map-without : {A : Type 0} (f : A → ℕ) (i : ℕ) (l : List A) → map f (without i l) ≡ without i (map f l)
+unfolding without
+map-without f i l = map-append f (take i l) (drop (suc i) l) ∙ rw (take-map, drop-map)
 
 -- ---- the columns of rows, among others
 
@@ -122,19 +109,21 @@ module _ {A : Type 0} (k : ℕ) (gs : List (Part A)) (places : places_test k gs 
       ap (λ (l : List ℕ). cell_put l count 0 (length rows + 1)) added.0
       ∙ (number_put [] (with (rows ++ (r ∷ []))) count (length rows + 1) has added.1).0
 
--- parts that are changed one group after another
-pub each_append : {A : Type 0} (change : List ℕ → Part A → List ℕ) (gs hs : List (Part A)) (b : List ℕ)
-    → each_part change (gs ++ hs) b ≡ each_part change hs (each_part change gs b)
+-- parts that are changed one after another, by their fields fs: the first k, then the next
+pub each_next : {A : Type 0} (change : List ℕ → Field → List ℕ) (gs : List (Part A)) (fs : List Field) → fs ≡ map (λ (g : Part A). g.field) gs
+    → (k : ℕ) (z : Field) → k < length fs → (b : List ℕ)
+    → change (each_part (λ l g. change l g.field) (take k gs) b) (get_or fs k z) ≡ each_part (λ l g. change l g.field) (take (k + 1) gs) b
 unfolding each_part
-each_append change [] hs b = refl
-each_append change (g ∷ gs) hs b = each_append change gs hs (change b g)
+each_next {A} change gs fs e k z h b = rw (e, add-one k) (go gs k b (rw e at h))
+  where
+    go : (gs : List (Part A)) (k : ℕ) (b : List ℕ) → k < length (map (λ (g : Part A). g.field) gs)
+        → change (each_part (λ l g. change l g.field) (take k gs) b) (get_or (map (λ (g : Part A). g.field) gs) k z)
+        ≡ each_part (λ l g. change l g.field) (take (suc k) gs) b
+    go [] k b h = absurd (omega arith)
+    go (g ∷ gs) zero b h = refl
+    go (g ∷ gs) (suc k) b h = go gs k (change b g.field) (omega arith)
 
 -- ---- rows that are read
-
-pub get_d_part : {A : Type 0} (get : A → ℕ) (l : List A) (i z : ℕ) (d : A) → i < length l → get_or (map get l) i z ≡ get (get_or l i d)
-get_d_part get [] i z d h = absurd (omega arith)
-get_d_part get (x ∷ l) zero z d h = refl
-get_d_part get (x ∷ l) (suc i) z d h = get_d_part get l i z d (omega arith)
 
 -- the cells at place i have the numbers of row i
 pub row_read : {A : Type 0} (gs : List (Part A)) (front back : List Column) (rows : List A) → Laid 0 (front ++ (columns_of gs rows ++ back))
@@ -145,7 +134,7 @@ row_read [] front back rows l i d h f = refl
 row_read (g ∷ gs) front back rows l i d h f =
     let c : Column = column_of rows g in
     let after : List Column = columns_of gs rows ++ back in
-    let value : get_or (map g.get rows) i 0 ≡ g.get (get_or rows i d) = get_d_part g.get rows i 0 d h in
+    let value : get_or (map g.get rows) i 0 ≡ g.get (get_or rows i d) = get_or-map g.get rows i d 0 h in
     let one : cell (bytes_of (front ++ (c ∷ after))) g.field i ≡ g.get (get_or rows i d) =
     get-cell front c after l i (rw (length-map rows g.get) h) (rw value f.0) ∙ value in
     let split : (front ++ (c ∷ [])) ++ after ≡ front ++ (c ∷ after) = append_assoc front (c ∷ []) after in

@@ -1,4 +1,3 @@
-pub mod Gap
 pub mod Parts
 pub mod Columns
 pub mod Groups
@@ -12,3 +11,4 @@ pub mod Filling
 pub mod Fitting
 pub mod Opening
 pub mod Blank
+pub mod Places

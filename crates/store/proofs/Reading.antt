@@ -14,10 +14,12 @@ use Rattle.ring.proofs.Rows.{length-numbers}
 use Rattle.fields.specs.Fields.{zeros, field_at}
 use Rattle.fields.proofs.Zeros.{zeros-all}
 use Rattle.fields.proofs.Fields.{bytes-field, field_lt, field-none, field-more}
-use Rattle.store.specs.Columns.{Field, field, Column, cell, size, used, packs, column_bytes, bytes_of, joined, room_test, unused_test}
+use Rattle.store.specs.declared.layout.Field.{Field}
+use Rattle.store.specs.Columns.{field, Column, cell, size, used, packs, column_bytes, bytes_of, joined, room_test, unused_test}
 use Rattle.store.specs.Columns.{Part, columns_of, numbers_of, cells_at, RowFits, RowsFit}
 use Rattle.store.proofs.Columns.{Laid, length-column}
-use Rattle.store.proofs.Groups.{get_d_part, row_read, fit_at, fit-each}
+use Rattle.std.proofs.lemmas.List.{get_or-map}
+use Rattle.store.proofs.Groups.{row_read, fit_at, fit-each}
 
 -- ---- rows by their numbers
 
@@ -163,7 +165,7 @@ module _ {A : Type 0} (b : List ℕ) (rows : List A) (d : A) where
   columns-read (g ∷ gs) rest h r =
       let e : length (map g.get rows) ≡ length rows = length-map rows g.get in
       let same : (i : ℕ) → i < length (map g.get rows) → cell b g.field i ≡ get_or (map g.get rows) i 0 =
-      λ i k. let k' : i < length rows = omega arith in sym (get_d_part g.get rows i 0 d k' ∙ first _ _ _ _ (h i k')) in
+      λ i k. let k' : i < length rows = omega arith in sym (get_or-map g.get rows i d 0 k' ∙ first _ _ _ _ (h i k')) in
       (sym (made-rows (cell b g.field) (map g.get rows) 0 same), columns-read gs rest (λ i k. later _ _ _ _ (h i k)) r)
 
   -- and its numbers fit

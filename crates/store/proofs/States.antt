@@ -12,14 +12,15 @@ use Rattle.node.specs.declared.Node.{Node}
 use Rattle.plans.specs.Plan.{Plan}
 use Rattle.limits.specs.Limits.{most_in_flight}
 use Rattle.model.specs.Platform.{State, InFlight, without}
-use Rattle.store.specs.Columns.{Field, cell_put, cell_out, field_cleared, bytes_of, columns_of, RowFits, RowsFit, row_put, row_out, rows_cleared, Column}
+use Rattle.store.specs.declared.layout.Field.{Field}
+use Rattle.store.specs.Columns.{cell_put, bytes_of, columns_of, RowFits, RowsFit, row_put, row_out, rows_cleared, Column}
 use Rattle.store.specs.Store.{crashes_done, last_tick, next_number, message_count, columns, encode, plan_in, state_in, contents}
 use Rattle.store.specs.Store.{head_parts, ring_parts, node_parts, crash_parts, delay_parts, time_parts, route_parts, message_parts}
 use Rattle.store.specs.Inside.{SmallNode, Fits, Held, with_node, with_tick, crashed, without_message, with_flight, with_message, number_taken}
 use Rattle.store.specs.Filling.{put_node}
 use Rattle.store.proofs.Columns.{with_number, has_number, number_put, length_without, Laid}
-use Rattle.store.proofs.Groups.{each_append, row-put, row-added, row-out, rows-cleared, fit-set, fit_append, fit-without}
-use Rattle.store.proofs.Store.{laid, node-places, message-places, at-nodes, at-messages, before_nodes, after_nodes, before_messages, after_messages}
+use Rattle.store.proofs.Groups.{row-put, row-added, row-out, rows-cleared, fit-set, fit_append, fit-without}
+use Rattle.store.proofs.Store.{done-lt, laid, node-places, message-places, at-nodes, at-messages, before_nodes, after_nodes, before_messages, after_messages}
 
 -- ---- the bytes
 
@@ -163,21 +164,20 @@ module _ (b : List ℕ) (v : Held b) where
   put-node i a h = of-held (λ l. row_put node_parts l i a) (with_node s i a) (node-bytes p s v.fits i a (rw v.fits.nodes h))
 
   pub put-message : (m : InFlight) (n : ℕ) → n ≡ length s.flight → n < most_in_flight
-      → cell_put (row_put route_parts (row_put time_parts b n m) n m) message_count 0 (n + 1) ≡ encode p (with_message s m)
+      → cell_put (row_put message_parts b n m) message_count 0 (n + 1) ≡ encode p (with_message s m)
   put-message m n e h =
-      rw (e, ← each_append (λ l g. cell_put l g.field (length s.flight) (g.get m)) time_parts route_parts b)
-      (of-held (λ l. cell_put (row_put message_parts l (length s.flight) m) message_count 0 (length s.flight + 1)) (with_message s m)
+      rw e (of-held (λ l. cell_put (row_put message_parts l (length s.flight) m) message_count 0 (length s.flight + 1)) (with_message s m)
       (message-bytes p s v.fits m (rw (← e) h)))
 
   pub put-take : (i n : ℕ) → n ≡ length s.flight → i < n
-      → cell_put (row_out route_parts (row_out time_parts b i n) i n) message_count 0 (n - 1) ≡ encode p (without_message s i)
+      → cell_put (row_out message_parts b i n) message_count 0 (n - 1) ≡ encode p (without_message s i)
   put-take i n e h =
-      rw (e, ← each_append (λ l g. cell_out l g.field i (length s.flight)) time_parts route_parts b)
-      (of-held (λ l. cell_put (row_out message_parts l i (length s.flight)) message_count 0 (length s.flight - 1)) (without_message s i)
+      rw e (of-held (λ l. cell_put (row_out message_parts l i (length s.flight)) message_count 0 (length s.flight - 1)) (without_message s i)
       (take-bytes p s v.fits i (rw (← e) h)))
 
-  pub put-clear : (n : ℕ) → n ≡ length s.flight
-      → cell_put (rows_cleared route_parts (rows_cleared time_parts b n) n) message_count 0 0 ≡ encode p (with_flight s [])
+  pub put-clear : (n : ℕ) → n ≡ length s.flight → cell_put (rows_cleared message_parts b n) message_count 0 0 ≡ encode p (with_flight s [])
   put-clear n e =
-      rw (e, ← each_append (λ l g. field_cleared l g.field (length s.flight)) time_parts route_parts b)
-      (of-held (λ l. cell_put (rows_cleared message_parts l (length s.flight)) message_count 0 0) (with_flight s []) (clear-bytes p s v.fits))
+      rw e (of-held (λ l. cell_put (rows_cleared message_parts l (length s.flight)) message_count 0 0) (with_flight s []) (clear-bytes p s v.fits))
+
+-- each change of a store that the code makes by one call
+pub ruleset changes = (put-tick, put-crash, put-number, put-node, done-lt)

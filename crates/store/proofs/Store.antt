@@ -4,7 +4,6 @@ use Prim.Native.Nat.{ℕ, zero, suc, ◌+◌, ◌<◌, ◌≤◌}
 use mathlib.Core.Path.{◌≡◌, refl, sym, ◌∙◌}
 use mathlib.Core.Bool.{Bool, true, ◌&&◌, and-true, and-eq-true_iff}
 use mathlib.Core.List.{List, [], ◌∷◌, ◌++◌, map}
-use native.Mathlib.Nat.{one-mul}
 use native.Mathlib.Omega.{arith}
 use borrow.Author.Rules.{rules}
 use borrow.Author.Tests.{leb-true, le-leb}
@@ -15,18 +14,15 @@ use Rattle.ring.specs.Ring.{numbers}
 use Rattle.node.specs.declared.Node.{Node}
 use Rattle.plans.specs.Plan.{Plan, Crash, Delay}
 use Rattle.node.specs.Node.{alone}
-use Rattle.fields.specs.Fields.{field_at}
 use Rattle.model.specs.Platform.{State, InFlight, node_of, message_at, no_message}
-use Rattle.plans.specs.Plain.{row_at}
+use Rattle.plans.specs.Plain.{no_crash, row_at}
 use Rattle.store.specs.Columns.{Column, unused, cell, number, joined, room_test, unused_test}
 use Rattle.store.specs.Columns.{columns_of, numbers_of, cells_at, RowFits, RowsFit, places_test}
 use Rattle.limits.specs.Limits.{store_size}
 use Rattle.store.specs.Store.{node_count, crash_count, delay_count, message_count, ring_size, spare_head, ring_nodes, spare_tail}
-use Rattle.store.specs.Store.{emitters, observers, watches, heartbeats, dead_lists, marks, crash_ticks, crash_nodes, delay_numbers, delay_ticks}
-use Rattle.store.specs.Store.{message_numbers, message_dues, message_kinds, message_senders, message_receivers, message_subjects, message_lists}
 use Rattle.store.specs.Store.{Contents, contents, head_parts, ring_parts, node_parts, crash_parts, delay_parts, time_parts, route_parts, message_parts}
 use Rattle.store.specs.Store.{columns, encode, node_in, crash_row_in, delay_row_in, message_in, plan_in, state_in}
-use Rattle.store.specs.Inside.{Counts, Fits, Held}
+use Rattle.store.specs.Inside.{Counts, Fits, Held, delay_at}
 use Rattle.store.proofs.Columns.{Laid}
 use Rattle.store.proofs.Groups.{row_read, room-append, room-rows, rooms-test}
 use Rattle.store.proofs.Reading.{bytes_read, length-made, row_made, ReadFrom, columns-read, rows-read, rows-read-fit, read_back}
@@ -289,61 +285,31 @@ module _ (b : List ℕ) where
   unfolding state_in
   messages-counted = length-made (message_in b) (number b message_count)
 
-  -- the row at a place, by the bytes of its fields
-  pub node-read : (i : ℕ) → i < (plan_in b).n
-      → node_of (state_in b) i
-      ≡ record {
-        emitter = field_at b (emitters.at + i) 1;
-        observer = field_at b (observers.at + i) 1;
-        watch = cell b watches i;
-        heartbeat = cell b heartbeats i;
-        list = cell b dead_lists i;
-        mark = cell b marks i;
-      }
+  -- the row at a place
+  pub node-read : (i : ℕ) → i < (plan_in b).n → node_of (state_in b) i ≡ node_in b i
   unfolding plan_in state_in
-  node-read i h = row_made (node_in b) (number b node_count) i (alone i 0 0) h ∙ rw (one-mul i)
+  node-read i h = row_made (node_in b) (number b node_count) i (alone i 0 0) h
 
-  pub ring-number : (i : ℕ) → i < length (plan_in b).ring → get_or (plan_in b).ring i 0 ≡ field_at b (ring_nodes.at + i) 1
+  pub ring-number : (i : ℕ) → i < length (plan_in b).ring → get_or (plan_in b).ring i 0 ≡ cell b ring_nodes i
   unfolding plan_in
-  ring-number i h =
-      let k : i < number b ring_size = omega (arith, ring-counted) in
-      row_made (cell b ring_nodes) (number b ring_size) i 0 k ∙ rw (one-mul i)
+  ring-number i h = row_made (cell b ring_nodes) (number b ring_size) i 0 (omega (arith, ring-counted))
 
   -- they are the store's own bytes
   pub ring-part : ring_nodes.at + number b ring_size ≤ length b → (plan_in b).ring ≡ slice ring_nodes.at (ring_nodes.at + number b ring_size) b
   unfolding plan_in
   ring-part h = bytes_read b ring_nodes.at ring_nodes.places (number b ring_size) h
 
-  pub crash-read : (i : ℕ) → i < length (plan_in b).crashes
-      → row_at (plan_in b) i ≡ record { tick = cell b crash_ticks i; node = field_at b (crash_nodes.at + i) 1 }
+  pub crash-read : (i : ℕ) → i < length (plan_in b).crashes → row_at (plan_in b) i ≡ crash_row_in b i
   unfolding plan_in
-  crash-read i h =
-      let k : i < number b crash_count = omega (arith, crashes-counted) in
-      row_made (crash_row_in b) (number b crash_count) i (record { tick = 0; node = 0 }) k ∙ rw (one-mul i)
+  crash-read i h = row_made (crash_row_in b) (number b crash_count) i no_crash (omega (arith, crashes-counted))
 
-  pub delay-read : (i : ℕ) → i < length (plan_in b).delays
-      → get_or (plan_in b).delays i (record { number = 0; delay = 0 })
-      ≡ record { number = cell b delay_numbers i; delay = field_at b (delay_ticks.at + i) 1 }
+  pub delay-read : (i : ℕ) → i < length (plan_in b).delays → delay_at (plan_in b) i ≡ delay_row_in b i
   unfolding plan_in
-  delay-read i h =
-      let k : i < number b delay_count = omega (arith, delays-counted) in
-      row_made (delay_row_in b) (number b delay_count) i (record { number = 0; delay = 0 }) k ∙ rw (one-mul i)
+  delay-read i h = row_made (delay_row_in b) (number b delay_count) i _ (omega (arith, delays-counted))
 
-  pub message-read : (i : ℕ) → i < length (state_in b).flight
-      → message_at (state_in b) i
-      ≡ record {
-        number = cell b message_numbers i;
-        kind = field_at b (message_kinds.at + i) 1;
-        from = field_at b (message_senders.at + i) 1;
-        to = field_at b (message_receivers.at + i) 1;
-        subject = field_at b (message_subjects.at + i) 1;
-        due = cell b message_dues i;
-        list = cell b message_lists i;
-      }
+  pub message-read : (i : ℕ) → i < length (state_in b).flight → message_at (state_in b) i ≡ message_in b i
   unfolding state_in
-  message-read i h =
-      let k : i < number b message_count = omega (arith, messages-counted) in
-      row_made (message_in b) (number b message_count) i no_message k ∙ rw (one-mul i)
+  message-read i h = row_made (message_in b) (number b message_count) i no_message (omega (arith, messages-counted))
 
   -- the numbers of the head and of each row are those that the bytes have
   abbrev head : Contents
@@ -417,3 +383,16 @@ module _ (b : List ℕ) where
           message_rows = rows-read-fit b (state_in b).flight (message_in b 0) byte message_parts message-cells;
         };
       }
+
+-- how many there are of each kind of row, and the row at a place
+pub ruleset rows_held = (
+  ring-counted,
+  crashes-counted,
+  delays-counted,
+  messages-counted,
+  node-read,
+  ring-number,
+  crash-read,
+  delay-read,
+  message-read,
+)

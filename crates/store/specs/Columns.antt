@@ -5,13 +5,9 @@ use Rattle.std.specs.Prelude.{◌+◌, ◌-◌, ◌*◌, ◌^◌, ◌<◌, eqb, 
 use Rattle.std.proofs.Math.Seq.{slice}
 use Rattle.fields.specs.Fields.{bytes, field_at, put_at, cleared, zeros}
 use Rattle.store.specs.Gap.{closed}
+use Rattle.store.specs.declared.layout.Field.{Field}
 
--- a field: where its column starts, how many bytes a number has, and for how many numbers there is room
-pub record Field : Type 0 where
-  pub at : ℕ
-  pub width : ℕ
-  pub places : ℕ
-
+-- a field, by where its column starts, how many bytes a number has, and for how many numbers there is room
 abbrev pub field : ℕ → ℕ → ℕ → Field
 field at width places = record { at = at; width = width; places = places }
 

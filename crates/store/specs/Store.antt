@@ -7,7 +7,8 @@ use Rattle.node.specs.declared.Node.{Node}
 use Rattle.plans.specs.Plan.{Plan, Crash, Delay}
 use Rattle.model.specs.Platform.{State, InFlight}
 use Rattle.model.specs.Range.{store_test}
-use Rattle.store.specs.Columns.{Field, Column, Part, field, unused, part, columns_of, cell, number, bytes_of, room_test, unused_test}
+use Rattle.store.specs.declared.layout.Field.{Field}
+use Rattle.store.specs.Columns.{Column, Part, field, unused, part, columns_of, cell, number, bytes_of, room_test, unused_test}
 
 -- ---- the layout: where each field starts, its width and its places
 

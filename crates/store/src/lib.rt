@@ -1,15 +1,16 @@
 // The platform's state in a store of 65,536 lent bytes, read and changed in place. The layout stands in specs/Store.antt.
+// A store is the slice that C lends, and no type of its own: that it has a store's length, or is one, is asked for in the contracts, as by
+// `Sized` and `Held`.
 #![tactic(auto)]
 
 pub mod layout; // layout.rt: where each field starts
-pub mod cells; // cells.rt: numbers of 1, 2 and 4 bytes
 pub mod plan; // plan.rt: the P line, the ring's order, the rows of C and L lines, and what of them is done
 pub mod nodes; // nodes.rt: the nodes
 pub mod messages; // messages.rt: the messages in flight
 pub mod fill; // fill.rt: how a store is begun, and the parts that it is filled with
 
-// A row of a C line.
-#[derive(Clone, Copy)]
+// A row of a C line. Rows are ordered by tick, then node.
+#[derive(Clone, Copy, PartialEq, Eq, PartialOrd, Ord)]
 pub struct CrashRow {
     pub tick: u32,
     pub node: u8,

@@ -1,11 +1,13 @@
 // The nodes.
+#![tactic(auto, using(crate::proofs::Store::rows_held, crate::proofs::States::changes))]
+
 ghost use Rattle.std.specs.Prelude.{◌≡◌, ◌<◌};
 ghost use Rattle.model.specs.Platform.{node_of, start};
 ghost use Rattle.store.specs.Store.{encode, plan_in, state_in};
 ghost use Rattle.store.specs.Inside.{Sized, Held, with_node};
 ghost use Rattle.store.specs.Filling.{Unopened};
 
-use crate::{cells, fill, layout, plan};
+use crate::{fill, layout, plan};
 use node::Node;
 
 // Node i.
@@ -14,19 +16,13 @@ pub fn node_at(s: &[u8], i: usize) -> Node
     requires i_bound { i < (plan_in s.now).n }
     ensures { result ≡ node_of (state_in s.now) i }
 {
-    let emitter = cells::get1(s, layout::EMITTERS + i);
-    let observer = cells::get1(s, layout::OBSERVERS + i);
-    let watch = cells::get4(s, layout::WATCHES + 4 * i);
-    let heartbeat = cells::get4(s, layout::HEARTBEATS + 4 * i);
-    let list = fields::get(s, layout::DEAD_LISTS + 8 * i, 8);
-    let mark = fields::get(s, layout::MARKS + 8 * i, 8);
     Node {
-        emitter,
-        observer,
-        watch,
-        heartbeat,
-        list,
-        mark,
+        emitter: layout::EMITTERS.get(s, i) as u8,
+        observer: layout::OBSERVERS.get(s, i) as u8,
+        watch: layout::WATCHES.get(s, i) as u32,
+        heartbeat: layout::HEARTBEATS.get(s, i) as u32,
+        list: layout::DEAD_LISTS.get(s, i),
+        mark: layout::MARKS.get(s, i),
     }
 }
 
@@ -48,11 +44,9 @@ pub fn open_nodes(s: &mut [u8])
     let n = plan::node_count(s);
     let h = plan::period(s);
     let w = plan::time_out(s);
-    let mut i: usize = 0;
-    while i < n {
+    for i in 0..n {
         let order = plan::ring_order(s, &all[..]);
         let a = node::opened(order, h, w, i as u8);
         set_node(s, i, a);
-        i += 1;
     }
 }

@@ -1,4 +1,6 @@
 // The P line, the ring's order, the rows of C and L lines, the last event's tick, the next message number and how many crash rows are done.
+#![tactic(auto, using(crate::proofs::Store::rows_held, crate::proofs::States::changes), unfolding(crate::specs::Store::plan_in, crate::specs::Store::state_in))]
+
 ghost use Rattle.std.specs.Prelude.{◌≡◌, ◌+◌, ◌^◌, ◌<◌, ◌≤◌, length, get_or, true};
 ghost use Rattle.ring.specs.Ring.{numbers};
 ghost use Rattle.plans.specs.Plan.{plan_test, delay_order, order_of};
@@ -8,14 +10,14 @@ ghost use Rattle.limits.specs.Limits.{store_size, most_nodes};
 ghost use Rattle.store.specs.Store.{encode, plan_in, state_in};
 ghost use Rattle.store.specs.Inside.{Sized, Held, FirstRow, crash_row, delay_at, delay_row, with_tick, crashed, number_taken};
 
-use crate::{CrashRow, DelayRow, cells, layout};
+use crate::{CrashRow, DelayRow, layout};
 
 // N: how many nodes.
 pub fn node_count(s: &[u8]) -> usize
     requires { length s.now ≡ store_size }
     ensures { result ≡ (plan_in s.now).n }
 {
-    cells::get1(s, layout::NODE_COUNT) as usize
+    layout::NODE_COUNT.get(s, 0) as usize
 }
 
 // D: the delay of a message that has no L line, and the longest.
@@ -23,7 +25,7 @@ pub fn longest_delay(s: &[u8]) -> u32
     requires { length s.now ≡ store_size }
     ensures { result ≡ (plan_in s.now).d }
 {
-    cells::get1(s, layout::LONGEST_DELAY) as u32
+    layout::LONGEST_DELAY.get(s, 0) as u32
 }
 
 // H: the heartbeat period.
@@ -31,7 +33,7 @@ pub fn period(s: &[u8]) -> u32
     requires { length s.now ≡ store_size }
     ensures { result ≡ (plan_in s.now).h }
 {
-    cells::get2(s, layout::PERIOD) as u32
+    layout::PERIOD.get(s, 0) as u32
 }
 
 // W: the time-out.
@@ -39,7 +41,7 @@ pub fn time_out(s: &[u8]) -> u32
     requires { length s.now ≡ store_size }
     ensures { result ≡ (plan_in s.now).w }
 {
-    cells::get2(s, layout::TIME_OUT) as u32
+    layout::TIME_OUT.get(s, 0) as u32
 }
 
 // The end tick.
@@ -47,7 +49,7 @@ pub fn end_tick(s: &[u8]) -> u32
     requires { length s.now ≡ store_size }
     ensures { result ≡ (plan_in s.now).end }
 {
-    cells::get4(s, layout::END_TICK)
+    layout::END_TICK.get(s, 0) as u32
 }
 
 // The last event's tick, 0 at opening.
@@ -55,7 +57,7 @@ pub fn last_tick(s: &[u8]) -> u32
     requires { length s.now ≡ store_size }
     ensures { result ≡ (state_in s.now).last }
 {
-    cells::get4(s, layout::LAST_TICK)
+    layout::LAST_TICK.get(s, 0) as u32
 }
 
 // The number of the next message.
@@ -63,7 +65,7 @@ pub fn next_number(s: &[u8]) -> u64
     requires { length s.now ≡ store_size }
     ensures { result ≡ (state_in s.now).next }
 {
-    fields::get(s, layout::NEXT_NUMBER, 8)
+    layout::NEXT_NUMBER.get(s, 0)
 }
 
 // How many C rows are done.
@@ -71,7 +73,7 @@ pub fn crashes_done(s: &[u8]) -> usize
     requires { length s.now ≡ store_size }
     ensures { result ≡ (state_in s.now).done }
 {
-    cells::get1(s, layout::CRASHES_DONE) as usize
+    layout::CRASHES_DONE.get(s, 0) as usize
 }
 
 // How many numbers the Q line has, 0 where there is none.
@@ -79,7 +81,7 @@ pub fn ring_size(s: &[u8]) -> usize
     requires { length s.now ≡ store_size }
     ensures { result ≡ length (plan_in s.now).ring }
 {
-    cells::get1(s, layout::RING_SIZE) as usize
+    layout::RING_SIZE.get(s, 0) as usize
 }
 
 // How many C rows there are.
@@ -87,7 +89,7 @@ pub fn crash_count(s: &[u8]) -> usize
     requires { length s.now ≡ store_size }
     ensures { result ≡ length (plan_in s.now).crashes }
 {
-    cells::get1(s, layout::CRASH_COUNT) as usize
+    layout::CRASH_COUNT.get(s, 0) as usize
 }
 
 // How many L rows there are.
@@ -95,7 +97,7 @@ pub fn delay_count(s: &[u8]) -> usize
     requires { length s.now ≡ store_size }
     ensures { result ≡ length (plan_in s.now).delays }
 {
-    cells::get2(s, layout::DELAY_COUNT) as usize
+    layout::DELAY_COUNT.get(s, 0) as usize
 }
 
 // The number at a place of the Q line.
@@ -104,7 +106,7 @@ pub fn ring_at(s: &[u8], i: usize) -> u8
     requires i_in_bounds { i < length (plan_in s.now).ring }
     ensures { result ≡ get_or (plan_in s.now).ring i 0 }
 {
-    cells::get1(s, layout::RING_NODES + i)
+    layout::RING_NODES.get(s, i) as u8
 }
 
 // The ring's order: the store's own part with the numbers of the Q line, or, where there is none, the first N of all, which are in number order.
@@ -119,18 +121,20 @@ pub fn ring_order<'a>(s: &'a [u8], all: &'a [u8]) -> &'a [u8]
         let n = node_count(s);
         return &all[..n];
     }
-    &s[layout::RING_NODES..layout::RING_NODES + size]
+    let first = layout::RING_NODES.at;
+    &s[first..first + size]
 }
 
-// The C row at a place.
+// The C row at a place. C and L rows have a function each, as they are of two types.
 pub fn crash_at(s: &[u8], i: usize) -> CrashRow
     requires sized { Sized s.now }
     requires i_in_bounds { i < length (plan_in s.now).crashes }
     ensures { result ≡ crash_row (row_at (plan_in s.now) i) }
 {
-    let tick = cells::get4(s, layout::CRASH_TICKS + 4 * i);
-    let node = cells::get1(s, layout::CRASH_NODES + i);
-    CrashRow { tick, node }
+    CrashRow {
+        tick: layout::CRASH_TICKS.get(s, i) as u32,
+        node: layout::CRASH_NODES.get(s, i) as u8,
+    }
 }
 
 // The crashed nodes as a dead list.
@@ -140,13 +144,9 @@ pub fn crashed_list(s: &[u8]) -> u64
     requires s_in_bounds { (state_in s.now).done ≤ length (plan_in s.now).crashes }
     ensures { result ≡ crashed_list (plan_in s.now) (state_in s.now).done }
 {
-    let done = crashes_done(s);
     let mut dead: u64 = 0;
-    let mut i: usize = 0;
-    while i < done {
-        let row = crash_at(s, i);
-        dead = ring::with_listed(dead, row.node);
-        i += 1;
+    for i in 0..crashes_done(s) {
+        dead = ring::with_listed(dead, crash_at(s, i).node);
     }
     dead
 }
@@ -157,12 +157,13 @@ pub fn delay_at(s: &[u8], i: usize) -> DelayRow
     requires i_in_bounds { i < length (plan_in s.now).delays }
     ensures { result ≡ delay_row (delay_at (plan_in s.now) i) }
 {
-    let number = cells::get4(s, layout::DELAY_NUMBERS + 4 * i);
-    let delay = cells::get1(s, layout::DELAY_TICKS + i);
-    DelayRow { number, delay }
+    DelayRow {
+        number: layout::DELAY_NUMBERS.get(s, i) as u32,
+        delay: layout::DELAY_TICKS.get(s, i) as u8,
+    }
 }
 
-// The first L row whose number is not below `number`.
+// The first L row whose number is not below `number`. The numbers stand in the store as bytes, where `partition_point` finds no slice to search.
 fn first_row(s: &[u8], number: u64) -> usize
     requires sized { Sized s.now }
     requires s_value { delay_order (plan_in s.now).delays ≡ true }
@@ -172,7 +173,7 @@ fn first_row(s: &[u8], number: u64) -> usize
     let mut high = delay_count(s);
     while low < high {
         let middle = low + (high - low) / 2;
-        let here = fields::get(s, layout::DELAY_NUMBERS + 4 * middle, 4);
+        let here = layout::DELAY_NUMBERS.get(s, middle);
         if here < number {
             low = middle + 1;
         } else {
@@ -189,20 +190,14 @@ pub fn delay_of(s: &[u8], number: u64) -> u32
     ensures { result ≡ delay_of (plan_in s.now) number }
 {
     let rows = delay_count(s);
-    if rows == 0 {
-        return longest_delay(s);
-    }
-    if fields::get(s, layout::DELAY_NUMBERS + 4 * (rows - 1), 4) < number {
+    if rows == 0 || layout::DELAY_NUMBERS.get(s, rows - 1) < number {
         return longest_delay(s);
     }
     let i = first_row(s, number);
-    if i == rows {
+    if i == rows || layout::DELAY_NUMBERS.get(s, i) != number {
         return longest_delay(s);
     }
-    if fields::get(s, layout::DELAY_NUMBERS + 4 * i, 4) != number {
-        return longest_delay(s);
-    }
-    cells::get1(s, layout::DELAY_TICKS + i) as u32
+    layout::DELAY_TICKS.get(s, i) as u32
 }
 
 // The last event's tick becomes t.
@@ -210,7 +205,7 @@ pub fn set_tick(s: &mut [u8], t: u32)
     requires { Held s.old }
     ensures { s.new ≡ encode (plan_in s.old) (with_tick (state_in s.old) t) }
 {
-    fields::put(s, layout::LAST_TICK, 4, t as u64);
+    layout::LAST_TICK.put(s, 0, t as u64);
 }
 
 // One C row more is done.
@@ -219,7 +214,7 @@ pub fn crash_done(s: &mut [u8])
     ensures { s.new ≡ encode (plan_in s.old) (crashed (state_in s.old)) }
 {
     let done = crashes_done(s) as u64;
-    fields::put(s, layout::CRASHES_DONE, 1, done + 1);
+    layout::CRASHES_DONE.put(s, 0, done + 1);
 }
 
 // The next message number is given away.
@@ -229,5 +224,5 @@ pub fn number_taken(s: &mut [u8])
     ensures { s.new ≡ encode (plan_in s.old) (number_taken (state_in s.old)) }
 {
     let number = next_number(s);
-    fields::put(s, layout::NEXT_NUMBER, 8, number + 1);
+    layout::NEXT_NUMBER.put(s, 0, number + 1);
 }

@@ -8,10 +8,8 @@ use mathlib.Core.Bool.{true, false, cond, and-eq-true_iff}
 use mathlib.Core.List.{List, [], ◌∷◌, ◌++◌}
 use lib.ListN.{length, drop, get_or, drop_of_length-le, length-append}
 use lib.Dec.{leb, ltb}
-use borrow.Author.Tests.{leb-true, eq-eqb, ne_eqb, lt-ltb, le-ltb}
-use Rattle.text.specs.declared.Number.{Number}
-use Rattle.text.specs.declared.Number.TheVariants.{Value, NoNumber}
-use Rattle.text.specs.Number.{digit, ceiling, digits_from, number_at, shown, decimal}
+use borrow.Author.Tests.{leb-true, lt-ltb, le-ltb}
+use Rattle.text.specs.Number.{digit, ceiling, digits_from, shown, decimal}
 use Rattle.text.specs.Put.{Put}
 use Rattle.text.proofs.PutLaws.{drop-next, put-kept, put_then}
 
@@ -22,18 +20,15 @@ digit-range b e =
     let p = (and-eq-true_iff (leb 48 b) (leb b 57)).0 e in
     (leb-true 48 b p.0, leb-true b 57 p.1)
 
-value-eq : {m n : ℕ} (i : ℕ) → m ≡ n → Value m i ≡ Value n i
-value-eq i e = ap (λ (k : ℕ). Value k i) e
-
 -- digits after a value told up to the ceiling are read as after the value
 pub capped : (a i : ℕ) (s : List ℕ) → digits_from (min a ceiling) i s ≡ digits_from a i s
-capped a i [] = value-eq i (omega arith)
+capped a i [] = ap (λ (k : ℕ). (k, i)) (omega arith)
 capped a i (b ∷ s) =
-    ap (λ (d : Number). cond (digit b) d (Value (min (min a ceiling) ceiling) i))
+    ap (λ (d : ℕ × ℕ). cond (digit b) d (min (min a ceiling) ceiling, i))
     (sym (capped (min a ceiling * 10 + (b - 48)) (i + 1) s)
     ∙ ap (λ (n : ℕ). digits_from n (i + 1) s) (omega arith)
     ∙ capped (a * 10 + (b - 48)) (i + 1) s)
-    ∙ ap (λ (d : Number). cond (digit b) (digits_from (a * 10 + (b - 48)) (i + 1) s) d) (value-eq i (omega arith))
+    ∙ ap (λ (k : ℕ). cond (digit b) (digits_from (a * 10 + (b - 48)) (i + 1) s) (k, i)) (omega arith)
 
 module _ (s : List ℕ) (n i : ℕ) where
   -- a digit at i
@@ -42,29 +37,15 @@ module _ (s : List ℕ) (n i : ℕ) where
   digit-more m h e f = rw (drop-next s i h, e, f) (sym (capped (n * 10 + (get_or s i 0 - 48)) (i + 1) (drop (i + 1) s)))
 
   -- no digit at i
-  pub digit-stop : i < length s → n ≤ ceiling → digit (get_or s i 0) ≡ false → digits_from n i (drop i s) ≡ Value n i
-  digit-stop h m e = rw (drop-next s i h, e) (value-eq i (omega arith))
+  pub digit-stop : i < length s → n ≤ ceiling → digit (get_or s i 0) ≡ false → digits_from n i (drop i s) ≡ (n, i)
+  digit-stop h m e = rw (drop-next s i h, e) (ap (λ (k : ℕ). (k, i)) (omega arith))
 
   -- nothing at i
-  pub digit-end : length s ≤ i → n ≤ ceiling → digits_from n i (drop i s) ≡ Value n i
-  digit-end h m = rw (drop_of_length-le s h) (value-eq i (omega arith))
+  pub digit-end : length s ≤ i → n ≤ ceiling → digits_from n i (drop i s) ≡ (n, i)
+  digit-end h m = rw (drop_of_length-le s h) (ap (λ (k : ℕ). (k, i)) (omega arith))
 
--- what stands at a place, by the tests of the code
-module _ (s : List ℕ) (at : ℕ) where
-  pub number-none : length s ≤ at → number_at s at ≡ NoNumber
-  number-none h = rw (drop_of_length-le s h)
-
-  pub number-zero : at < length s → get_or s at 0 ≡ 48 → number_at s at ≡ Value 0 (at + 1)
-  number-zero h e = rw (drop-next s at h, eq-eqb _ _ e)
-
-  pub number-bad : at < length s → (get_or s at 0 ≡ 48 → ⊥) → digit (get_or s at 0) ≡ false → number_at s at ≡ NoNumber
-  number-bad h n e = rw (drop-next s at h, ne_eqb _ _ n, e)
-
-  pub number_digits : at < length s → (get_or s at 0 ≡ 48 → ⊥) → digit (get_or s at 0) ≡ true → number_at s at ≡ digits_from 0 at (drop at s)
-  number_digits h n e = rw (drop-next s at h, ne_eqb _ _ n, e)
-
--- for a number that is a zero
-pub ruleset zero_read = (number-zero)
+-- for digits that are read one by one
+pub ruleset digits_read = (digit-more, digit-stop, digit-end)
 
 tenth : (f n : ℕ) → n < 10 ^ suc f → n / 10 < 10 ^ f
 tenth f n h = let p : 0 < 10 = omega arith in (div-lt_iff_lt-mul p).1 (rw (pow-suc 10 f) at h)

@@ -10,9 +10,17 @@ use mathlib.Core.List.{List, [], ◌∷◌, ◌++◌, append_assoc}
 use lib.ListN.{length, drop, length-append}
 use lib.Dec.{eqb}
 use borrow.Author.Tests.{ne_eqb, le-leb, eqb-true, eqb-false}
-use Rattle.text.specs.declared.Number.TheVariants.{Value, NoNumber}
+use Rattle.std.specs.Prelude.{Some, None}
+use Rattle.std.proofs.lemmas.Option.{same_Some}
 use Rattle.text.specs.Number.{digit, ceiling, digits_from, number_from, decimal}
 use Rattle.text.proofs.NumberLaws.{digit-range, decimal-small, decimal-more}
+
+-- the number v was read, and the place after it is j
+abbrev Reads : ℕ × ℕ → ℕ → ℕ → Type 0
+Reads p v j = p ≡ (v, j)
+
+number-of-read : (p : ℕ × ℕ) (v j : ℕ) → Reads p v j → (p.0 ≡ v) × (p.1 ≡ j)
+number-of-read p v j e = (ap (λ (q : ℕ × ℕ). q.0) e, ap (λ (q : ℕ × ℕ). q.1) e)
 
 -- a value above 0 with one digit more
 decimal_digit : (a b : ℕ) → 0 < a → a < ceiling → digit b ≡ true → decimal (a * 10 + (b - 48)) ≡ decimal a ++ (b ∷ [])
@@ -26,29 +34,28 @@ decimal_digit a b p l e =
 abbrev Took : ℕ → ℕ → List ℕ → ℕ → ℕ → Type 0
 Took a i s v j = (k : ℕ) × (j ≡ i + k) × (k ≤ length s) × (decimal a ++ s ≡ decimal v ++ drop k s)
 
-took-none : (a i : ℕ) (s : List ℕ) (v j : ℕ) → Value (min a ceiling) i ≡ Value v j → v < ceiling → Took a i s v j
+took-none : (a i : ℕ) (s : List ℕ) (v j : ℕ) → Reads (min a ceiling, i) v j → v < ceiling → Took a i s v j
 took-none a i s v j e h =
-    let p : min a ceiling ≡ v = cc in
-    let q : i ≡ j = cc in
+    let r = number-of-read (min a ceiling, i) v j e in
     let w : a ≡ v = omega arith in
     (0, omega arith, zero-le, rw w)
 
 -- digits only add to a value
-grows : (a i : ℕ) (s : List ℕ) (v j : ℕ) → digits_from a i s ≡ Value v j → min a ceiling ≤ v
-grows a i [] v j e = let p : min a ceiling ≡ v = cc in omega arith
+grows : (a i : ℕ) (s : List ℕ) (v j : ℕ) → digits_from a i s ≡ (v, j) → min a ceiling ≤ v
+grows a i [] v j e = let r = number-of-read (min a ceiling, i) v j e in omega arith
 grows a i (b ∷ s) v j e = by (digit b) e (grows (a * 10 + (b - 48)) (i + 1) s v j)
   where
-    by : (t : Bool) → cond t (digits_from (a * 10 + (b - 48)) (i + 1) s) (Value (min a ceiling) i) ≡ Value v j
-        → (digits_from (a * 10 + (b - 48)) (i + 1) s ≡ Value v j → min (a * 10 + (b - 48)) ceiling ≤ v) → min a ceiling ≤ v
+    by : (t : Bool) → cond t (digits_from (a * 10 + (b - 48)) (i + 1) s) ((min a ceiling, i)) ≡ (v, j)
+        → (digits_from (a * 10 + (b - 48)) (i + 1) s ≡ (v, j) → min (a * 10 + (b - 48)) ceiling ≤ v) → min a ceiling ≤ v
     by true e ih = omega (arith, ih e)
-    by false e ih = let p : min a ceiling ≡ v = cc in omega arith
+    by false e ih = let r = number-of-read (min a ceiling, i) v j e in omega arith
 
-pub took : (a i : ℕ) (s : List ℕ) (v j : ℕ) → digits_from a i s ≡ Value v j → v < ceiling → 0 < a → Took a i s v j
+pub took : (a i : ℕ) (s : List ℕ) (v j : ℕ) → digits_from a i s ≡ (v, j) → v < ceiling → 0 < a → Took a i s v j
 took a i [] v j e h p = took-none a i [] v j e h
 took a i (b ∷ s) v j e h p = by (grows a i (b ∷ s) v j e) (digit b) refl e (λ d. took (a * 10 + (b - 48)) (i + 1) s v j d h (omega arith))
   where
-    by : min a ceiling ≤ v → (t : Bool) → digit b ≡ t → cond t (digits_from (a * 10 + (b - 48)) (i + 1) s) (Value (min a ceiling) i) ≡ Value v j
-        → (digits_from (a * 10 + (b - 48)) (i + 1) s ≡ Value v j → Took (a * 10 + (b - 48)) (i + 1) s v j) → Took a i (b ∷ s) v j
+    by : min a ceiling ≤ v → (t : Bool) → digit b ≡ t → cond t (digits_from (a * 10 + (b - 48)) (i + 1) s) ((min a ceiling, i)) ≡ (v, j)
+        → (digits_from (a * 10 + (b - 48)) (i + 1) s ≡ (v, j) → Took (a * 10 + (b - 48)) (i + 1) s v j) → Took a i (b ∷ s) v j
     by small true t d ih =
         let r = ih d in
         let joined : decimal a ++ (b ∷ s) ≡ decimal (a * 10 + (b - 48)) ++ s = rw (decimal_digit a b p (omega arith) t, append_assoc) in
@@ -65,27 +72,27 @@ one-digit b e =
     let m : 48 + (0 * 10 + (b - 48)) ≡ b = omega arith in
     decimal-small (0 * 10 + (b - 48)) (omega arith) ∙ rw m
 
-pub read-trip : (i : ℕ) (s : List ℕ) (v j : ℕ) → number_from i s ≡ Value v j → v < ceiling → Trip i s v j
+pub read-trip : (i : ℕ) (s : List ℕ) (v j : ℕ) → number_from i s ≡ Some (v, j) → v < ceiling → Trip i s v j
 read-trip i [] v j e h = let z : ◌≡◌ {A = ℕ} 0 1 = cc in absurd (omega arith)
 read-trip i (b ∷ s) v j e h = zero? (eqb b 48) refl e
   where
-    zero-case : b ≡ 48 → Value 0 (i + 1) ≡ Value v j → Trip i (b ∷ s) v j
+    zero-case : b ≡ 48 → Reads (0, i + 1) v j → Trip i (b ∷ s) v j
     zero-case z d =
-        let p : 0 ≡ v = cc in
-        let q : i + 1 ≡ j = cc in
+        let r = number-of-read (0, i + 1) v j d in
+        let p : 0 ≡ v = r.0 in
         (1, omega arith, suc-le-suc zero-le, rw (z, ← p, decimal-small 0 (omega arith)))
 
     digits-case : digit b ≡ true → (b ≡ 48 → ⊥) → Took (0 * 10 + (b - 48)) (i + 1) s v j → Trip i (b ∷ s) v j
     digits-case t n r = (suc r.0, omega (arith, r.1), suc-le-suc r.2, ap (λ (l : List ℕ). l ++ s) (sym (one-digit b t)) ∙ r.3)
 
     run : (t : Bool) → digit b ≡ t → (b ≡ 48 → ⊥)
-        → cond t (cond t (digits_from (0 * 10 + (b - 48)) (i + 1) s) (Value (min 0 ceiling) i)) NoNumber ≡ Value v j → Trip i (b ∷ s) v j
-    run true t n d = let r = digit-range b t in digits-case t n (took (0 * 10 + (b - 48)) (i + 1) s v j d h (omega arith))
+        → cond t (Some (cond t (digits_from (0 * 10 + (b - 48)) (i + 1) s) (min 0 ceiling, i))) None ≡ Some (v, j) → Trip i (b ∷ s) v j
+    run true t n d = let r = digit-range b t in digits-case t n (took (0 * 10 + (b - 48)) (i + 1) s v j (same_Some _ _ d) h (omega arith))
     run false t n d = let z : ◌≡◌ {A = ℕ} 0 1 = cc in absurd (omega arith)
 
-    zero? : (t : Bool) → eqb b 48 ≡ t → cond t (Value 0 (i + 1)) (cond (digit b) (digits_from 0 i (b ∷ s)) NoNumber) ≡ Value v j
+    zero? : (t : Bool) → eqb b 48 ≡ t → cond t (Some (0, i + 1)) (cond (digit b) (Some (digits_from 0 i (b ∷ s))) None) ≡ Some (v, j)
         → Trip i (b ∷ s) v j
-    zero? true t d = zero-case (eqb-true b 48 t) d
+    zero? true t d = zero-case (eqb-true b 48 t) (same_Some _ _ d)
     zero? false t d = run (digit b) refl (eqb-false b 48 t) d
 
 -- digits of n, then no digit
@@ -121,13 +128,13 @@ head-by (suc f) n h big p = elim (dec_lt n 10) [
   | no q ↦ head_more n (omega arith) big (head-by f (n / 10) (omega arith) (omega arith) (omega arith))
 ]
 
-number_of : (n i : ℕ) (r : List ℕ) → n < 10 ^ 20 → 0 < n → number_from i (decimal n ++ r) ≡ digits_from 0 i (decimal n ++ r)
+number_of : (n i : ℕ) (r : List ℕ) → n < 10 ^ 20 → 0 < n → number_from i (decimal n ++ r) ≡ Some (digits_from 0 i (decimal n ++ r))
 number_of n i r big p =
     let w = head-by (suc n) n (omega arith) big p in
     rw (w.2, ne_eqb w.0 48 w.3, w.4)
 
 -- a number that was written is read again
 pub write-trip : (n i b : ℕ) (r : List ℕ) → n < 10 ^ 20 → digit b ≡ false
-    → number_from i (decimal n ++ b ∷ r) ≡ Value (min n ceiling) (i + length (decimal n))
-write-trip zero i b r big e = rw (decimal-small 0 (omega arith)) (ap (λ (k : ℕ). Value k (i + 1)) (omega arith))
-write-trip (suc n) i b r big e = number_of (suc n) i (b ∷ r) big (omega arith) ∙ spelled (suc n) i (b ∷ r) big ∙ rw e
+    → number_from i (decimal n ++ b ∷ r) ≡ Some (min n ceiling, i + length (decimal n))
+write-trip zero i b r big e = rw (decimal-small 0 (omega arith)) (ap (λ (k : ℕ). Some (k, i + 1)) (omega arith))
+write-trip (suc n) i b r big e = number_of (suc n) i (b ∷ r) big (omega arith) ∙ rw (spelled (suc n) i (b ∷ r) big, e)

@@ -3,11 +3,12 @@ use Prim.Native.Nat.{ℕ, ◌+◌, ◌≤◌, ◌<◌}
 use native.Mathlib.Omega.{arith}
 use native.Mathlib.Numerals.{add-one}
 use native.Mathlib.Nat.{add_assoc}
-use mathlib.Core.Path.{◌≡◌, sym, ap, ◌∙◌, subst}
+use mathlib.Core.Path.{◌≡◌, refl, sym, ap, ◌∙◌, subst}
 use mathlib.Core.List.{List, [], ◌∷◌, ◌++◌, append_assoc, append-nil}
-use lib.ListN.{length, take, drop, set, get_or, length-append, length-take, length-drop, take-append-drop}
+use lib.ListN.{length, take, drop, set, get_or, drop_of_length-le, length-append, length-take, length-drop, take-append-drop}
 use lib.Seq.{drop-cons, take_at, drop_at, drop-drop, set_split}
-use Rattle.text.specs.Put.{put, Put}
+use Rattle.text.specs.Put.{put, Put, Writes}
+use Rattle.text.specs.declared.Writer.{Writer}
 
 -- the rest of a list from i on, where it has a byte there
 pub drop-next : (s : List ℕ) (i : ℕ) → i < length s → drop i s ≡ get_or s i 0 ∷ drop (i + 1) s
@@ -40,11 +41,6 @@ put_then {l} {m} {k} {at} {r} {q} {t} {u} h p s = record {
   bytes = s.bytes ∙ (rw (p.next, p.bytes) (put-put l at t u h));
 }
 
--- a comma, then a text
-pub put-comma : {l m k : List ℕ} {at r q : ℕ} {u : List ℕ} → at + length (44 ∷ u) ≤ length l → Put l at (44 ∷ []) r m → Put m r u q k
-    → Put l at (44 ∷ u) q k
-put-comma h p s = put_then (omega arith) p s
-
 -- a put keeps the length
 pub put-kept : {l m : List ℕ} {at r : ℕ} {t : List ℕ} → at + length t ≤ length l → Put l at t r m → length m ≡ length l
 put-kept {l} {m} {at} {r} {t} h p = ap length p.bytes ∙ put-length l at t h
@@ -53,6 +49,29 @@ put-kept {l} {m} {at} {r} {t} h p = ap length p.bytes ∙ put-length l at t h
 pub put-text : {l m : List ℕ} {at r : ℕ} {t u : List ℕ} → t ≡ u → Put l at t r m → Put l at u r m
 put-text {l} {m} {at} {r} e p = subst (λ (v : List ℕ). Put l at v r m) e p
 
+-- a writer of one text and then of another is one of both
+pub writes_then : {w v u : Writer} {t s : List ℕ} → w.at + length t ≤ length w.out.now → Writes w v t → Writes v u s → Writes w u (t ++ s)
+writes_then h a b = record { same = b.same ∙ a.same; size = b.size ∙ a.size; put = put_then h a.put b.put }
+
+-- what was written is known by any name of its text
+pub writes-text : {w v : Writer} {t u : List ℕ} → t ≡ u → Writes w v t → Writes w v u
+writes-text e a = record { same = a.same; size = a.size; put = put-text e a.put }
+
+-- a text in two parts that has room has room for the first
+pub first-part : (w : Writer) (whole t s : List ℕ) → whole ≡ t ++ s → w.at + length whole ≤ length w.out.now → w.at + length t ≤ length w.out.now
+first-part w whole t s e h = omega (arith, ap length e, length-append t s, h)
+
+-- for the second, once the first is written
+pub second-part : {w v : Writer} (whole : List ℕ) {t : List ℕ} (s : List ℕ) → whole ≡ t ++ s → w.at + length whole ≤ length w.out.now → Writes w v t
+    → v.at + length s ≤ length v.out.now
+second-part {w} whole {t} s e h a =
+    omega (arith, ap length e, length-append t s, h, a.put.next, a.size)
+
+-- and with both it is written
+pub both-parts : {w v u : Writer} (whole : List ℕ) {t s : List ℕ} → whole ≡ t ++ s → w.at + length whole ≤ length w.out.now → Writes w v t
+    → Writes v u s → Writes w u whole
+both-parts {w} whole {t} {s} e h a b = writes-text (sym e) (writes_then (first-part w whole t s e h) a b)
+
 -- nothing put changes nothing
 pub put-none : (l : List ℕ) (at : ℕ) → Put l at [] at l
 unfolding put
@@ -60,3 +79,10 @@ put-none l at = record { next = omega arith; bytes = sym (rw (append-nil, zero_m
   where
     zero_more : at + 0 ≡ at
     zero_more = omega arith
+
+-- nothing written changes nothing
+pub writes-none : (w : Writer) → Writes w w []
+writes-none w = record { same = refl; size = refl; put = put-none w.out.now w.at }
+
+-- for what is read from a place on
+pub ruleset rest = (drop-next, drop_of_length-le)

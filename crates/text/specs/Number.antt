@@ -1,8 +1,6 @@
 -- Decimal numbers as bytes. Document 01, 'Run file and log': 'Numbers have no sign, space or leading zero.' Assumes nothing.
-use Rattle.std.specs.Prelude.{ℕ, zero, suc, ◌+◌, ◌-◌, ◌*◌, ◌/◌, ◌%◌, min, Bool}
+use Rattle.std.specs.Prelude.{ℕ, zero, suc, ◌+◌, ◌-◌, ◌*◌, ◌/◌, ◌%◌, min, Bool, Option, Some, None}
 use Rattle.std.specs.Prelude.{cond, ◌&&◌, List, [], ◌∷◌, ◌++◌, drop, leb, ltb, eqb}
-use Rattle.text.specs.declared.Number.{Number}
-use Rattle.text.specs.declared.Number.TheVariants.{Value, NoNumber}
 
 -- the bytes of the digits 0 and 9
 abbrev pub digit_zero : ℕ
@@ -19,19 +17,19 @@ abbrev pub ceiling : ℕ
 ceiling = 10000000
 
 -- the digits at the start of s, read on from the value a, where s stands at the place i: the value, and the place after the last digit
-abbrev pub digits_from : ℕ → ℕ → List ℕ → Number
-digits_from a i [] = Value (min a ceiling) i
-digits_from a i (b ∷ s) = cond (digit b) (digits_from (a * 10 + (b - digit_zero)) (i + 1) s) (Value (min a ceiling) i)
+abbrev pub digits_from : ℕ → ℕ → List ℕ → ℕ × ℕ
+digits_from a i [] = (min a ceiling, i)
+digits_from a i (b ∷ s) = cond (digit b) (digits_from (a * 10 + (b - digit_zero)) (i + 1) s) (min a ceiling, i)
 
--- the number at the start of s, which stands at the place i: 0 alone, or digits of which the first is not 0
-abbrev pub number_from : ℕ → List ℕ → Number
-number_from i [] = NoNumber
+-- the number at the start of s, which stands at the place i: 0 alone, or digits of which the first is not 0; and the place after it
+abbrev pub number_from : ℕ → List ℕ → Option (ℕ × ℕ)
+number_from i [] = None
 number_from i (b ∷ s) =
-    cond (eqb b digit_zero) (Value 0 (i + 1))
-    (cond (digit b) (digits_from 0 i (b ∷ s)) NoNumber)
+    cond (eqb b digit_zero) (Some (0, i + 1))
+    (cond (digit b) (Some (digits_from 0 i (b ∷ s))) None)
 
 -- the number at the place `at` of s
-abbrev pub number_at : List ℕ → ℕ → Number
+abbrev pub number_at : List ℕ → ℕ → Option (ℕ × ℕ)
 number_at s at = number_from at (drop at s)
 
 -- the digits of n, of which there are at most f, the most significant first

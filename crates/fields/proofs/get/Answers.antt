@@ -1,33 +1,50 @@
 -- `fields::get` meets its contract. Assumes nothing.
-use native.Mathlib.Nat.{sub_self}
+use Prim.Native.Nat.{◌<◌, ◌+◌, ◌-◌}
+use mathlib.Core.Path.{refl}
+use native.Mathlib.Nat.{pow-suc}
+use lib.Arith.{digits_lt}
 use lib.Dec.{lit<}
-use Prim.Native.Nat.{◌+◌, ◌-◌}
-use mathlib.Core.Path.{◌∙◌}
-use Rattle.fields.proofs.Fields.{field_lt, got-start, got-turn, got-end, got-fits, got-room}
+use lib.ListN.{length, take, drop}
+use Rattle.std.proofs.lemmas.Iterator.Adapters.{YieldsList-from_rev_slice}
+use Rattle.std.proofs.lemmas.Iterator.Consumers.{YieldsList-turn, YieldsList-end}
+use Rattle.std.proofs.lemmas.List.{length_push, map-append}
+use Rattle.fields.specs.Fields.{value}
+use Rattle.fields.proofs.Fields.{got-room, got-more, got-all, part-bound}
 use borrow.Author.Rules.{rules}
 use native.Mathlib.Omega.{arith}
+use native.Mathlib.Numerals.{add-one}
 use Rattle.fields.proofs.get.Goals as goal
 
-pub loop-i-init : goal.loop-i-init
-loop-i-init c = (search rules, got-start _ _ _, rw (sub_self) (lit< tt))
+pub loop-b-init : goal.loop-b-init
+unfolding value
+loop-b-init c = (tt, tt, refl, lit< tt)
 
-pub overflow_cast-b : goal.overflow_cast-b
-overflow_cast-b c = omega (arith, c.shared_slice_known-1.given (c.args.at + (c.loop-i.i - 1)))
-
+-- what has been read leaves room for another byte
 pub overflow_mul-x : goal.overflow_mul-x
 overflow_mul-x c =
-    omega (arith, got-room _ _ _ c.loop-i.invariant.2 c.loop-i-test.true c.requires.1)
+    let l = c.loop-b in
+    let part = take (c.args.at + c.args.width - c.args.at) (drop c.args.at c.args.s.now) in
+    let turn = YieldsList-turn (YieldsList-from_rev_slice part (cc)) l.yielded _ l.yielded_by _ _ c.in-Some.b c.in-Some.is c.next.ensures.steps in
+    omega (arith, got-room l.x (length l.yielded) c.args.width l.invariant.3 (part-bound _ _ _ _ turn.0) c.requires.1)
 
 pub overflow_add-x : goal.overflow_add-x
 overflow_add-x c =
-    let byte = c.shared_slice_known-1.given (c.args.at + (c.loop-i.i - 1)) in
-    omega (arith, got-room _ _ _ c.loop-i.invariant.2 c.loop-i-test.true c.requires.1)
+    let l = c.loop-b in
+    let part = take (c.args.at + c.args.width - c.args.at) (drop c.args.at c.args.s.now) in
+    let turn = YieldsList-turn (YieldsList-from_rev_slice part (cc)) l.yielded _ l.yielded_by _ _ c.in-Some.b c.in-Some.is c.next.ensures.steps in
+    let byte : c.in-Some.b.now < 256 = search rules in
+    omega (arith, byte, got-room l.x (length l.yielded) c.args.width l.invariant.3 (part-bound _ _ _ _ turn.0) c.requires.1)
 
-pub loop-i-preserved : goal.loop-i-preserved
-loop-i-preserved c =
-    let a = c.args in
-    let e = got-turn a.s.now a.at a.width c.loop-i.i c.loop-i-test.true c.loop-i.invariant.0 c.requires.0 in
-    (search rules, rw c.loop-i.invariant.1 e, rw (c.loop-i.invariant.1, e) (field_lt _ _ _ (λ k. (c.shared_slice_known-1.given k).fits)))
+pub loop-b-preserved : goal.loop-b-preserved
+loop-b-preserved c =
+    let l = c.loop-b in
+    let byte : c.in-Some.b.now < 256 = search rules in
+    let less = digits_lt l.invariant.3 byte in
+    (tt, tt, rw (map-append, c.from.ensures, ← got-more, l.invariant.2), rw (length_push, add-one, pow-suc, c.from.ensures) less)
 
 pub returns : goal.returns
-returns c = (search (got-end, ◌∙◌, rules), search (got-fits, rules))
+returns c =
+    let l = c.loop-b in
+    let part = take (c.args.at + c.args.width - c.args.at) (drop c.args.at c.args.s.now) in
+    let end = YieldsList-end (YieldsList-from_rev_slice part (cc)) l.yielded _ l.yielded_by _ _ c.in-None.is c.next.ensures.steps in
+    got-all _ _ _ _ _ _ c.requires.0 l.invariant.2 l.invariant.3 end.0 end.1

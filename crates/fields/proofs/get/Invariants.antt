@@ -1,11 +1,12 @@
 -- `fields::get` meets its contract. Assumes nothing.
-use Prim.Native.Nat.{◌+◌, ◌-◌, ◌^◌, ◌≤◌, ◌<◌}
+use Prim.Native.Nat.{◌^◌, ◌<◌}
 use mathlib.Core.Path.{◌≡◌}
-use Rattle.fields.specs.Fields.{field_at}
+use mathlib.Core.List.{map, reverse}
+use lib.ListN.{length}
+use Rattle.fields.specs.Fields.{value}
 use Rattle.fields.proofs.get.Given as goal
 
-abbrev pub invariant-loop-i : goal.invariant-loop-i
-invariant-loop-i l = (l.i ≤ l.width) × (l.x ≡ field_at l.s (l.at + l.i) (l.width - l.i)) × (l.x < 256 ^ (l.width - l.i))
-
-abbrev pub decreases-loop-i : goal.decreases-loop-i
-decreases-loop-i l = l.i
+abbrev pub invariant-loop-b : goal.invariant-loop-b
+invariant-loop-b l =
+    (goal.iterator-loop-b).can_next l.b-iterator × (goal.iterator-loop-b).is_finite l.b-iterator
+    × (l.x ≡ value (reverse (map (λ y. y.now) l.yielded))) × (l.x < 256 ^ length l.yielded)

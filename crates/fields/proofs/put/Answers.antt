@@ -1,14 +1,10 @@
 -- `fields::put` meets its contract. Assumes nothing.
-use mathlib.Core.Path.{refl, sym, ◌∙◌}
-use Rattle.fields.proofs.Fields.{put-start, put-turn, put-end}
-use borrow.Author.Rules.{rules}
+use mathlib.Core.Path.{sym, ◌∙◌}
+use Rattle.fields.proofs.Fields.{put-turn, put-end}
 use Rattle.fields.proofs.put.Goals as goal
 
-pub loop-i-init : goal.loop-i-init
-loop-i-init c = (search rules, refl, put-start _ _ _ _)
-
 pub loop-i-preserved : goal.loop-i-preserved
-loop-i-preserved c = (search rules, search rules, c.loop-i.invariant.2 ∙ put-turn _ _ _ _ _ c.loop-i-test.true)
+loop-i-preserved c = c.loop-i.invariant ∙ put-turn _ _ _ _ c.loop-i-test.true
 
 pub returns : goal.returns
-returns c = sym (c.loop-i.invariant.2 ∙ put-end _ _ _ _ _ c.loop-i.invariant.0 c.loop-i-test.false)
+returns c = sym (c.loop-i.invariant ∙ put-end _ _ _ _ c.loop-i-test.false)

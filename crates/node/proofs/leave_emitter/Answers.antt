@@ -16,22 +16,19 @@ pub returns-then-found-me : goal.returns-then-found-me
 returns-then-found-me c =
     let d = c.with_listed-list.ensures in
     let k = c.with_listed-mark.ensures in
-    let quiet = c.quiet.ensures ∙ ap (λ n. turned (silent n)) c.lone.ensures in
-    turned-passed _ _ _ [] _ quiet c.with_passed.ensures
+    turned-passed _ _ [] _ (c.quiet.ensures ∙ ap (λ n. turned (silent n)) c.lone.ensures)
     ∙ ap turned (sym (leaving-alone _ _ _ _ _ _ _ _ _ d k c.place_of-p.ensures c.find_back-found.ensures
     c.if-found-me.true))
 
 pub relay-requires : goal.relay-requires
 relay-requires c =
-    let sent = turned-passed _ _ _ (message O _ 0 ∷ []) _ c.sends_one.ensures c.with_passed-turned.ensures in
-    let one = turned-count _ (turn _ (message O _ 0 ∷ []) _) sent in
+    let one = turned-count _ (turn _ (message O _ 0 ∷ []) 0) c.sends_one.ensures in
     search rules
 
 pub returns : goal.returns
 returns c =
     let d = c.with_listed-list.ensures in
     let k = c.with_listed-mark.ensures in
-    let sent = turned-passed _ _ _ (message O _ 0 ∷ []) _ c.sends_one.ensures c.with_passed-turned.ensures in
-    c.relay.ensures ∙ ap (relayed _ _ _) sent
+    c.relay.ensures ∙ ap (relayed _ _ _) (turned-passed _ _ (message O _ 0 ∷ []) _ c.sends_one.ensures)
     ∙ sym (leaving-moves _ _ _ _ _ _ _ _ _ d k c.place_of-p.ensures c.find_back-found.ensures
     c.if-found-me.false (search rules) _ refl)

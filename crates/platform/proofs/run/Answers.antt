@@ -5,7 +5,8 @@ use Rattle.platform.proofs.Answers.{run-bad, run-next}
 use Rattle.platform.proofs.run.Goals as goal
 
 pub returns-then-not-in_range : goal.returns-then-not-in_range
-returns-then-not-in_range c = let r = run-bad _ _ (fails c.in_range.ensures c.if-not-in_range.true-raw) in record { value = r.0; store_after = r.1 }
+returns-then-not-in_range c =
+    let r = run-bad _ _ (fails c.in_range.ensures c.if-not-in_range.true-raw) in record { value = r.value; store_after = r.store_after }
 
 pub run_ready-requires : goal.run_ready-requires
 run_ready-requires c =
@@ -14,5 +15,6 @@ run_ready-requires c =
 
 pub returns : goal.returns
 returns c =
-    let r = run-next _ _ (holds c.in_range.ensures c.if-not-in_range.false-raw) (c.run_ready.ensures.value, c.run_ready.ensures.store_after) in
-    record { value = r.0; store_after = r.1 }
+    let u = c.run_ready.ensures in
+    let r = run-next _ _ (holds c.in_range.ensures c.if-not-in_range.false-raw) (record { value = u.value; store_after = u.store_after }) in
+    record { value = r.value; store_after = r.store_after }

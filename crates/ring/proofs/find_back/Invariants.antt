@@ -11,6 +11,3 @@ use Rattle.ring.proofs.find_back.Given as goal
 abbrev pub invariant-loop-s : goal.invariant-loop-s
 invariant-loop-s l =
     (l.passed + l.s ≡ length l.order) × (back l.order l.d l.p ≡ after l.passed (first_unlisted l.d (reverse (take l.s (round l.order l.p)))))
-
-abbrev pub decreases-loop-s : goal.decreases-loop-s
-decreases-loop-s l = l.s

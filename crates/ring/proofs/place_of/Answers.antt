@@ -1,16 +1,13 @@
 -- `ring::place_of` meets its contract. Assumes nothing.
-use mathlib.Core.Path.{sym, ◌∙◌}
-use borrow.Author.Rules.{rules}
-use Rattle.ring.proofs.Searches.{place-hit, place-pass, place-done}
+use Rattle.std.proofs.Common.{rules, tests, nat_eq, ◌∙◌}
+use Rattle.std.proofs.lemmas.Iterator.Search.{position_from_yields_List}
+use Rattle.std.proofs.lemmas.Iterator.{YieldsList-from_slice}
+use Rattle.ring.proofs.Searches.{place-found}
 use Rattle.ring.proofs.place_of.Goals as goal
 
-pub returns-then-order-p : goal.returns-then-order-p
-returns-then-order-p c =
-    sym (c.loop-p.invariant.1 ∙ place-hit _ _ _ c.loop-p-test.true c.if-order-p.true)
-
-pub loop-p-preserved : goal.loop-p-preserved
-loop-p-preserved c =
-    (search rules, c.loop-p.invariant.1 ∙ place-pass _ _ _ c.loop-p-test.true c.if-order-p.false)
-
 pub returns : goal.returns
-returns c = sym (c.loop-p.invariant.1 ∙ place-done _ _ _ c.loop-p-test.false)
+returns c =
+    let p =
+    position_from_yields_List (λ x. nat_eq x c.args.i) _ _ _ c.position.ensures.ran (YieldsList-from_slice c.args.order.now cc)
+    (λ x b q k. search (rules, tests)) in
+    c.unwrap_or.ensures ∙ place-found _ _ _ p

@@ -1,10 +1,8 @@
--- `runfile::has_numbers` meets its contract. The invariant: the numbers are there where those that are left are. Assumes nothing.
+-- `runfile::has_numbers` meets its contract: the numbers that are left stand from the place i on. Assumes nothing.
+use Prim.Native.Nat.{◌-◌}
 use mathlib.Core.Path.{◌≡◌}
 use Rattle.runfile.specs.Reader.{numbers_there}
 use Rattle.runfile.proofs.has_numbers.Given as goal
 
-abbrev pub invariant-loop-left : goal.invariant-loop-left
-invariant-loop-left l = numbers_there l.n l.l 1 ≡ numbers_there l.left l.l l.i
-
-abbrev pub decreases-loop-left : goal.decreases-loop-left
-decreases-loop-left l = l.left
+abbrev pub invariant-loop : goal.invariant-loop
+invariant-loop l = numbers_there l.n l.l 1 ≡ numbers_there (l.n - l.counter) l.l l.i

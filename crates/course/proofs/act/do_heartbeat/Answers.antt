@@ -1,6 +1,7 @@
 -- `course::act::do_heartbeat` meets its contract. Assumes nothing.
 use Rattle.event.proofs.Doing.{beat-timer, timer-byte}
-use Rattle.course.proofs.Events.{timer-asks, timer-settling, timer-stepped}
+use Rattle.course.proofs.Events.{timer-asks, timer-settling, timer-taken, timer-down}
+use Rattle.std.proofs.lemmas.Result.{err_from_is_err_and}
 use native.Mathlib.Omega.{arith}
 use Rattle.course.proofs.act.do_heartbeat.Goals as goal
 
@@ -31,5 +32,11 @@ settle-requires c =
 pub returns : goal.returns
 returns c =
     λ whole k next.
-    let u = c.heartbeat_turn-u in
-    timer-stepped k (beat-timer whole k.ready _ _ next) u.ensures c.heartbeat_deed-deed.ensures _ _ _ c.settle.ensures
+    timer-taken k (beat-timer whole k.ready _ _ next) c.heartbeat_turn-u.ensures c.heartbeat_deed-deed.ensures _ _ _ c.in_ok-settle.ensures
+
+pub returns-in_err-settle : goal.returns-in_err-settle
+returns-in_err-settle c =
+    λ whole k next.
+    let p = err_from_is_err_and c.from_residual.result c.from_residual.ensures.1 in
+    rw (p.1, p.2)
+    (timer-down k (beat-timer whole k.ready _ _ next) c.heartbeat_turn-u.ensures c.heartbeat_deed-deed.ensures _ _ _ _ c.in_err-settle.ensures)

@@ -1,5 +1,4 @@
 -- `course::carry::list` meets its contract. Assumes nothing.
-use Prim.Native.Nat.{◌-◌, ◌≤◌}
 use mathlib.Core.Path.{◌≡◌}
 use lib.ListN.{length, take}
 use Rattle.store.specs.Store.{state_in}
@@ -7,7 +6,4 @@ use Rattle.course.specs.Carry.{Listed}
 use Rattle.course.proofs.carry.list.Given as goal
 
 abbrev pub invariant-loop-i : goal.invariant-loop-i
-invariant-loop-i l = (l.i ≤ l.n) × (l.n ≡ length (state_in l.b).flight) × Listed l.q l.i (take l.i (state_in l.b).flight)
-
-abbrev pub decreases-loop-i : goal.decreases-loop-i
-decreases-loop-i l = l.n - l.i
+invariant-loop-i l = (l.n ≡ length (state_in l.b).flight) × Listed l.q l.i (take l.i (state_in l.b).flight)

@@ -2,16 +2,8 @@
 use Rattle.course.proofs.Carrying.{apart-emptied}
 use Rattle.course.proofs.carry.put_back.Goals as goal
 
-pub by_number-n-requires : goal.by_number-n-requires
-by_number-n-requires c = (_, c.requires.2.holds)
-
 pub append-requires : goal.append-requires
-append-requires c =
-    let p = c.requires in
-    (p.0, apart-emptied _ _ _ _ p.0 p.1 p.2 _ _ c.by_number-n.ensures)
+append-requires c = let p = c.requires in let s = c.sort.ensures in (p.0, rw c.sort.ensures (apart-emptied _ _ _ _ p.0 p.1 p.2))
 
 pub returns : goal.returns
-returns c =
-    λ whole r s.
-    let listed = c.by_number-n.ensures in
-    c.append.ensures whole (apart-emptied _ _ _ _ whole r s _ _ listed)
+returns c = λ whole r s. c.append.ensures whole (rw c.sort.ensures (apart-emptied _ _ _ _ whole r s))

@@ -22,76 +22,72 @@ overflow_add-end c =
     let e = ap (λ (z : Plan). z.end) (apart-plan k.apart) in
     omega (arith, c.end_tick-end.ensures, e, (ready-plain p.whole k.ready).end≤)
 
-pub message_tick-due-requires : goal.message_tick-due-requires
-message_tick-due-requires c =
-    (_, c.requires.underway.apart.holds)
-
 pub timers-requires : goal.timers-requires
 timers-requires c =
-    let l = looked c.args.c c.end_tick-end.ensures c.earliest_crash-crash.ensures c.message_tick-due.ensures in
+    let l = looked c.args.c.now c.message_tick.result c.end_tick-end.ensures c.earliest_crash-crash.ensures c.message_tick.ensures c.unwrap_or-due.ensures in
     let p = c.requires in
     let k = p.underway in
-    let h = c.if-bound-crash.true in
+    let h = c.if-c-crash.true in
     let quiet = chosen-quiet k l h (omega (arith, h, c.if-crash-due.true)) in
     record { whole = p.whole; underway = k; quiet = quiet; room = p.room }
 
-pub returns-then-bound-crash : goal.returns-then-bound-crash
-returns-then-bound-crash c =
+pub returns-then-c-crash : goal.returns-then-c-crash
+returns-then-c-crash c =
     λ whole k.
-    let l = looked c.args.c c.end_tick-end.ensures c.earliest_crash-crash.ensures c.message_tick-due.ensures in
-    let h = c.if-bound-crash.true in
+    let l = looked c.args.c.now c.message_tick.result c.end_tick-end.ensures c.earliest_crash-crash.ensures c.message_tick.ensures c.unwrap_or-due.ensures in
+    let h = c.if-c-crash.true in
     let quiet = chosen-quiet k l h (omega (arith, h, c.if-crash-due.true)) in
     c.timers.ensures whole k quiet
 
 pub returns-then-end-crash : goal.returns-then-end-crash
 returns-then-end-crash c =
     λ whole k.
-    let l = looked c.args.c c.end_tick-end.ensures c.earliest_crash-crash.ensures c.message_tick-due.ensures in
-    chosen-ended k l (omega (arith, c.if-crash-due.true)) c.if-bound-crash.false c.if-end-crash.true
+    let l = looked c.args.c.now c.message_tick.result c.end_tick-end.ensures c.earliest_crash-crash.ensures c.message_tick.ensures c.unwrap_or-due.ensures in
+    chosen-ended k l (omega (arith, c.if-crash-due.true)) c.if-c-crash.false c.if-end-crash.true
 
 pub do_crash-requires : goal.do_crash-requires
 do_crash-requires c =
-    let l = looked c.args.c c.end_tick-end.ensures c.earliest_crash-crash.ensures c.message_tick-due.ensures in
+    let l = looked c.args.c.now c.message_tick.result c.end_tick-end.ensures c.earliest_crash-crash.ensures c.message_tick.ensures c.unwrap_or-due.ensures in
     let p = c.requires in
     let k = p.underway in
-    let next = chosen-crash k l (omega (arith, c.if-crash-due.true)) c.if-bound-crash.false c.if-end-crash.false in
+    let next = chosen-crash k l (omega (arith, c.if-crash-due.true)) c.if-c-crash.false c.if-end-crash.false in
     record { q = _; whole = p.whole; underway = k; node = _; next = next }
 
 pub returns-then-crash-due : goal.returns-then-crash-due
 returns-then-crash-due c =
     λ whole k.
-    let l = looked c.args.c c.end_tick-end.ensures c.earliest_crash-crash.ensures c.message_tick-due.ensures in
-    let next = chosen-crash k l (omega (arith, c.if-crash-due.true)) c.if-bound-crash.false c.if-end-crash.false in
+    let l = looked c.args.c.now c.message_tick.result c.end_tick-end.ensures c.earliest_crash-crash.ensures c.message_tick.ensures c.unwrap_or-due.ensures in
+    let next = chosen-crash k l (omega (arith, c.if-crash-due.true)) c.if-c-crash.false c.if-end-crash.false in
     c.do_crash.ensures _ whole _ k next
 
-pub timers-requires-then-bound-due : goal.timers-requires-then-bound-due
-timers-requires-then-bound-due c =
-    let l = looked c.args.c c.end_tick-end.ensures c.earliest_crash-crash.ensures c.message_tick-due.ensures in
+pub timers-requires-then-c-due : goal.timers-requires-then-c-due
+timers-requires-then-c-due c =
+    let l = looked c.args.c.now c.message_tick.result c.end_tick-end.ensures c.earliest_crash-crash.ensures c.message_tick.ensures c.unwrap_or-due.ensures in
     let p = c.requires in
     let k = p.underway in
-    let h = c.if-bound-due.true in
+    let h = c.if-c-due.true in
     let quiet = chosen-quiet k l (omega (arith, h, c.if-crash-due.false)) h in
     record { whole = p.whole; underway = k; quiet = quiet; room = p.room }
 
-pub returns-then-bound-due : goal.returns-then-bound-due
-returns-then-bound-due c =
+pub returns-then-c-due : goal.returns-then-c-due
+returns-then-c-due c =
     λ whole k.
-    let l = looked c.args.c c.end_tick-end.ensures c.earliest_crash-crash.ensures c.message_tick-due.ensures in
-    let h = c.if-bound-due.true in
+    let l = looked c.args.c.now c.message_tick.result c.end_tick-end.ensures c.earliest_crash-crash.ensures c.message_tick.ensures c.unwrap_or-due.ensures in
+    let h = c.if-c-due.true in
     let quiet = chosen-quiet k l (omega (arith, h, c.if-crash-due.false)) h in
-    c.timers-then-bound-due.ensures whole k quiet
+    c.timers-then-c-due.ensures whole k quiet
 
 pub do_message-requires : goal.do_message-requires
 do_message-requires c =
-    let l = looked c.args.c c.end_tick-end.ensures c.earliest_crash-crash.ensures c.message_tick-due.ensures in
+    let l = looked c.args.c.now c.message_tick.result c.end_tick-end.ensures c.earliest_crash-crash.ensures c.message_tick.ensures c.unwrap_or-due.ensures in
     let p = c.requires in
     let k = p.underway in
-    let delivers = chosen-message k l (omega (arith, c.if-crash-due.false)) (omega (arith, c.if-bound-due.false)) in
+    let delivers = chosen-message k l (omega (arith, c.if-crash-due.false)) (omega (arith, c.if-c-due.false)) in
     record { whole = p.whole; underway = k; delivers = delivers; room = p.room }
 
 pub returns : goal.returns
 returns c =
     λ whole k.
-    let l = looked c.args.c c.end_tick-end.ensures c.earliest_crash-crash.ensures c.message_tick-due.ensures in
-    let delivers = chosen-message k l (omega (arith, c.if-crash-due.false)) (omega (arith, c.if-bound-due.false)) in
+    let l = looked c.args.c.now c.message_tick.result c.end_tick-end.ensures c.earliest_crash-crash.ensures c.message_tick.ensures c.unwrap_or-due.ensures in
+    let delivers = chosen-message k l (omega (arith, c.if-crash-due.false)) (omega (arith, c.if-c-due.false)) in
     c.do_message.ensures whole k delivers

@@ -1,78 +1,42 @@
 -- `dispatcher::turns::give` meets its contract. Assumes nothing.
 use native.Mathlib.Omega.{arith}
-use Rattle.dispatcher.proofs.Giving.{turning-first, turning-place, turning-size, ends-used, ends-none}
-use Rattle.dispatcher.proofs.Giving.{turn_inside, turn-ready, turn-fits, turning-on}
+use Rattle.dispatcher.proofs.Giving.{turning-first, ends-used, ends-none, turn_inside, turn-ready, turn-fits, turning-on}
 use Rattle.dispatcher.proofs.turns.give.Goals as goal
 
-pub able_at_first-able-requires : goal.able_at_first-able-requires
-able_at_first-able-requires c = c.requires.whole
+pub loop-given-init : goal.loop-given-init
+loop-given-init c = turning-first _ _ _ _ _ c.requires.whole.0 c.requires.whole.1 c.requires.le_each c.at_first-tallies.ensures
 
-pub loop-left-init : goal.loop-left-init
-loop-left-init c =
-    turning-first _ _ _ _ _ c.requires.whole.0 c.requires.whole.1 c.requires.le_each c.able_at_first-able.ensures
-
-pub next_marked-next-requires : goal.next_marked-next-requires
-next_marked-next-requires c = turning-place c.loop-left.invariant
-
-pub overflow_sub-turns : goal.overflow_sub-turns
-overflow_sub-turns c =
-    omega (arith, c.loop-left.invariant.gives.count)
-
-pub shape_of-part-in-Nowhere : goal.shape_of-part-in-Nowhere
-shape_of-part-in-Nowhere c =
-    turning-size c.loop-left.invariant
-
-pub returns-in-Nowhere : goal.returns-in-Nowhere
-returns-in-Nowhere c =
-    let r = ends-none c.loop-left.invariant c.next_marked-next.ensures c.in-Nowhere.is c.answer.ensures in record { value = r.0; part_after = r.1 }
+pub returns-in_default : goal.returns-in_default
+returns-in_default c =
+    let r = ends-none c.loop-given.invariant c.next_able.ensures c.in_default.not-Some c.answer.ensures in record { value = r.0; part_after = r.1 }
 
 pub overflow_mul-start : goal.overflow_mul-start
 overflow_mul-start c =
-    let l = c.loop-left in
-    let inside = turn_inside l.invariant c.next_marked-next.ensures c.loop-left-test.true c.in-At.is in
-    omega (arith, inside, l.invariant.whole.most)
+    let w = c.loop-given.invariant in
+    omega (arith, turn_inside w c.next_able.ensures c.loop-given-test.true c.in-Some.is, w.whole.most)
 
 pub overflow_add-end : goal.overflow_add-end
 overflow_add-end c =
-    let l = c.loop-left in
-    let inside = turn_inside l.invariant c.next_marked-next.ensures c.loop-left-test.true c.in-At.is in
-    omega (arith, inside, l.invariant.whole.most)
+    let w = c.loop-given.invariant in
+    omega (arith, turn_inside w c.next_able.ensures c.loop-given-test.true c.in-Some.is, w.whole.most)
 
 pub slice_bounds-run_ready-end : goal.slice_bounds-run_ready-end
 slice_bounds-run_ready-end c =
-    let l = c.loop-left in
-    let inside = turn_inside l.invariant c.next_marked-next.ensures c.loop-left-test.true c.in-At.is in
-    omega (arith, inside, l.invariant.gives.size)
+    let w = c.loop-given.invariant in
+    omega (arith, turn_inside w c.next_able.ensures c.loop-given-test.true c.in-Some.is, w.gives.size)
 
 pub run_ready-ran-requires : goal.run_ready-ran-requires
-run_ready-ran-requires c =
-    let l = c.loop-left in
-    turn-ready l.invariant c.next_marked-next.ensures c.loop-left-test.true c.in-At.is
+run_ready-ran-requires c = turn-ready c.loop-given.invariant c.next_able.ensures c.loop-given-test.true c.in-Some.is
 
-pub tallied-t-requires : goal.tallied-t-requires
-tallied-t-requires c =
-    let l = c.loop-left in
-    let inside = turn_inside l.invariant c.next_marked-next.ensures c.loop-left-test.true c.in-At.is in record {
-      i_bound = omega (arith, inside, l.invariant.whole.most);
-      ran_bound = turn-fits l.invariant c.next_marked-next.ensures c.loop-left-test.true c.in-At.is
-          c.run_ready-ran.ensures.value;
-    }
+pub after-requires : goal.after-requires
+after-requires c =
+    turn-fits c.loop-given.invariant c.next_able.ensures c.loop-given-test.true c.in-Some.is c.run_ready-ran.ensures.value
 
-pub overflow_add-at : goal.overflow_add-at
-overflow_add-at c =
-    let l = c.loop-left in
-    let inside = turn_inside l.invariant c.next_marked-next.ensures c.loop-left-test.true c.in-At.is in
-    omega (arith, inside, l.invariant.whole.most)
-
-pub loop-left-preserved : goal.loop-left-preserved
-loop-left-preserved c =
-    let l = c.loop-left in
-    turning-on l.invariant c.next_marked-next.ensures c.loop-left-test.true c.in-At.is
-    c.run_ready-ran.ensures.value c.run_ready-ran.ensures.store_after c.tallied-t.ensures
-
-pub shape_of-part : goal.shape_of-part
-shape_of-part c = turning-size c.loop-left.invariant
+pub loop-given-preserved : goal.loop-given-preserved
+loop-given-preserved c =
+    let r = c.run_ready-ran.ensures in
+    turning-on c.loop-given.invariant c.next_able.ensures c.loop-given-test.true c.in-Some.is r.value r.store_after c.after.ensures
 
 pub returns : goal.returns
 returns c =
-    let r = ends-used c.loop-left.invariant c.loop-left-test.false c.answer-2.ensures in record { value = r.0; part_after = r.1 }
+    let r = ends-used c.loop-given.invariant (omega arith) (omega arith) c.answer-2.ensures in record { value = r.0; part_after = r.1 }

@@ -2,8 +2,5 @@
 use Rattle.dispatcher.proofs.Giving.{Turning}
 use Rattle.dispatcher.proofs.turns.give.Given as goal
 
-abbrev pub invariant-loop-left : goal.invariant-loop-left
-invariant-loop-left l = Turning l.initial.part l.n l.each l.turns l.left l.at l.part l.t
-
-abbrev pub decreases-loop-left : goal.decreases-loop-left
-decreases-loop-left l = l.left
+abbrev pub invariant-loop-given : goal.invariant-loop-given
+invariant-loop-given l = Turning l.initial.part l.n l.each l.turns l.given l.at l.part l.tallies

@@ -6,7 +6,8 @@ use Rattle.store.specs.Store.{state_in}
 use mathlib.Core.Path.{◌∙◌}
 use Rattle.event.proofs.Readiness.{held-sized, ready-crashes, ready-acting}
 use Rattle.event.proofs.Doing.{event-tick, message-here, message-place, message-sender, message-subject, message-count, message-turns}
-use Rattle.event.proofs.Doing.{turn-of, rest-room, message-done, taken-left}
+use Rattle.std.proofs.lemmas.Result.{err_from_is_err_and}
+use Rattle.event.proofs.Doing.{turn-of, message-refused, rest-room, message-done, taken-left}
 use native.Mathlib.Omega.{arith}
 use Rattle.event.proofs.act.do_message.Goals as goal
 
@@ -33,10 +34,6 @@ message_turn-u-requires c =
       t_le_most_tick = (t, to, from, of);
     }
 
-pub message_count-requires : goal.message_count-requires
-message_count-requires c =
-    c.requires.ready.held.size
-
 pub overflow_sub-message_count : goal.overflow_sub-message_count
 overflow_sub-message_count c =
     omega (arith, c.message_count.ensures, message-here _ c.requires.ready _ _ c.requires.next_is)
@@ -48,6 +45,15 @@ overflow_add-message_count c =
     let is = u.ensures ∙ turn-of _ c.requires.ready _ _ c.requires.next_is _ m.ensures in
     let k = message-count _ c.requires.ready _ _ c.requires.next_is _ m.ensures _ is in
     omega (arith, c.message_count.ensures, c.requires.ready.held.fits.counts.messages, k)
+
+pub returns-in_err-room : goal.returns-in_err-room
+returns-in_err-room c =
+    let p = c.requires in
+    let m = c.message_at-m in
+    let is = c.message_turn-u.ensures ∙ turn-of _ p.ready _ _ p.next_is _ m.ensures in
+    let out = err_from_is_err_and c.from_residual.result c.from_residual.ensures.1 in
+    rw (out.1, out.2, c.in_err-room.ensures.1) (message-refused _ p.ready _ _ p.next_is _ m.ensures _ is
+    (omega (arith, c.in_err-room.ensures.0, c.message_count.ensures)))
 
 pub message_deed-deed-requires : goal.message_deed-deed-requires
 message_deed-deed-requires c =
@@ -65,7 +71,7 @@ take_turn-requires c =
     let u = c.message_turn-u in
     let m = c.message_at-m in
     let is = u.ensures ∙ turn-of _ c.requires.ready _ _ c.requires.next_is _ m.ensures in
-    message-turns _ c.requires.ready _ _ c.requires.next_is _ m.ensures _ is (omega (arith, c.message_count.ensures))
+    message-turns _ c.requires.ready _ _ c.requires.next_is _ m.ensures _ is (omega (arith, c.message_count.ensures, c.in_ok-room.ensures))
     _ c.take_message.ensures
 
 pub returns : goal.returns
@@ -74,7 +80,7 @@ returns c =
     let m = c.message_at-m in
     let is = u.ensures ∙ turn-of _ c.requires.ready _ _ c.requires.next_is _ m.ensures in
     let room : length (state_in c.args.s.now).flight - 1 + u.result.count ≤ most_in_flight =
-    omega (arith, c.message_count.ensures) in
+    omega (arith, c.message_count.ensures, c.in_ok-room.ensures) in
     let k = rest-room _ c.requires.ready _ _ c.requires.next_is _ m.ensures _ is room _ c.take_message.ensures in
     let listed = c.is_listed.ensures in
     let line = c.message_deed-deed.ensures in

@@ -1,49 +1,49 @@
 -- `event::act::send_all` meets its contract. Assumes nothing.
-use mathlib.Core.Path.{refl}
-use Rattle.event.proofs.Turning.{sending-starts, sending-held, sending-test, sending-number, sending-next, sending-all}
+use Rattle.std.proofs.Common.{◌<◌, ◌≤◌, ◌≡◌, length, take, arith, ap, List, get_or, ◌∙◌}
+use Rattle.std.proofs.lemmas.List.{get_or-take}
+use Rattle.node.specs.declared.Message.{Message}
+use Rattle.node.specs.declared.Turned.{Turned}
+use Rattle.limits.specs.Limits.{most_sent}
+use lib.ListN.{length-take}
+use Rattle.event.proofs.Turning.{sending-starts, sending-held, sending-test, sending-number, sending-next}
 use Rattle.event.proofs.Turning.{stamp-held, stamp-room}
-use borrow.Author.Rules.{rules}
-use native.Mathlib.Omega.{arith}
 use Rattle.event.proofs.act.send_all.Goals as goal
 
-pub loop-i-init : goal.loop-i-init
-loop-i-init c =
-    (search rules, sending-starts c.args.s.now c.args.t c.args.x c.args.u c.requires.held, refl)
+-- as many messages as the turn counts
+count-sent : (u : Turned) → length u.sent ≡ most_sent → u.count ≤ most_sent → length (take u.count u.sent) ≡ u.count
+count-sent u full few = omega (arith, length-take u.count u.sent)
 
-pub bounds-sent-i : goal.bounds-sent-i
-bounds-sent-i c =
-    omega (arith, c.loop-i-test.true, c.requires.few, c.requires.full)
+pub loop-m-init : goal.loop-m-init
+loop-m-init c = sending-starts c.args.s.now c.args.t c.args.x c.args.u c.requires.held
 
 pub stamp-f-requires : goal.stamp-f-requires
 stamp-f-requires c =
-    let l = c.loop-i in
-    let h = sending-held c.args.s.now c.args.t c.args.x c.args.u c.requires l.i l.s l.invariant.1 in
-    let n =
-    sending-number c.args.s.now c.args.t c.args.x c.args.u c.requires l.i l.s l.invariant.1 c.loop-i-test.true in
+    let l = c.loop-m in
+    let less : l.m-index < c.args.u.count = omega (arith, count-sent c.args.u c.requires.full c.requires.few, ap length c.messages-m-items.ensures) in
     record {
-      held = (h, sending-test c.args.s.now c.args.t c.args.x c.args.u c.requires l.i l.s l.invariant.1);
-      t_le_most_tick = (c.requires.tick, n);
+      held = (
+        sending-held c.args.s.now c.args.t c.args.x c.args.u c.requires l.m-index l.s l.invariant,
+        sending-test c.args.s.now c.args.t c.args.x c.args.u c.requires l.m-index l.s l.invariant,
+      );
+      t_le_most_tick = (c.requires.tick, sending-number c.args.s.now c.args.t c.args.x c.args.u c.requires l.m-index l.s l.invariant less);
     }
 
 pub put_message-requires : goal.put_message-requires
 put_message-requires c =
-    let l = c.loop-i in
-    let t = c.loop-i-test.true in
+    let l = c.loop-m in
+    let less : l.m-index < c.args.u.count = omega (arith, count-sent c.args.u c.requires.full c.requires.few, ap length c.messages-m-items.ensures) in
     let e = c.stamp-f.ensures.s_after in
-    let h = stamp-held c.args.s.now c.args.t c.args.x c.args.u c.requires l.i l.s l.invariant.1 t _ e in
     record {
-      held = h;
-      s_len_bound = stamp-room c.args.s.now c.args.t c.args.x c.args.u c.requires l.i l.s l.invariant.1 t _ e;
+      held = stamp-held c.args.s.now c.args.t c.args.x c.args.u c.requires l.m-index l.s l.invariant less _ e;
+      s_len_bound = stamp-room c.args.s.now c.args.t c.args.x c.args.u c.requires l.m-index l.s l.invariant less _ e;
     }
 
-pub loop-i-preserved : goal.loop-i-preserved
-loop-i-preserved c =
-    let l = c.loop-i in
+pub loop-m-preserved : goal.loop-m-preserved
+loop-m-preserved c =
+    let l = c.loop-m in
+    let less : l.m-index < c.args.u.count = omega (arith, count-sent c.args.u c.requires.full c.requires.few, ap length c.messages-m-items.ensures) in
     let e = c.stamp-f.ensures in
-    let t = c.loop-i-test.true in
-    let f = sending-next c.args.s.now c.args.t c.args.x c.args.u c.requires l.i l.s l.invariant.1 t _ e.s_after _ _ refl in
-    let n = f _ e.result_value _ c.put_message.ensures in
-    (search rules, n, search rules)
-
-pub returns : goal.returns
-returns c = let l = c.loop-i in sending-all _ _ _ _ l.i _ _ l.invariant.0 c.loop-i-test.false l.invariant.1
+    let none : Message = record { kind = 0; to = 0; subject = 0; list = 0 } in
+    let item = ap (λ (ms : List Message). get_or ms l.m-index none) c.messages-m-items.ensures in
+    sending-next c.args.s.now c.args.t c.args.x c.args.u c.requires l.m-index l.s l.invariant less _ e.s_after none _
+    (item ∙ get_or-take c.args.u.count c.args.u.sent l.m-index none less) _ e.result_value _ c.put_message.ensures

@@ -1,12 +1,6 @@
--- `event::act::send_all` meets its contract. Assumes nothing.
-use Prim.Native.Nat.{◌-◌, ◌≤◌}
-use mathlib.Core.Path.{◌≡◌}
-use lib.ListN.{length}
+-- `event::act::send_all` meets its contract. The loop's invariant: the messages before this one are sent. Assumes nothing.
 use Rattle.event.proofs.Turning.{Sending}
 use Rattle.event.proofs.act.send_all.Given as goal
 
-abbrev pub invariant-loop-i : goal.invariant-loop-i
-invariant-loop-i l = (l.i ≤ l.count) × Sending l.initial.s l.t l.x l.sent l.i l.s × (length l.s ≡ length l.initial.s)
-
-abbrev pub decreases-loop-i : goal.decreases-loop-i
-decreases-loop-i l = l.count - l.i
+abbrev pub invariant-loop-m : goal.invariant-loop-m
+invariant-loop-m l = Sending l.fn.s l.t l.x l.fn.u.sent l.m-index l.s

@@ -2,13 +2,6 @@
 use Rattle.event.proofs.Turning.{moved-turns, turn-taken}
 use Rattle.event.proofs.act.take_turn.Goals as goal
 
-pub put_turn-requires : goal.put_turn-requires
-put_turn-requires c =
-    record {
-      held = c.requires.held;
-      t_le_most_tick = (c.requires.tick, c.requires.place);
-    }
-
 pub send_all-requires : goal.send_all-requires
 send_all-requires c =
     moved-turns _ _ _ _ c.requires _ c.put_turn.ensures

@@ -2,19 +2,10 @@
 use mathlib.Core.Path.{sym}
 use native.Mathlib.Numerals.{add-one}
 use Rattle.store.specs.Store.{plan_in, state_in}
-use Rattle.event.proofs.Readiness.{acting-plain, held-sized}
+use Rattle.event.proofs.Readiness.{acting-plain}
 use Rattle.event.proofs.Searching.{crashes-over, crash-first}
 use native.Mathlib.Omega.{arith}
 use Rattle.event.proofs.search.earliest_crash.Goals as goal
-
-pub crashes_done-done-requires : goal.crashes_done-done-requires
-crashes_done-done-requires c = c.requires.held.size
-
-pub crash_count-requires : goal.crash_count-requires
-crash_count-requires c = c.requires.held.size
-
-pub end_tick-requires : goal.end_tick-requires
-end_tick-requires c = c.requires.held.size
 
 pub overflow_add-result : goal.overflow_add-result
 overflow_add-result c = omega (arith, c.end_tick.ensures, (acting-plain _ c.requires).end≤)
@@ -23,13 +14,6 @@ pub returns-then-crash_count-done : goal.returns-then-crash_count-done
 returns-then-crash_count-done c =
     rw (c.end_tick.ensures, add-one) (sym (crashes-over (plan_in c.args.s.now) (state_in c.args.s.now)
     (omega (arith, c.if-crash_count-done.true, c.crash_count.ensures, c.crashes_done-done.ensures))))
-
-pub crash_at-row-requires : goal.crash_at-row-requires
-crash_at-row-requires c =
-    record {
-      sized = held-sized _ c.requires.held;
-      i_in_bounds = omega (arith, c.if-crash_count-done.false, c.crash_count.ensures);
-    }
 
 pub returns : goal.returns
 returns c =

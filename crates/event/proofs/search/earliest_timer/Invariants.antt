@@ -1,7 +1,5 @@
--- `event::search::earliest_timer` meets its contract. Assumes nothing.
-use Prim.Native.Nat.{◌-◌, ◌≤◌}
-use mathlib.Core.Path.{◌≡◌}
-use lib.ListN.{drop}
+-- `event::search::earliest_timer` meets its contract. The loop's invariant: the timers from x on decide, with the earliest so far. Assumes nothing.
+use Rattle.std.proofs.Common.{◌≡◌, drop}
 use Rattle.model.specs.Platform.{timer_entries}
 use Rattle.store.specs.Store.{plan_in, state_in}
 use Rattle.event.specs.Search.{least_tick}
@@ -9,9 +7,5 @@ use Rattle.event.proofs.search.earliest_timer.Given as goal
 
 abbrev pub invariant-loop-x : goal.invariant-loop-x
 invariant-loop-x l =
-    (l.n ≡ (plan_in l.s).n) × (l.x ≤ l.n)
-    × (least_tick l.t (timer_entries (plan_in l.s) (state_in l.s).done 0 (state_in l.s).nodes) ≡ least_tick l.least
-    (timer_entries (plan_in l.s) (state_in l.s).done l.x (drop l.x (state_in l.s).nodes)))
-
-abbrev pub decreases-loop-x : goal.decreases-loop-x
-decreases-loop-x l = l.n - l.x
+    least_tick l.t (timer_entries (plan_in l.s) (state_in l.s).done 0 (state_in l.s).nodes)
+    ≡ least_tick l.least (timer_entries (plan_in l.s) (state_in l.s).done l.x (drop l.x (state_in l.s).nodes))

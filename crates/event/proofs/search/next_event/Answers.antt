@@ -12,27 +12,6 @@ crashed_list-dead-requires c = let r = ready-crashes _ c.requires in record { si
 pub earliest_crash-crash-requires : goal.earliest_crash-crash-requires
 earliest_crash-crash-requires c = ready-acting _ c.requires
 
-pub earliest_message-message-requires : goal.earliest_message-message-requires
-earliest_message-message-requires c = c.requires.held
-
-pub earliest_timer-t-requires : goal.earliest_timer-t-requires
-earliest_timer-t-requires c =
-    record {
-      ready = c.requires;
-      dead_value = c.crashed_list-dead.ensures;
-    }
-
-pub end_tick-requires : goal.end_tick-requires
-end_tick-requires c = c.requires.held.size
-
-pub first_at-requires : goal.first_at-requires
-first_at-requires c =
-    record {
-      ready = c.requires;
-      dead_value = c.crashed_list-dead.ensures;
-      t_bound = omega (arith, c.end_tick.ensures);
-    }
-
 pub returns : goal.returns
 returns c =
     c.first_at.ensures ∙ sym (search-found (plan_in c.args.s.now) (state_in c.args.s.now) _ _ _ c.earliest_crash-crash.ensures

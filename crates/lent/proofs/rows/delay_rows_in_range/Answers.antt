@@ -1,15 +1,11 @@
 -- `lent::rows::delay_rows_in_range` meets its contract. Assumes nothing.
-use mathlib.Core.Path.{sym, ◌∙◌}
-use Rattle.plans.specs.Plan.{delay_test}
-use Rattle.fields.proofs.Answers.{fails, holds}
-use Rattle.lent.proofs.RowTests.{delays-by-order}
+use Rattle.std.proofs.Common.{rules}
+use Rattle.store.specs.Store.{plan_in}
+use Rattle.lent.proofs.RowTests.{delays-tested}
 use Rattle.lent.proofs.rows.delay_rows_in_range.Goals as goal
 
-pub returns-then-not-delays_in_range : goal.returns-then-not-delays_in_range
-unfolding delay_test
-returns-then-not-delays_in_range c = rw (fails c.delays_in_range.ensures c.if-not-delays_in_range.true-raw)
+pub returns-then-delays_in_range : goal.returns-then-delays_in_range
+returns-then-delays_in_range c = rw (delays-tested (plan_in c.args.s.now) c.requires.counts.delays) (search rules)
 
-pub returns : goal.returns
-returns c =
-    c.delays_rise.ensures ∙ sym
-    (delays-by-order _ c.requires.counts.delays (holds c.delays_in_range.ensures c.if-not-delays_in_range.false-raw))
+pub returns-else-delays_in_range : goal.returns-else-delays_in_range
+returns-else-delays_in_range c = rw (delays-tested (plan_in c.args.s.now) c.requires.counts.delays) (search rules)

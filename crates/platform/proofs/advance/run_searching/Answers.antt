@@ -1,53 +1,31 @@
 -- `platform::advance::run_searching` meets its contract. Assumes nothing.
+use Rattle.std.proofs.Common.{◌≡◌, Some, None, arith}
 use mathlib.Core.Path.{sym, ◌∙◌}
-use mathlib.Core.List.{[], ◌∷◌}
-use native.Mathlib.Omega.{arith}
-use types.Run.{miss}
-use borrow.Enum.Refused.{opened}
-use Rattle.platform.proofs.Running.{run-starts, run-goes-on, run-ended, run-refused, run-used-done, run-used-spent}
-use borrow.Author.Rules.{rules}
+use Rattle.platform.proofs.Running.{run-starts, run-goes-on, run-ended, run-refused, run-used}
 use Rattle.platform.proofs.advance.run_searching.Goals as goal
 
-pub loop-rest-init : goal.loop-rest-init
-loop-rest-init c = run-starts _ _ c.requires
+pub loop-done-init : goal.loop-done-init
+loop-done-init c = run-starts _ _ c.requires
 
-pub do_event-requires : goal.do_event-requires
-do_event-requires c = c.loop-rest.invariant.ready
-
-pub enum_told-1 : goal.enum_told-1
-enum_told-1 c = search rules
-
-pub loop-rest-preserved : goal.loop-rest-preserved
-loop-rest-preserved c =
-    let l = c.loop-rest in
+pub loop-done-preserved : goal.loop-done-preserved
+loop-done-preserved c =
     let d = c.do_event.ensures in
-    run-goes-on _ _ l.rest l.store l.invariant (omega (arith, c.loop-rest-test.true)) (sym c.in-Did.is ∙ d.0) d.1
+    let e : c.in-Ok-Some.field-0 ≡ Some c.in-Ok-Some.field-0-0 = c.in-Ok-Some.field-0-is in
+    run-goes-on _ _ _ _ c.loop-done.invariant c.loop-done-test.true d.1 (rw e at (sym c.in-Ok-Some.is ∙ d.0))
 
-pub returns-in-Ended : goal.returns-in-Ended
-returns-in-Ended c =
-    let l = c.loop-rest in
+pub returns-in-Ok-None : goal.returns-in-Ok-None
+returns-in-Ok-None c =
     let d = c.do_event.ensures in
-    let r = run-ended _ _ l.rest l.store l.invariant (omega (arith, c.loop-rest-test.true)) (sym c.in-Ended.is ∙ d.0) d.1 in
-    record { value = r.0; store_after = r.1 }
+    let e : c.in-Ok-None.field-0 ≡ None = c.in-Ok-None.field-0-is in
+    let r = run-ended _ _ _ _ c.loop-done.invariant c.loop-done-test.true d.1 (rw e at (sym c.in-Ok-None.is ∙ d.0)) in
+    record { value = r.value; store_after = r.store_after }
 
-pub returns-in-Refused : goal.returns-in-Refused
-returns-in-Refused c =
-    let l = c.loop-rest in
+pub returns-in-Err : goal.returns-in-Err
+returns-in-Err c =
     let d = c.do_event.ensures in
-    let r = run-refused _ _ l.rest l.store l.invariant (omega (arith, c.loop-rest-test.true)) (sym c.in-Refused.is ∙ d.0) d.1 in
-    record { value = r.0; store_after = r.1 }
+    let r = run-refused _ _ _ _ c.loop-done.invariant c.loop-done-test.true d.1 (sym c.in-Err.is ∙ d.0) in
+    record { value = r.value; store_after = r.store_after }
 
-pub next_event-requires : goal.next_event-requires
-next_event-requires c = c.loop-rest.invariant.ready
-
-pub returns-in-Nothing : goal.returns-in-Nothing
-returns-in-Nothing c =
-    let l = c.loop-rest in
-    let r = run-used-done _ _ l.rest l.store l.invariant (omega (arith, c.loop-rest-test.false))
-    (sym c.in-Nothing.is ∙ c.next_event.ensures) in record { value = r.0; store_after = r.1 }
-
-pub returns-in_default : goal.returns-in_default
-returns-in_default c =
-    let l = c.loop-rest in
-    let r = run-used-spent _ _ l.rest l.store l.invariant (omega (arith, c.loop-rest-test.false)) c.next_event.ensures
-    (λ e. miss (0 ∷ 1 ∷ 2 ∷ 3 ∷ []) 4 tt (opened (rw e at c.in_default.in_default-own.keys2))) in record { value = r.0; store_after = r.1 }
+pub returns : goal.returns
+returns c =
+    let r = run-used _ _ _ _ c.loop-done.invariant (omega arith) c.after_budget.ensures in record { value = r.value; store_after = r.store_after }

@@ -2,8 +2,5 @@
 use Rattle.platform.proofs.Running.{Runs}
 use Rattle.platform.proofs.advance.run_searching.Given as goal
 
-abbrev pub invariant-loop-rest : goal.invariant-loop-rest
-invariant-loop-rest l = Runs l.initial.store l.budget l.rest l.store
-
-abbrev pub decreases-loop-rest : goal.decreases-loop-rest
-decreases-loop-rest l = l.rest
+abbrev pub invariant-loop-done : goal.invariant-loop-done
+invariant-loop-done l = Runs l.initial.store l.budget l.done l.store

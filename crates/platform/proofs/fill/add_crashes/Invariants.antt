@@ -1,6 +1,5 @@
 -- `platform::fill::add_crashes` meets its contract. Assumes nothing.
 use mathlib.Core.Path.{◌≡◌}
-use Prim.Native.Nat.{◌-◌, ◌≤◌}
 use lib.ListN.{length}
 use Rattle.runfile.specs.Reader.{crash_place}
 use Rattle.limits.specs.Limits.{store_size}
@@ -10,7 +9,4 @@ use Rattle.platform.proofs.fill.add_crashes.Given as goal
 
 abbrev pub invariant-loop-i : goal.invariant-loop-i
 invariant-loop-i l =
-    (l.at ≡ crash_place (plan_of l.file) l.i) × (l.i ≤ l.count) × (l.s ≡ filled (plan_of l.file) l.i 0) × (length l.s ≡ store_size)
-
-abbrev pub decreases-loop-i : goal.decreases-loop-i
-decreases-loop-i l = l.count - l.i
+    (l.at ≡ crash_place (plan_of l.file) l.i) × (l.s ≡ filled (plan_of l.file) l.i 0) × (length l.s ≡ store_size)

@@ -1,6 +1,5 @@
 -- `platform::fill::add_delays` meets its contract. Assumes nothing.
 use mathlib.Core.Path.{◌≡◌}
-use Prim.Native.Nat.{◌-◌, ◌≤◌}
 use lib.ListN.{length}
 use Rattle.runfile.specs.Reader.{delay_place}
 use Rattle.limits.specs.Limits.{store_size}
@@ -10,8 +9,5 @@ use Rattle.platform.proofs.fill.add_delays.Given as goal
 
 abbrev pub invariant-loop-i : goal.invariant-loop-i
 invariant-loop-i l =
-    (l.at ≡ delay_place (plan_of l.file) l.i) × (l.i ≤ l.count) × (l.s ≡ filled (plan_of l.file) (length (plan_of l.file).crashes) l.i)
+    (l.at ≡ delay_place (plan_of l.file) l.i) × (l.s ≡ filled (plan_of l.file) (length (plan_of l.file).crashes) l.i)
     × (length l.s ≡ store_size)
-
-abbrev pub decreases-loop-i : goal.decreases-loop-i
-decreases-loop-i l = l.count - l.i

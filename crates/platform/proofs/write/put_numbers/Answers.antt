@@ -1,21 +1,28 @@
--- `platform::write::put_numbers` meets its contract. Assumes nothing.
-use mathlib.Core.Path.{◌∙◌}
-use Rattle.event.proofs.Readiness.{held-sized}
-use Rattle.platform.proofs.Writing.{rows_none, number-room, number-written, rows_end}
-use borrow.Author.Rules.{rules}
+-- `platform::write::put_numbers` meets its contract: a number is written, then those after it. Assumes nothing.
+use native.Mathlib.Omega.{arith}
+use Prim.Native.Nat.{◌+◌}
+use mathlib.Core.Path.{sym}
+use lib.ListN.{drop}
+use Rattle.text.specs.Field.{field}
+use Rattle.text.proofs.PutLaws.{first-part, second-part, both-parts, writes-text, writes-none}
+use Rattle.runfile.specs.Text.{rows_text}
+use Rattle.store.specs.Store.{plan_in}
+use Rattle.platform.proofs.Writing.{number-next, rows-last}
 use Rattle.platform.proofs.write.put_numbers.Goals as goal
 
-pub loop-i-init : goal.loop-i-init
-loop-i-init c = (search rules, search (rows_none, rules), search rules)
-
-pub ring_at-k-requires : goal.ring_at-k-requires
-ring_at-k-requires c = search (held-sized, rules)
-
-pub put_ring_node-at-requires : goal.put_ring_node-at-requires
-put_ring_node-at-requires c = search (number-room, rules)
+pub field-requires : goal.field-requires
+field-requires c =
+    let p = plan_in c.args.store.now in
+    let parts = number-next p c.loop-i.i c.ring_at.result c.ring_at.ensures (omega (arith, c.ring_size-i-end.ensures)) in
+    first-part c.loop-i.out _ (field c.ring_at.result) (rows_text field (drop (c.loop-i.i + 1) p.ring)) parts c.loop-i.invariant.0
 
 pub loop-i-preserved : goal.loop-i-preserved
-loop-i-preserved c = (search rules, search (number-written, rules), search (◌∙◌, rules))
+loop-i-preserved c =
+    let parts = number-next (plan_in c.args.store.now) c.loop-i.i c.ring_at.result c.ring_at.ensures (omega (arith, c.ring_size-i-end.ensures)) in
+    let i = c.loop-i.invariant in
+    (second-part _ _ parts i.0 c.field.ensures, λ v a. i.1 v (both-parts _ parts i.0 c.field.ensures a))
 
 pub returns : goal.returns
-returns c = search (rows_end, rules)
+returns c =
+    let none = rows-last field (plan_in c.args.store.now).ring c.loop-i.i (omega (arith, c.ring_size-i-end.ensures)) in
+    c.loop-i.invariant.1 _ (writes-text (sym none) (writes-none _))

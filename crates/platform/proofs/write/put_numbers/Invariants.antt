@@ -1,8 +1,8 @@
--- `platform::write::put_numbers` meets its contract. Assumes nothing.
-use mathlib.Core.Path.{◌≡◌}
-use Prim.Native.Nat.{◌-◌, ◌≤◌}
-use lib.ListN.{length, take}
-use Rattle.text.specs.Put.{Put}
+-- `platform::write::put_numbers`: the rows that are left have room, and with them all are written.
+use lib.ListN.{length, drop}
+use Prim.Native.Nat.{◌+◌, ◌≤◌}
+use Rattle.text.specs.declared.Writer.{Writer}
+use Rattle.text.specs.Put.{Writes}
 use Rattle.text.specs.Field.{field}
 use Rattle.runfile.specs.Text.{rows_text}
 use Rattle.store.specs.Store.{plan_in}
@@ -10,7 +10,6 @@ use Rattle.platform.proofs.write.put_numbers.Given as goal
 
 abbrev pub invariant-loop-i : goal.invariant-loop-i
 invariant-loop-i l =
-    (l.i ≤ l.count) × Put l.initial.out l.first (rows_text field (take l.i (plan_in l.store).ring)) l.at l.out × (length l.out ≡ length l.initial.out)
-
-abbrev pub decreases-loop-i : goal.decreases-loop-i
-decreases-loop-i l = l.count - l.i
+    (l.out.at + length (rows_text field (drop l.i (plan_in l.store).ring)) ≤ length l.out.out.now)
+    × ((v : Writer) → Writes l.out v (rows_text field (drop l.i (plan_in l.store).ring))
+    → Writes l.fn.out v (rows_text field (plan_in l.store).ring))

@@ -1,9 +1,25 @@
 -- `store::messages::clear_messages` meets its contract. Assumes nothing.
+use Rattle.std.proofs.Common.{refl, ◌∙◌}
+use lib.Seq.{take_all}
+use Rattle.store.specs.Columns.{each_part, field_cleared}
+use Rattle.store.specs.Store.{time_parts, route_parts, message_parts}
+use Rattle.store.proofs.Groups.{each_next}
 use Rattle.store.proofs.States.{put-clear}
 use Rattle.store.proofs.messages.clear_messages.Goals as goal
 
+pub loop-field-init : goal.loop-field-init
+unfolding each_part
+loop-field-init c = refl
+
+pub loop-field-preserved : goal.loop-field-preserved
+unfolding time_parts route_parts
+loop-field-preserved c =
+    let next = each_next (λ b f. field_cleared b f c.message_count-n.result) message_parts _ refl in
+    c.clear.ensures ∙ rw c.loop-field.invariant (next c.loop-field.field-index _ c.loop-field-test.true c.args.s.now)
+
 pub returns : goal.returns
+unfolding time_parts route_parts
 returns c =
     let n = c.message_count-n in
-    rw (c.put.ensures, c.clear_routes.ensures, c.clear_times.ensures)
-    (put-clear _ c.requires _ n.ensures)
+    c.put.ensures ∙ rw (c.loop-field.invariant, take_all c.loop-field.field-index message_parts c.loop-field-test.false)
+    (put-clear c.args.s.now c.requires n.result n.ensures)

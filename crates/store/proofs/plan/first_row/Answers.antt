@@ -16,7 +16,7 @@ loop-low-preserved-then-here-number c =
     let p = plan_in c.args.s.now in
     search-up p.delays c.args.number (rows-rise p.delays c.requires.s_value) c.loop-low.low c.loop-low.high
     (c.loop-low.low + (c.loop-low.high - c.loop-low.low) / 2) c.get-here.result c.loop-low.invariant (omega arith) (omega arith)
-    (c.get-here.ensures.0 ∙ sym (ap (λ (r : Delay). r.number)
+    (c.get-here.ensures.value ∙ sym (ap (λ (r : Delay). r.number)
     (delay-read c.args.s.now (c.loop-low.low + (c.loop-low.high - c.loop-low.low) / 2) (omega arith))))
     c.if-here-number.true
 
@@ -25,7 +25,7 @@ loop-low-preserved c =
     let p = plan_in c.args.s.now in
     search-down p.delays c.args.number (rows-rise p.delays c.requires.s_value) c.loop-low.low c.loop-low.high
     (c.loop-low.low + (c.loop-low.high - c.loop-low.low) / 2) c.get-here.result c.loop-low.invariant (omega arith) (omega arith)
-    (c.get-here.ensures.0 ∙ sym (ap (λ (r : Delay). r.number)
+    (c.get-here.ensures.value ∙ sym (ap (λ (r : Delay). r.number)
     (delay-read c.args.s.now (c.loop-low.low + (c.loop-low.high - c.loop-low.low) / 2) (omega arith))))
     c.if-here-number.false
 
