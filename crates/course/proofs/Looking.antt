@@ -144,7 +144,8 @@ module _ (q : List Flight) (start end : ℕ) (flight : List InFlight) (h : Holds
       go : Dec (start < end) → FirstDue q start end flight r
       go (yes l) = rw (of _ (between_next q start end l (omega (arith, h.size, h.room)))) (due-first l)
       go (no n) =
-          let none : between start end q ≡ [] = nil_from_length (between start end q) (omega (arith, length-between q start end (omega (arith, h.size, h.room)))) in
+          let size = length-between q start end (omega (arith, h.size, h.room)) in
+          let none : between start end q ≡ [] = nil_from_length (between start end q) (omega (arith, size)) in
           rw (of [] none) (holds-none q start end flight h (omega arith))
 
 -- ---- timers

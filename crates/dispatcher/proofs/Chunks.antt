@@ -27,7 +27,8 @@ chunks-give (suc n) s size few = (
       let front : take store_size (chunks_exact_rest s) ≡ x.now = ap (take store_size) cut ∙ take_at x.now rest store_size one in
       let back : drop store_size (chunks_exact_rest s) ≡ rest = ap (drop store_size) cut ∙ drop_at x.now rest store_size one in
       let fewer : length rest / store_size ≡ n = omega (arith, few, one, ap length cut, length-append x.now rest) in
-      (sym front, subst (λ (l : List ℕ). AlwaysYields chunks_exact_steps (λ x. x.now) t (pieces store_size n l)) (sym back) (chunks-give n t (h.0 ∙ size) fewer)),
+      let given = chunks-give n t (h.0 ∙ size) fewer in
+      (sym front, subst (λ (l : List ℕ). AlwaysYields chunks_exact_steps (λ x. x.now) t (pieces store_size n l)) (sym back) given),
 )
 
 pub stores-give : {s : _} (part : List ℕ) → chunks_exact_size {T = ℕ} s ≡ store_size → chunks_exact_rest s ≡ part

@@ -12,7 +12,8 @@ use Rattle.limits.specs.declared.Refusal.{Refusal}
 use Rattle.limits.specs.declared.Refusal.TheVariants.{BadStore, TooMany, ShortPart}
 use Rattle.limits.specs.Refusals.{number_of}
 use Rattle.std.proofs.Math.Option.{Option as Maybe, none, some}
-use Rattle.model.specs.Platform.{State, Entry, Outcome, did, ended, refused, start, next_event, try, steps, event_count, run_answer, spent, finished, overfull, Ending}
+use Rattle.model.specs.Platform.{State, Entry, Outcome, did, ended, refused, start, next_event, try, steps, event_count}
+use Rattle.model.specs.Platform.{run_answer, spent, finished, overfull, Ending}
 use Rattle.model.specs.Lines.{line_of, event_lines, last_line, lines_text}
 use Rattle.store.specs.Store.{encode, plan_in, state_in, store_in_range}
 use Rattle.runfile.specs.declared.FileRefusal.{FileRefusal}

@@ -79,7 +79,9 @@ module _ (q : List Flight) (start end : ℕ) (flight : List InFlight) (h : Holds
   part-length = length-between q start (end + 1) (omega (arith, h.size)) ∙ omega (arith, h.order)
 
   part-front : take (length part - 1) part ≡ between start end q
-  part-front = let e : length part - 1 ≡ end - start = omega (arith, part-length) in rw e (take-take (end - start) (end + 1 - start) (drop start q) (omega arith))
+  part-front =
+      let e : length part - 1 ≡ end - start = omega (arith, part-length) in
+      rw e (take-take (end - start) (end + 1 - start) (drop start q) (omega arith))
 
   pub holds-free : 0 < length part
   holds-free = omega (arith, part-length)

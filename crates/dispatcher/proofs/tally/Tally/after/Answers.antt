@@ -9,10 +9,12 @@ pub overflow_add-result : goal.overflow_add-result
 unfolding events_done
 overflow_add-result c = elim c.match-ran.branch [
   | in-Ok-Spent w ↦
-      let same : c.match-ran.able.2 ≡ events_done c.args.ran = (let e = rw w.in-Ok-Spent.is at w.in-Ok-Spent.field-0-is in rw (w.able-is, w.in-Ok-Spent.is, e)) in
+      let e = rw w.in-Ok-Spent.is at w.in-Ok-Spent.field-0-is in
+      let same : c.match-ran.able.2 ≡ events_done c.args.ran = rw (w.able-is, w.in-Ok-Spent.is, e) in
       omega (arith, same, c.requires)
   | in-Ok-Done w ↦
-      let same : c.match-ran.able.2 ≡ events_done c.args.ran = (let e = rw w.in-Ok-Done.is at w.in-Ok-Done.field-0-is in rw (w.able-is, w.in-Ok-Done.is, e)) in
+      let e = rw w.in-Ok-Done.is at w.in-Ok-Done.field-0-is in
+      let same : c.match-ran.able.2 ≡ events_done c.args.ran = rw (w.able-is, w.in-Ok-Done.is, e) in
       omega (arith, same, c.requires)
   | in-Err w ↦
       let same : c.match-ran.able.2 ≡ events_done c.args.ran = rw (w.able-is, w.in-Err.is) in
