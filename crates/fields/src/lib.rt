@@ -57,8 +57,8 @@ pub fn is_zero(s: &[u8], from: usize, to: usize) -> bool
 {
     let rounds = (to - from) / 8;
     for i in 0..rounds {
-        let at = from + 8 * i;
-        if !no_bit(&s[at..at + 8]) {
+        let start = from + 8 * i;
+        if !no_bit(&s[start..start + 8]) {
             return false;
         }
     }
