@@ -6,7 +6,7 @@ use mathlib.Core.List.Memᴰ
 use mathlib.Core.List.{List, Memᴰ}
 use native.Mathlib.Omega.{arith}
 use lib.ListN.{length, get_or}
-use Rattle.std.specs.Prelude.{Option as Maybe, Some, None, unwrap_or, Result, Ok, Err}
+use Rattle.std.specs.Prelude.{Option as Maybe, Some, None, unwrap_or, Ok, Err}
 use Rattle.limits.specs.declared.Refusal.{Refusal}
 use Rattle.limits.specs.Limits.{most_sent}
 use Rattle.node.specs.declared.Node.{Node}
@@ -25,6 +25,7 @@ use Rattle.queue.specs.Holds.{Holds, Head}
 use Rattle.course.specs.declared.Progress.{Progress}
 use Rattle.course.specs.declared.Step.{Step}
 use Rattle.course.specs.declared.Step.TheVariants.{Did, Waits, Ended}
+use Rattle.course.specs.Apart.{Apart}
 use Rattle.course.specs.Progress.{Underway, SteppedAs}
 use Rattle.course.specs.Look.{CrashAt, FirstDue, Timers, TimerAt}
 use Rattle.course.specs.Act.{Acts, Delivers}
@@ -100,7 +101,7 @@ module _ {b : List ℕ} {q : List Flight} {c : Progress} {whole : List ℕ} (k :
     unfolding SteppedAs
     chosen-ended hd hb he =
         let z : ℕ = suc p.end in
-        (found_none p pl s (all-late z z z (omega (arith, ee)) (omega (arith, ee)) (omega (arith, ee))), k)
+        (found_none p pl s (all-late z z z (omega (arith, ee)) (omega (arith, ee)) (omega (arith, ee))), refl, k)
 
     pub chosen-crash : cr ≤ du → cr ≤ c.bound → cr ≤ en → NextIs whole cr (crash (row_at p s.done).node)
     chosen-crash hd hb he =
@@ -153,22 +154,30 @@ module _ {b : List ℕ} {q : List Flight} {c : Progress} {whole : List ℕ} (k :
         other n (inl e) = absurd (n e)
         other n (inr e) = e
 
-    -- a step from there is one from here
-    from_at : (r : Result Step Refusal) (b' : List ℕ) (q' : List Flight) (d : Progress) → SteppedAs whole at r b' q' d → SteppedAs whole c r b' q' d
-    unfolding SteppedAs
-    from_at (Ok (Did l)) b' q' d f = f
-    from_at (Ok Waits) b' q' d f = f
-    from_at (Ok Ended) b' q' d f = f
-    from_at (Err r) b' q' d f = f
-
     -- its event, once it is known to be next: what the function that does it asks for, and what that function leaves
     module _ {e : Event} (next : NextIs whole c.bound e) where
       pub timer-acts : c.end + most_sent ≤ places → Acts b q at e
       timer-acts room = record { whole = whole; underway = at-underway; next = next; room = room }
 
-      pub timer-steps : (r : Result Step Refusal) (b' : List ℕ) (q' : List Flight) (d : Progress)
-          → ((w : List ℕ) → Underway b q at w → NextIs w c.bound e → SteppedAs w at r b' q' d) → SteppedAs whole c r b' q' d
+      -- a step from there is one from here
+      from_at : (r : Step) (b' : List ℕ) (q' : List Flight) (d : Progress) → SteppedAs whole at (Ok r) b' q' d → SteppedAs whole c (Ok r) b' q' d
+      unfolding SteppedAs
+      from_at (Did l) b' q' d f = f
+      from_at Waits b' q' d f = f
+      from_at Ended b' q' d f = absurd (cc (sym f.0 ∙ next))
+
+      pub timer-steps : (r : Step) (b' : List ℕ) (q' : List Flight) (d : Progress)
+          → ((w : List ℕ) → Underway b q at w → NextIs w c.bound e → SteppedAs w at (Ok r) b' q' d) → SteppedAs whole c (Ok r) b' q' d
       timer-steps r b' q' d steps = from_at r b' q' d (steps whole at-underway next)
+
+      -- one that is refused there is refused here, where the run still is
+      pub timer-refused : (r : Refusal) (b' : List ℕ) (q' : List Flight) (d : Progress)
+          → ((w : List ℕ) → Underway b q at w → NextIs w c.bound e → SteppedAs w at (Err r) b' q' d) → SteppedAs whole c (Err r) b' q' c
+      unfolding SteppedAs
+      timer-refused r b' q' d steps =
+          let f = steps whole at-underway next in
+          let apart : Apart b' q' c.start c.end whole = subst (λ (z : Progress). Apart b' q' z.start z.end whole) f.2 f.3.apart in
+          (f.0, f.1, refl, record { ready = k.ready; apart = apart; dead = k.dead; timers = k.timers })
 
   -- none is due
   pub chosen-later : Quiet c whole → (bound : ℕ) → (c.bound < bound) × Timers (plan_in b) (state_in b) bound 0

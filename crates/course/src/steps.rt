@@ -23,12 +23,16 @@ fn timers(b: &mut [u8], q: &mut [Flight], c: &mut Progress) -> Result<Step, Refu
         c.x = 0;
         return Ok(Step::Waits);
     };
-    c.x = x;
     let a = nodes::node_at(b, x);
-    if a.watch == t + 1 {
-        return act::do_watch(b, q, c);
-    }
-    act::do_heartbeat(b, q, c)
+    let mut d = *c;
+    d.x = x;
+    let step = if a.watch == t + 1 {
+        act::do_watch(b, q, &mut d)?
+    } else {
+        act::do_heartbeat(b, q, &mut d)?
+    };
+    *c = d;
+    Ok(step)
 }
 
 // The next event is done, if there is one at the tick that the run has come to or before.

@@ -3,7 +3,8 @@ use Rattle.event.proofs.Readiness.{held-sized, ready-plain}
 use Rattle.course.specs.Look.{FirstTimer}
 use Rattle.course.proofs.Parting.{apart-held, apart-plan, apart-acting}
 use Rattle.course.proofs.Looking.{apart-dead, apart-timers}
-use Rattle.course.proofs.Choosing.{timer-found, found-a-watch, found-a-beat, timer-acts, timer-steps, chosen-later}
+use Rattle.course.proofs.Choosing.{timer-found, found-a-watch, found-a-beat, timer-acts, timer-steps, timer-refused, chosen-later}
+use Rattle.std.proofs.lemmas.Result.{err_from_is_err_and}
 use native.Mathlib.Omega.{arith}
 use Rattle.course.proofs.steps.timers.Goals as goal
 
@@ -53,12 +54,20 @@ do_watch-requires c =
     let f = timer-found c.in-Some.ensures c.node_at-a.ensures in
     timer-acts p.underway p.quiet f (found-a-watch p.underway p.quiet f c.if-a-t.true) p.room
 
-pub returns-then-a-t : goal.returns-then-a-t
+pub returns-in_ok-step : goal.returns-in_ok-step
 unfolding FirstTimer
-returns-then-a-t c =
+returns-in_ok-step c =
     λ whole k u.
     let f = timer-found c.in-Some.ensures c.node_at-a.ensures in
-    timer-steps k u f (found-a-watch k u f c.if-a-t.true) _ _ _ _ c.do_watch.ensures
+    timer-steps k u f (found-a-watch k u f c.if-a-t.true) _ _ _ _ c.in_ok-step.ensures
+
+pub returns-in_err-step : goal.returns-in_err-step
+unfolding FirstTimer
+returns-in_err-step c =
+    λ whole k u.
+    let f = timer-found c.in-Some.ensures c.node_at-a.ensures in
+    let p = err_from_is_err_and c.from_residual.result c.from_residual.ensures.1 in
+    rw (p.1, p.2) (timer-refused k u f (found-a-watch k u f c.if-a-t.true) _ _ _ _ c.in_err-step.ensures)
 
 pub do_heartbeat-requires : goal.do_heartbeat-requires
 unfolding FirstTimer
@@ -67,9 +76,17 @@ do_heartbeat-requires c =
     let f = timer-found c.in-Some.ensures c.node_at-a.ensures in
     timer-acts p.underway p.quiet f (found-a-beat p.underway p.quiet f c.if-a-t.false) p.room
 
-pub returns : goal.returns
+pub returns-in_ok-step-2 : goal.returns-in_ok-step-2
 unfolding FirstTimer
-returns c =
+returns-in_ok-step-2 c =
     λ whole k u.
     let f = timer-found c.in-Some.ensures c.node_at-a.ensures in
-    timer-steps k u f (found-a-beat k u f c.if-a-t.false) _ _ _ _ c.do_heartbeat.ensures
+    timer-steps k u f (found-a-beat k u f c.if-a-t.false) _ _ _ _ c.in_ok-step-2.ensures
+
+pub returns-in_err-step-2 : goal.returns-in_err-step-2
+unfolding FirstTimer
+returns-in_err-step-2 c =
+    λ whole k u.
+    let f = timer-found c.in-Some.ensures c.node_at-a.ensures in
+    let p = err_from_is_err_and c.from_residual-in_err-step-2.result c.from_residual-in_err-step-2.ensures.1 in
+    rw (p.1, p.2) (timer-refused k u f (found-a-beat k u f c.if-a-t.false) _ _ _ _ c.in_err-step-2.ensures)
