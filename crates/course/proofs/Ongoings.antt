@@ -52,7 +52,8 @@ module _ (whole : List ℕ) (c : Progress) (b' : List ℕ) (q' : List Flight) (d
   unfolding SteppedAs
   look-waits e s h = subst (λ (z : Step). SteppedAs whole c (Ok z) b' q' d) h s
 
-  look_none : (e : Step) → SteppedAs whole c (Ok e) b' q' d → e ≡ Ended → (next_event (plan_in whole) (state_in whole) ≡ none) × (d ≡ c) × Underway b' q' d whole
+  look_none : (e : Step) → SteppedAs whole c (Ok e) b' q' d → e ≡ Ended
+      → (next_event (plan_in whole) (state_in whole) ≡ none) × (d ≡ c) × Underway b' q' d whole
   unfolding SteppedAs
   look_none e s h = subst (λ (z : Step). SteppedAs whole c (Ok z) b' q' d) h s
 
