@@ -6,7 +6,8 @@ use mathlib.Core.List.Memᴰ
 use mathlib.Core.List.{List, Memᴰ}
 use native.Mathlib.Omega.{arith}
 use lib.ListN.{length, get_or}
-use Rattle.std.specs.Prelude.{Option as Maybe, Some, None, unwrap_or, Ok, Err}
+use Rattle.std.specs.Prelude.{true, false, Option as Maybe, Some, None, unwrap_or, Result, Ok, Err}
+use Rattle.std.specs.Result.{is_err}
 use Rattle.limits.specs.declared.Refusal.{Refusal}
 use Rattle.limits.specs.Limits.{most_sent}
 use Rattle.node.specs.declared.Node.{Node}
@@ -166,18 +167,28 @@ module _ {b : List ℕ} {q : List Flight} {c : Progress} {whole : List ℕ} (k :
       from_at Waits b' q' d f = f
       from_at Ended b' q' d f = absurd (cc (sym f.0 ∙ next))
 
-      pub timer-steps : (r : Step) (b' : List ℕ) (q' : List Flight) (d : Progress)
-          → ((w : List ℕ) → Underway b q at w → NextIs w c.bound e → SteppedAs w at (Ok r) b' q' d) → SteppedAs whole c (Ok r) b' q' d
-      timer-steps r b' q' d steps = from_at r b' q' d (steps whole at-underway next)
-
-      -- one that is refused there is refused here, where the run still is
-      pub timer-refused : (r : Refusal) (b' : List ℕ) (q' : List Flight) (d : Progress)
-          → ((w : List ℕ) → Underway b q at w → NextIs w c.bound e → SteppedAs w at (Err r) b' q' d) → SteppedAs whole c (Err r) b' q' c
+      -- what its event leaves: where one is refused, the run goes back to where it was
+      pub timer-told : (r : Result Step Refusal) (b' : List ℕ) (q' : List Flight) (d : Progress)
+          → ((w : List ℕ) → Underway b q at w → NextIs w c.bound e → SteppedAs w at r b' q' d)
+          → (is_err r ≡ true → SteppedAs whole c r b' q' (record { start = d.start; end = d.end; dead = d.dead; bound = d.bound; x = c.x }))
+          × (is_err r ≡ false → SteppedAs whole c r b' q' d)
       unfolding SteppedAs
-      timer-refused r b' q' d steps =
-          let f = steps whole at-underway next in
-          let apart : Apart b' q' c.start c.end whole = subst (λ (z : Progress). Apart b' q' z.start z.end whole) f.2 f.3.apart in
-          (f.0, f.1, refl, record { ready = k.ready; apart = apart; dead = k.dead; timers = k.timers })
+      timer-told (Ok r) b' q' d steps = (λ h. absurd (cc h), λ h. from_at r b' q' d (steps whole at-underway next))
+      timer-told (Err r) b' q' d steps = (λ h. back, λ h. absurd (cc h))
+        where
+          left : SteppedAs whole at (Err r) b' q' d
+          left = steps whole at-underway next
+
+          is : record { start = d.start; end = d.end; dead = d.dead; bound = d.bound; x = c.x } ≡ c
+          is = ap (λ (z : Progress). record { start = z.start; end = z.end; dead = z.dead; bound = z.bound; x = c.x }) left.2
+
+          apart : Apart b' q' c.start c.end whole
+          apart = subst (λ (z : Progress). Apart b' q' z.start z.end whole) left.2 left.3.apart
+
+          back : SteppedAs whole c (Err r) b' q' (record { start = d.start; end = d.end; dead = d.dead; bound = d.bound; x = c.x })
+          back =
+              subst (SteppedAs whole c (Err r) b' q') (sym is)
+              (left.0, left.1, refl, record { ready = k.ready; apart = apart; dead = k.dead; timers = k.timers })
 
   -- none is due
   pub chosen-later : Quiet c whole → (bound : ℕ) → (c.bound < bound) × Timers (plan_in b) (state_in b) bound 0

@@ -24,15 +24,17 @@ fn timers(b: &mut [u8], q: &mut [Flight], c: &mut Progress) -> Result<Step, Refu
         return Ok(Step::Waits);
     };
     let a = nodes::node_at(b, x);
-    let mut d = *c;
-    d.x = x;
+    let from = c.x;
+    c.x = x;
     let step = if a.watch == t + 1 {
-        act::do_watch(b, q, &mut d)?
+        act::do_watch(b, q, c)
     } else {
-        act::do_heartbeat(b, q, &mut d)?
+        act::do_heartbeat(b, q, c)
     };
-    *c = d;
-    Ok(step)
+    if step.is_err() {
+        c.x = from;
+    }
+    step
 }
 
 // The next event is done, if there is one at the tick that the run has come to or before.

@@ -3,9 +3,10 @@ use Rattle.event.proofs.Readiness.{held-sized, ready-plain}
 use Rattle.course.specs.Look.{FirstTimer}
 use Rattle.course.proofs.Parting.{apart-held, apart-plan, apart-acting}
 use Rattle.course.proofs.Looking.{apart-dead, apart-timers}
-use Rattle.course.proofs.Choosing.{timer-found, found-a-watch, found-a-beat, timer-acts, timer-steps, timer-refused, chosen-later}
-use Rattle.std.proofs.lemmas.Result.{err_from_is_err_and}
+use Rattle.course.proofs.Choosing.{timer-found, found-a-watch, found-a-beat, timer-acts, timer-told, chosen-later}
+use mathlib.Core.Path.{sym, ◌∙◌}
 use native.Mathlib.Omega.{arith}
+use Rattle.course.proofs.steps.timers.Goals.{then-a-t, else-a-t}
 use Rattle.course.proofs.steps.timers.Goals as goal
 
 pub timer_node-requires : goal.timer_node-requires
@@ -47,46 +48,42 @@ overflow_add-t c =
     let p = c.requires in
     omega (arith, p.quiet.tick, (ready-plain p.whole p.underway.ready).end≤)
 
-pub do_watch-requires : goal.do_watch-requires
+pub do_watch-step-requires : goal.do_watch-step-requires
 unfolding FirstTimer
-do_watch-requires c =
+do_watch-step-requires c =
     let p = c.requires in
     let f = timer-found c.in-Some.ensures c.node_at-a.ensures in
     timer-acts p.underway p.quiet f (found-a-watch p.underway p.quiet f c.if-a-t.true) p.room
 
-pub returns-in_ok-step : goal.returns-in_ok-step
+pub do_heartbeat-step-requires : goal.do_heartbeat-step-requires
 unfolding FirstTimer
-returns-in_ok-step c =
-    λ whole k u.
-    let f = timer-found c.in-Some.ensures c.node_at-a.ensures in
-    timer-steps k u f (found-a-watch k u f c.if-a-t.true) _ _ _ _ c.in_ok-step.ensures
-
-pub returns-in_err-step : goal.returns-in_err-step
-unfolding FirstTimer
-returns-in_err-step c =
-    λ whole k u.
-    let f = timer-found c.in-Some.ensures c.node_at-a.ensures in
-    let p = err_from_is_err_and c.from_residual.result c.from_residual.ensures.1 in
-    rw (p.1, p.2) (timer-refused k u f (found-a-watch k u f c.if-a-t.true) _ _ _ _ c.in_err-step.ensures)
-
-pub do_heartbeat-requires : goal.do_heartbeat-requires
-unfolding FirstTimer
-do_heartbeat-requires c =
+do_heartbeat-step-requires c =
     let p = c.requires in
     let f = timer-found c.in-Some.ensures c.node_at-a.ensures in
     timer-acts p.underway p.quiet f (found-a-beat p.underway p.quiet f c.if-a-t.false) p.room
 
-pub returns-in_ok-step-2 : goal.returns-in_ok-step-2
+pub returns-then-is_err : goal.returns-then-is_err
 unfolding FirstTimer
-returns-in_ok-step-2 c =
+returns-then-is_err c =
     λ whole k u.
     let f = timer-found c.in-Some.ensures c.node_at-a.ensures in
-    timer-steps k u f (found-a-beat k u f c.if-a-t.false) _ _ _ _ c.in_ok-step-2.ensures
+    let refused = sym c.is_err.ensures.value ∙ c.if-is_err.true in
+    elim c.if-a-t.branch [
+      | then-a-t w ↦ rw (w.b-is, w.q-is, w.c-is, w.step-is)
+          ((timer-told k u f (found-a-watch k u f w.if-a-t.true) _ _ _ _ w.do_watch-step.ensures).0 (rw w.step-is at refused))
+      | else-a-t w ↦ rw (w.b-is, w.q-is, w.c-is, w.step-is)
+          ((timer-told k u f (found-a-beat k u f w.if-a-t.false) _ _ _ _ w.do_heartbeat-step.ensures).0 (rw w.step-is at refused))
+    ]
 
-pub returns-in_err-step-2 : goal.returns-in_err-step-2
+pub returns-else-is_err : goal.returns-else-is_err
 unfolding FirstTimer
-returns-in_err-step-2 c =
+returns-else-is_err c =
     λ whole k u.
     let f = timer-found c.in-Some.ensures c.node_at-a.ensures in
-    let p = err_from_is_err_and c.from_residual-in_err-step-2.result c.from_residual-in_err-step-2.ensures.1 in
-    rw (p.1, p.2) (timer-refused k u f (found-a-beat k u f c.if-a-t.false) _ _ _ _ c.in_err-step-2.ensures)
+    let done = sym c.is_err.ensures.value ∙ c.if-is_err.false in
+    elim c.if-a-t.branch [
+      | then-a-t w ↦ rw (w.b-is, w.q-is, w.c-is, w.step-is)
+          ((timer-told k u f (found-a-watch k u f w.if-a-t.true) _ _ _ _ w.do_watch-step.ensures).1 (rw w.step-is at done))
+      | else-a-t w ↦ rw (w.b-is, w.q-is, w.c-is, w.step-is)
+          ((timer-told k u f (found-a-beat k u f w.if-a-t.false) _ _ _ _ w.do_heartbeat-step.ensures).1 (rw w.step-is at done))
+    ]
