@@ -31,7 +31,7 @@ sys.path.insert(0, "tools")
 from figures import FIGURES, TIMES, counted, crates, read, table  # the tables of docs/FIGURES.md
 
 # Designs of later changes name what is not there yet, and the page on the port what is gone: of these only paths are checked.
-DESIGNS = [*glob.glob("docs/changes/*.md"), "docs/PORT.md", "docs/DESIGN-PASS.md"]
+DESIGNS = [*glob.glob("docs/changes/*.md"), "docs/PORT.md", "docs/DESIGN-PASS.md", "docs/LOOK-BACK.md"]
 DOCUMENTS = sorted({"README.md", "CONTRIBUTING.md", "docs/src/README.md", *glob.glob("docs/*.md"), *DESIGNS})
 COMMANDS = set("rt sh gcc rustc python3 git grep".split())
 # Words of the kit's languages that documents use as such.

@@ -6,7 +6,8 @@ use mathlib.Core.List.Memᴰ
 use mathlib.Core.List.{List, Memᴰ}
 use native.Mathlib.Omega.{arith}
 use lib.ListN.{length, get_or}
-use Rattle.std.specs.Prelude.{Option as Maybe, Some, None, unwrap_or, Result, Ok, Err}
+use Rattle.std.specs.Prelude.{true, false, Option as Maybe, Some, None, unwrap_or, Result, Ok, Err}
+use Rattle.std.specs.Result.{is_err}
 use Rattle.limits.specs.declared.Refusal.{Refusal}
 use Rattle.limits.specs.Limits.{most_sent}
 use Rattle.node.specs.declared.Node.{Node}
@@ -25,6 +26,7 @@ use Rattle.queue.specs.Holds.{Holds, Head}
 use Rattle.course.specs.declared.Progress.{Progress}
 use Rattle.course.specs.declared.Step.{Step}
 use Rattle.course.specs.declared.Step.TheVariants.{Did, Waits, Ended}
+use Rattle.course.specs.Apart.{Apart}
 use Rattle.course.specs.Progress.{Underway, SteppedAs}
 use Rattle.course.specs.Look.{CrashAt, FirstDue, Timers, TimerAt}
 use Rattle.course.specs.Act.{Acts, Delivers}
@@ -100,7 +102,7 @@ module _ {b : List ℕ} {q : List Flight} {c : Progress} {whole : List ℕ} (k :
     unfolding SteppedAs
     chosen-ended hd hb he =
         let z : ℕ = suc p.end in
-        (found_none p pl s (all-late z z z (omega (arith, ee)) (omega (arith, ee)) (omega (arith, ee))), k)
+        (found_none p pl s (all-late z z z (omega (arith, ee)) (omega (arith, ee)) (omega (arith, ee))), refl, k)
 
     pub chosen-crash : cr ≤ du → cr ≤ c.bound → cr ≤ en → NextIs whole cr (crash (row_at p s.done).node)
     chosen-crash hd hb he =
@@ -153,22 +155,40 @@ module _ {b : List ℕ} {q : List Flight} {c : Progress} {whole : List ℕ} (k :
         other n (inl e) = absurd (n e)
         other n (inr e) = e
 
-    -- a step from there is one from here
-    from_at : (r : Result Step Refusal) (b' : List ℕ) (q' : List Flight) (d : Progress) → SteppedAs whole at r b' q' d → SteppedAs whole c r b' q' d
-    unfolding SteppedAs
-    from_at (Ok (Did l)) b' q' d f = f
-    from_at (Ok Waits) b' q' d f = f
-    from_at (Ok Ended) b' q' d f = f
-    from_at (Err r) b' q' d f = f
-
     -- its event, once it is known to be next: what the function that does it asks for, and what that function leaves
     module _ {e : Event} (next : NextIs whole c.bound e) where
       pub timer-acts : c.end + most_sent ≤ places → Acts b q at e
       timer-acts room = record { whole = whole; underway = at-underway; next = next; room = room }
 
-      pub timer-steps : (r : Result Step Refusal) (b' : List ℕ) (q' : List Flight) (d : Progress)
-          → ((w : List ℕ) → Underway b q at w → NextIs w c.bound e → SteppedAs w at r b' q' d) → SteppedAs whole c r b' q' d
-      timer-steps r b' q' d steps = from_at r b' q' d (steps whole at-underway next)
+      -- a step from there is one from here
+      from_at : (r : Step) (b' : List ℕ) (q' : List Flight) (d : Progress) → SteppedAs whole at (Ok r) b' q' d → SteppedAs whole c (Ok r) b' q' d
+      unfolding SteppedAs
+      from_at (Did l) b' q' d f = f
+      from_at Waits b' q' d f = f
+      from_at Ended b' q' d f = absurd (cc (sym f.0 ∙ next))
+
+      -- what its event leaves: where one is refused, the run goes back to where it was
+      pub timer-told : (r : Result Step Refusal) (b' : List ℕ) (q' : List Flight) (d : Progress)
+          → ((w : List ℕ) → Underway b q at w → NextIs w c.bound e → SteppedAs w at r b' q' d)
+          → (is_err r ≡ true → SteppedAs whole c r b' q' (record { start = d.start; end = d.end; dead = d.dead; bound = d.bound; x = c.x }))
+          × (is_err r ≡ false → SteppedAs whole c r b' q' d)
+      unfolding SteppedAs
+      timer-told (Ok r) b' q' d steps = (λ h. absurd (cc h), λ h. from_at r b' q' d (steps whole at-underway next))
+      timer-told (Err r) b' q' d steps = (λ h. back, λ h. absurd (cc h))
+        where
+          left : SteppedAs whole at (Err r) b' q' d
+          left = steps whole at-underway next
+
+          is : record { start = d.start; end = d.end; dead = d.dead; bound = d.bound; x = c.x } ≡ c
+          is = ap (λ (z : Progress). record { start = z.start; end = z.end; dead = z.dead; bound = z.bound; x = c.x }) left.2
+
+          apart : Apart b' q' c.start c.end whole
+          apart = subst (λ (z : Progress). Apart b' q' z.start z.end whole) left.2 left.3.apart
+
+          back : SteppedAs whole c (Err r) b' q' (record { start = d.start; end = d.end; dead = d.dead; bound = d.bound; x = c.x })
+          back =
+              subst (SteppedAs whole c (Err r) b' q') (sym is)
+              (left.0, left.1, refl, record { ready = k.ready; apart = apart; dead = k.dead; timers = k.timers })
 
   -- none is due
   pub chosen-later : Quiet c whole → (bound : ℕ) → (c.bound < bound) × Timers (plan_in b) (state_in b) bound 0

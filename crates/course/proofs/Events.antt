@@ -106,7 +106,7 @@ module _ (b : List ℕ) (q : List Flight) (c c₁ : Progress) (whole mid : List 
       let z = g.full (omega (arith, f.full, rest-flight)) in
       let still : Underway b' q' c whole =
       subst (λ (y : List ℕ). Underway y q' c whole) (sym f.store) (subst (λ (y : List Flight). Underway b y c whole) (sym f.queue) k) in
-      (ap Err f.refusal ∙ z.0, z.1, still)
+      (ap Err f.refusal ∙ z.0, z.1, refl, still)
 
 -- ---- a timer's turn
 

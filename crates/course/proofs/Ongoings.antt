@@ -52,19 +52,20 @@ module _ (whole : List ℕ) (c : Progress) (b' : List ℕ) (q' : List Flight) (d
   unfolding SteppedAs
   look-waits e s h = subst (λ (z : Step). SteppedAs whole c (Ok z) b' q' d) h s
 
-  look_none : (e : Step) → SteppedAs whole c (Ok e) b' q' d → e ≡ Ended → (next_event (plan_in whole) (state_in whole) ≡ none) × Underway b' q' d whole
+  look_none : (e : Step) → SteppedAs whole c (Ok e) b' q' d → e ≡ Ended
+      → (next_event (plan_in whole) (state_in whole) ≡ none) × (d ≡ c) × Underway b' q' d whole
   unfolding SteppedAs
   look_none e s h = subst (λ (z : Step). SteppedAs whole c (Ok z) b' q' d) h s
 
   pub look-ended : (e : Step) → SteppedAs whole c (Ok e) b' q' d → e ≡ Ended → Agrees whole (Ok None) b' q' d
   look-ended e s h =
       let n = look_none e s h in
-      let f = ended-answer (plan_in whole) (state_in whole) whole n.1.apart.held.canonical n.0 in
-      record { answer = f.0; underway = subst (Underway b' q' d) f.1 n.1 }
+      let f = ended-answer (plan_in whole) (state_in whole) whole n.2.apart.held.canonical n.0 in
+      record { answer = f.0; underway = subst (Underway b' q' d) f.1 n.2 }
 
   pub look-refused : (r : Refusal) → SteppedAs whole c (Err r) b' q' d → Agrees whole (Err r) b' q' d
   unfolding SteppedAs
-  look-refused r s = record { answer = s.0; underway = subst (Underway b' q' d) s.1 s.2 }
+  look-refused r s = record { answer = s.0; underway = subst (Underway b' q' d) s.1 s.3 }
 
 -- ---- the last line, as of the whole store
 

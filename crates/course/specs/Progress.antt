@@ -81,12 +81,12 @@ Settled b q c t y u r b' q' d =
 
 -- ---- a look for the next event, which is done if one is found
 
--- from c to d
+-- from c to d, which is c where no event is left and where one is refused
 unfoldable pub SteppedAs : (whole : List ℕ) → Progress → Result Step Refusal → (b' : List ℕ) (q' : List Flight) → Progress → Type 0
 SteppedAs whole c (Ok (Did a)) b' q' d = (Ok (Some a) ≡ next_answer whole) × Underway b' q' d (store_left whole)
 SteppedAs whole c (Ok Waits) b' q' d = (c.bound ≤ (plan_in whole).end) × (c.bound < d.bound) × (d.end ≡ c.end) × Underway b' q' d whole
-SteppedAs whole c (Ok Ended) b' q' d = (next_event (plan_in whole) (state_in whole) ≡ none) × Underway b' q' d whole
-SteppedAs whole c (Err r) b' q' d = (Err r ≡ next_answer whole) × (whole ≡ store_left whole) × Underway b' q' d whole
+SteppedAs whole c (Ok Ended) b' q' d = (next_event (plan_in whole) (state_in whole) ≡ none) × (d ≡ c) × Underway b' q' d whole
+SteppedAs whole c (Err r) b' q' d = (Err r ≡ next_answer whole) × (whole ≡ store_left whole) × (d ≡ c) × Underway b' q' d whole
 
 abbrev pub Stepped : (b : List ℕ) (q : List Flight) → Progress → Result Step Refusal → (b' : List ℕ) (q' : List Flight) → Progress → Type 0
 Stepped b q c r b' q' d = (whole : List ℕ) → Underway b q c whole → SteppedAs whole c r b' q' d

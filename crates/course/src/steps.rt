@@ -23,12 +23,18 @@ fn timers(b: &mut [u8], q: &mut [Flight], c: &mut Progress) -> Result<Step, Refu
         c.x = 0;
         return Ok(Step::Waits);
     };
-    c.x = x;
     let a = nodes::node_at(b, x);
-    if a.watch == t + 1 {
-        return act::do_watch(b, q, c);
+    let from = c.x;
+    c.x = x;
+    let step = if a.watch == t + 1 {
+        act::do_watch(b, q, c)
+    } else {
+        act::do_heartbeat(b, q, c)
+    };
+    if step.is_err() {
+        c.x = from;
     }
-    act::do_heartbeat(b, q, c)
+    step
 }
 
 // The next event is done, if there is one at the tick that the run has come to or before.

@@ -5,7 +5,7 @@ use mathlib.Core.Path.{◌≡◌, refl, sym, ap, ◌∙◌}
 use mathlib.Core.Logic.{◌⊎◌, inl, inr, ◌≢◌}
 use mathlib.Core.Bool.{Bool, true, false, cond, not}
 use mathlib.Core.List.Memᴰ
-use mathlib.Core.List.{List, [], ◌∷◌, ◌++◌, map, append_assoc, append-nil, Memᴰ}
+use mathlib.Core.List.{List, [], ◌∷◌, ◌++◌, append_assoc, Memᴰ}
 use mathlib.Core.Option.{Option as Optional, none, some}
 use native.Mathlib.Numerals.{add-one}
 use native.Mathlib.Omega.{arith}
@@ -21,19 +21,12 @@ use Rattle.plans.specs.Plan.{Crash, Plan}
 use Rattle.model.specs.Platform.{InFlight, State, Event, Entry, crash, message, watch, heartbeat, alive, survivors, crashed_list, crash_entries}
 use Rattle.model.specs.Platform.{message_entries, timer_entry, timer_entries, pending, earlier, first, up_to, next_event, no_message}
 use Rattle.plans.specs.Plain.{no_crash, row_at, Plain}
-use Rattle.store.specs.declared.CrashRow.{CrashRow}
-use Rattle.store.specs.Inside.{crash_row}
-use Rattle.store.proofs.Places.{row-here, rows-after}
 use Rattle.model.proofs.NextEvent.{Under, crashes-in}
 use Rattle.model.proofs.Search.{under_first}
 use Rattle.ring.proofs.Laws.{keep-ext}
 use Rattle.model.proofs.SettledNode.{crashed-listed}
-use Rattle.std.specs.List.{find, range_with_len}
-use Rattle.std.specs.Prelude.{Option, Some, None, option_map}
-use Rattle.std.specs.Option.{option_or}
-use Rattle.event.specs.declared.Next.{Next}
-use Rattle.event.specs.declared.Next.TheVariants.{Crash as Crashes, Message as Delivery}
-use Rattle.event.specs.Event.{next_of, next_at, entry}
+use Rattle.std.specs.Prelude.{None}
+use Rattle.event.specs.Event.{next_of, entry}
 use Rattle.event.specs.Search.{sooner, least_tick, crash_tick, timer_tick, first_at}
 
 -- ---- the earliest tick
@@ -279,95 +272,37 @@ module _ (p : Plan) (pl : Plain p) (d : ℕ) (ns : List Node) (x l : ℕ) where
 
 -- ---- the first event at a tick
 
--- of two lists the first's, or else the second's
-next-append : (t : ℕ) (xs ys : List Entry)
-    → next_of (first_at t (xs ++ ys)) ≡ option_or (next_of (first_at t xs)) (next_of (first_at t ys))
-unfolding first_at next_of
-next-append t [] ys = refl
-next-append t (e ∷ xs) ys = go (eqb e.tick t) (next-append t xs ys)
-  where
-    go : (b : Bool) → next_of (first_at t (xs ++ ys)) ≡ option_or (next_of (first_at t xs)) (next_of (first_at t ys))
-        → next_of (cond b (some e) (first_at t (xs ++ ys))) ≡ option_or (next_of (cond b (some e) (first_at t xs))) (next_of (first_at t ys))
-    go true h = refl
-    go false h = h
-
--- of the crashes, or else of the messages, or else of the timers
-pub pending-first : (p : Plan) (s : State) (t : ℕ) → option_or (option_or (next_of (first_at t (crash_entries (drop s.done p.crashes))))
-    (next_of (first_at t (message_entries 0 s.flight)))) (next_of (first_at t (timer_entries p s.done 0 s.nodes)))
-    ≡ next_of (first_at t (pending p s))
-unfolding pending
-pending-first p s t =
-    let cs : List Entry = crash_entries (drop s.done p.crashes) in
-    let ms : List Entry = message_entries 0 s.flight in
-    let ts : List Entry = timer_entries p s.done 0 s.nodes in
-    go (next_of (first_at t cs)) (next_of (first_at t ms)) (next_of (first_at t ts))
-    ∙ sym (next-append t cs (ms ++ ts) ∙ ap (option_or (next_of (first_at t cs))) (next-append t ms ts))
-  where
-    go : (a b c : Option Next) → option_or (option_or a b) c ≡ option_or a (option_or b c)
-    go None b c = refl
-    go (Some x) b c = refl
-
-option-same : {A : Type 0} (r : Option A) → option_map (λ x. x) r ≡ r
-option-same None = refl
-option-same (Some x) = refl
-
--- rows from the place j on, of which the code finds the first at tick t
-module _ (t : ℕ) (all : List Crash) where
-  abbrev crash_at : ℕ → CrashRow
-  crash_at i = crash_row (get_or all i no_crash)
-
-  crashes-from : (j : ℕ) (rows : List Crash) → drop j all ≡ rows
-      → option_map (λ (r : CrashRow). Crashes t r.node) (find (λ (r : CrashRow). eqb r.tick t) (map crash_at (range_with_len j (length rows))))
-      ≡ next_of (first_at t (crash_entries rows))
-  unfolding crash_entries first_at next_of next_at
-  crashes-from j [] e = refl
-  crashes-from j (x ∷ rows) e =
-      rw (row-here all no_crash j x rows e)
-      (go (eqb x.tick t) refl (crashes-from (j + 1) rows (rows-after all no_crash j x rows e)))
-    where
-      go : (b : Bool) → eqb x.tick t ≡ b
-          → option_map (λ (r : CrashRow). Crashes t r.node)
-          (find (λ (r : CrashRow). eqb r.tick t) (map crash_at (range_with_len (j + 1) (length rows))))
-          ≡ next_of (first_at t (crash_entries rows))
-          → option_map (λ (r : CrashRow). Crashes t r.node) (cond b (Some (crash_row x))
-          (find (λ (r : CrashRow). eqb r.tick t) (map crash_at (range_with_len (j + 1) (length rows)))))
-          ≡ next_of (cond b (some (entry x.tick (crash x.node))) (first_at t (crash_entries rows)))
-      go true q rest = ap (λ (u : ℕ). Some (Crashes u x.node)) (sym (eqb-true x.tick t q))
-      go false q rest = rest
-
-  pub crashes-first : (done n : ℕ) → n ≡ length all → (r : Option CrashRow)
-      → option_map (λ x. x) r ≡ find (λ (r : CrashRow). eqb r.tick t) (map crash_at (range_with_len done (n - done)))
-      → option_map (λ (r : CrashRow). Crashes t r.node) r ≡ next_of (first_at t (crash_entries (drop done all)))
-  crashes-first done n e r is =
-      let k : n - done ≡ length (drop done all) = omega (arith, length-drop done all) in
-      ap (option_map (λ (r : CrashRow). Crashes t r.node)) (sym (option-same r) ∙ is) ∙ rw k (crashes-from done (drop done all) refl)
-
-module _ (t : ℕ) (all : List InFlight) where
-  messages-from : (j : ℕ) (ms : List InFlight) → drop j all ≡ ms
-      → option_map (Delivery t) (find (λ i. eqb (get_or all i no_message).due t) (range_with_len j (length ms)))
-      ≡ next_of (first_at t (message_entries j ms))
-  unfolding message_entries first_at next_of next_at
-  messages-from j [] e = refl
-  messages-from j (x ∷ ms) e =
-      rw (row-here all no_message j x ms e)
-      (go (eqb x.due t) refl (messages-from (j + 1) ms (rows-after all no_message j x ms e) ∙ rw (add-one j)))
-    where
-      go : (b : Bool) → eqb x.due t ≡ b
-          → option_map (Delivery t) (find (λ i. eqb (get_or all i no_message).due t) (range_with_len (j + 1) (length ms)))
-          ≡ next_of (first_at t (message_entries (suc j) ms))
-          → option_map (Delivery t) (cond b (Some j) (find (λ i. eqb (get_or all i no_message).due t) (range_with_len (j + 1) (length ms))))
-          ≡ next_of (cond b (some (entry x.due (message j))) (first_at t (message_entries (suc j) ms)))
-      go true q rest = ap (λ (u : ℕ). Some (Delivery u j)) (sym (eqb-true x.due t q))
-      go false q rest = rest
-
-  pub messages-first : (n : ℕ) → n ≡ length all → (r : Option ℕ)
-      → option_map (λ x. x) r ≡ find (λ i. eqb (get_or all i no_message).due t) (range_with_len 0 (n - 0))
-      → option_map (Delivery t) r ≡ next_of (first_at t (message_entries 0 all))
-  messages-first n e r is =
-      let k : n - 0 ≡ length all = omega arith in
-      ap (option_map (Delivery t)) (sym (option-same r) ∙ is) ∙ rw k (messages-from 0 all refl)
-
 module _ (t : ℕ) (rest : List Entry) where
+  module _ (rows : List Crash) (i : ℕ) where
+    pub crash-hit : i < length rows → (get_or rows i no_crash).tick ≡ t → first_at t (crash_entries (drop i rows) ++ rest) ≡ some
+        (entry t (crash (get_or rows i no_crash).node))
+    unfolding crash_entries first_at
+    crash-hit h e =
+        rw (drop-cons rows i no_crash h, eq-eqb (get_or rows i no_crash).tick t e) (ap (λ (u : ℕ). some (entry u (crash (get_or rows i no_crash).node))) e)
+
+    pub crash-skip : i < length rows → (get_or rows i no_crash).tick ≢ t
+        → first_at t (crash_entries (drop i rows) ++ rest) ≡ first_at t (crash_entries (drop (i + 1) rows) ++ rest)
+    unfolding crash_entries first_at
+    crash-skip h e = rw (add-one i, drop-cons rows i no_crash h, ne_eqb (get_or rows i no_crash).tick t e)
+
+    pub crash-end : length rows ≤ i → first_at t (crash_entries (drop i rows) ++ rest) ≡ first_at t rest
+    unfolding crash_entries
+    crash-end h = rw (drop_of_length-le rows h)
+
+  module _ (ms : List InFlight) (i : ℕ) where
+    pub message-hit : i < length ms → (get_or ms i no_message).due ≡ t → first_at t (message_entries i (drop i ms) ++ rest) ≡ some (entry t (message i))
+    unfolding message_entries first_at
+    message-hit h e = rw (drop-cons ms i no_message h, eq-eqb (get_or ms i no_message).due t e) (ap (λ (u : ℕ). some (entry u (message i))) e)
+
+    pub message-skip : i < length ms → (get_or ms i no_message).due ≢ t → first_at t (message_entries i (drop i ms) ++ rest) ≡ first_at t
+        (message_entries (i + 1) (drop (i + 1) ms) ++ rest)
+    unfolding message_entries first_at
+    message-skip h e = rw (add-one i, drop-cons ms i no_message h, ne_eqb (get_or ms i no_message).due t e)
+
+    pub message-end : length ms ≤ i → first_at t (message_entries i (drop i ms) ++ rest) ≡ first_at t rest
+    unfolding message_entries
+    message-end h = rw (drop_of_length-le ms h)
+
   timer-hit : (v : ℕ) (e : Event) → v ≡ t + 1 → first_at t (timer_entry v e ++ rest) ≡ some (entry t e)
   unfolding timer_entry first_at
   timer-hit zero e h = absurd (omega arith)
@@ -378,52 +313,36 @@ module _ (t : ℕ) (rest : List Entry) where
   timer-skip zero e h = refl
   timer-skip (suc u) e h = rw (ne_eqb u t (λ q. h (omega arith)))
 
--- the timers of one node, which lives
-module _ (p : Plan) (pl : Plain p) (d t x : ℕ) (a : Node) (un : listed (crashed_list p d) x ≡ false) where
-  abbrev Mine : List Entry
-  Mine = timer_entries p d x (a ∷ [])
+module _ (p : Plan) (pl : Plain p) (d : ℕ) (ns : List Node) (t x : ℕ) (a : Node) (h : x < length ns) (is : a ≡ get_or ns x (alone x 0 0)) where
+  abbrev Others : List Entry
+  Others = timer_entries p d (x + 1) (drop (x + 1) ns)
 
-  mine : Mine ≡ timer_entry a.watch (watch x) ++ (timer_entry a.heartbeat (heartbeat x) ++ [])
+  mine : listed (crashed_list p d) x ≡ false → timer_entries p d x (drop x ns) ≡ timer_entry a.watch (watch x) ++
+      (timer_entry a.heartbeat (heartbeat x) ++ Others)
   unfolding timer_entries
-  mine = rw (live_of p pl d x un) (append_assoc (timer_entry a.watch (watch x)) (timer_entry a.heartbeat (heartbeat x)) [])
+  mine un =
+      rw (add-one x, drop-cons ns x (alone x 0 0) h, live_of p pl d x un, is)
+      (append_assoc (timer_entry (get_or ns x (alone x 0 0)).watch (watch x)) (timer_entry (get_or ns x (alone x 0 0)).heartbeat (heartbeat x)) _)
 
-  pub watch-hit : a.watch ≡ t + 1 → first_at t Mine ≡ some (entry t (watch x))
-  watch-hit e = ap (first_at t) mine ∙ timer-hit t _ a.watch (watch x) e
+  pub watch-hit : listed (crashed_list p d) x ≡ false → a.watch ≡ t + 1 → first_at t (timer_entries p d x (drop x ns)) ≡ some (entry t (watch x))
+  watch-hit un e = ap (first_at t) (mine un) ∙ timer-hit t _ a.watch (watch x) e
 
-  module _ (n : a.watch ≢ t + 1) where
-    pub beat-hit : a.heartbeat ≡ t + 1 → first_at t Mine ≡ some (entry t (heartbeat x))
-    beat-hit e = ap (first_at t) mine ∙ timer-skip t _ a.watch (watch x) n ∙ timer-hit t _ a.heartbeat (heartbeat x) e
+  pub beat-hit : listed (crashed_list p d) x ≡ false → a.watch ≢ t + 1 → a.heartbeat ≡ t + 1
+      → first_at t (timer_entries p d x (drop x ns)) ≡ some (entry t (heartbeat x))
+  beat-hit un n e = ap (first_at t) (mine un) ∙ timer-skip t _ a.watch (watch x) n ∙ timer-hit t _ a.heartbeat (heartbeat x) e
 
-    pub timers-off : a.heartbeat ≢ t + 1 → first_at t Mine ≡ none
-    unfolding first_at
-    timers-off e = ap (first_at t) mine ∙ timer-skip t _ a.watch (watch x) n ∙ timer-skip t _ a.heartbeat (heartbeat x) e
+  pub live-skip : listed (crashed_list p d) x ≡ false → a.watch ≢ t + 1 → a.heartbeat ≢ t + 1
+      → first_at t (timer_entries p d x (drop x ns)) ≡ first_at t Others
+  live-skip un n e = ap (first_at t) (mine un) ∙ timer-skip t _ a.watch (watch x) n ∙ timer-skip t _ a.heartbeat (heartbeat x) e
 
--- and of one that is dead
-pub dead-off : (p : Plan) → Plain p → (d t x : ℕ) (a : Node) → listed (crashed_list p d) x ≡ true
-    → first_at t (timer_entries p d x (a ∷ [])) ≡ none
-unfolding timer_entries first_at
-dead-off p pl d t x a h = rw (dead-of p pl d x h)
-
--- the timers of the nodes from x on: those of node x, or else those after it
-module _ (p : Plan) (d t : ℕ) (ns : List Node) (x : ℕ) where
-  nodes-on : x < length ns
-      → next_of (first_at t (timer_entries p d x (drop x ns)))
-      ≡ option_or (next_of (first_at t (timer_entries p d x (get_or ns x (alone x 0 0) ∷ []))))
-      (next_of (first_at t (timer_entries p d (x + 1) (drop (x + 1) ns))))
+module _ (p : Plan) (pl : Plain p) (d : ℕ) (ns : List Node) (t x : ℕ) where
+  pub dead-skip : x < length ns → listed (crashed_list p d) x ≡ true → first_at t (timer_entries p d x (drop x ns)) ≡ first_at t
+      (timer_entries p d (x + 1) (drop (x + 1) ns))
   unfolding timer_entries
-  nodes-on h = rw (drop-cons ns x (alone x 0 0) h, add-one x, append-nil) (next-append t _ _)
+  dead-skip h un = rw (add-one x, drop-cons ns x (alone x 0 0) h, dead-of p pl d x un)
 
-  -- node x has one at tick t, or none
-  module _ {r : Option Next} (h : x < length ns) (told : r ≡ next_of (first_at t (timer_entries p d x (get_or ns x (alone x 0 0) ∷ [])))) where
-    pub nodes-hit : (n : Next) → r ≡ Some n → Some n ≡ next_of (first_at t (timer_entries p d x (drop x ns)))
-    nodes-hit n q = sym (nodes-on h ∙ rw (← told, q))
-
-    pub nodes-skip : r ≡ None
-        → next_of (first_at t (timer_entries p d x (drop x ns))) ≡ next_of (first_at t (timer_entries p d (x + 1) (drop (x + 1) ns)))
-    nodes-skip q = nodes-on h ∙ rw (← told, q)
-
-  pub nodes-end : length ns ≤ x → None ≡ next_of (first_at t (timer_entries p d x (drop x ns)))
-  unfolding timer_entries first_at next_of
+  pub nodes-end : length ns ≤ x → first_at t (timer_entries p d x (drop x ns)) ≡ none
+  unfolding timer_entries first_at
   nodes-end h = rw (drop_of_length-le ns h)
 
 -- ---- a node, as the code tests whether it is listed

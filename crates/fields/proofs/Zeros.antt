@@ -1,24 +1,19 @@
 -- Parts that are zero. Assumes nothing.
 use mathlib.Core.Path.{◌≡◌, refl, sym, ◌∙◌, ap, ap₂, subst}
-use mathlib.Core.Bool.{Bool, true, false, ◌&&◌, and_assoc, and-eq-true_iff}
+use mathlib.Core.Bool.{true, false, ◌&&◌, and_assoc, and-eq-true_iff}
 use mathlib.Core.List.{List, [], ◌∷◌, ◌++◌, append_assoc, append-nil}
-use Prim.Native.Nat.{ℕ, zero, suc, ◌+◌, ◌-◌, ◌*◌, ◌/◌, ◌%◌, ◌≤◌, ◌<◌}
+use Prim.Native.Nat.{ℕ, zero, suc, ◌+◌, ◌-◌, ◌≤◌, ◌<◌}
 use native.Mathlib.Numerals.{add-one}
 use native.Mathlib.Omega.{arith}
 use borrow.Author.Tests.{ne_eqb, eqb-true}
 use lib.Bits.{bit_or, or_add_and, and_le_r}
 use lib.Dec.{eqb}
 use lib.ListN.{drop, get_or, length, length-drop, length-set, length-take, replicate, set, take, take-append-drop}
-use lib.Seq.{append_snoc, drop-set-lt, drop_at, slice, slice-cons, take-suc-set, take_at}
+use lib.Seq.{append_snoc, drop-set-lt, drop_at, slice, slice-cons, take-suc-set, take_at, take-take}
 use borrow.Rule.Slice.PartMut.{put_mid}
-use Rattle.std.specs.List.{fold, list_all}
-use Rattle.std.specs.Slice.Iter.{chunks_exact_rest, chunks_exact_size, chunks_exact_steps}
-use Rattle.std.proofs.lemmas.Iterator.{YieldsList}
-use Rattle.std.proofs.lemmas.Iterator.Splits.{YieldsList-from_shown_while}
-use Rattle.std.proofs.lemmas.List.{drop-drop, length-append, length-replicate, replicate-append-replicate}
-use Rattle.std.proofs.Math.Nat.{zero-mul, div-eq_of_lt, add-div_left}
-use lib.Dec.{lit<}
-use Rattle.std.specs.Simd.{first_chunks}
+use Rattle.std.specs.List.{fold}
+use Rattle.std.proofs.lemmas.Slice.{between_is}
+use Rattle.std.proofs.lemmas.List.{drop-drop, drop-take, length-append, length-replicate, replicate-append-replicate}
 use Rattle.std.proofs.Math.Bool.{and-true}
 use Rattle.fields.specs.Fields.{cleared, zeros}
 
@@ -56,40 +51,17 @@ unfolding zeros
 zeros-append [] b = refl
 zeros-append (x ∷ a) b = rw (zeros-append a b, and_assoc (eqb x 0) (zeros a) (zeros b))
 
--- the first k rounds of n numbers are zero, and so is the rest, where all are
-zeros-rounds : (n k : ℕ) (l : List ℕ) → zeros l ≡ list_all zeros (first_chunks n k l) && zeros (drop (k * n) l)
-zeros-rounds n zero l = rw zero-mul
-zeros-rounds n (suc k) l =
-    let e : n + k * n ≡ suc k * n = omega arith in
-    let whole = ap zeros (take-append-drop n l) in
-    let rest = zeros-rounds n k (drop n l) in
-    let parts = zeros-append (take n l) (drop n l) in
-    rw (← whole, parts, rest, drop-drop, e, and_assoc (zeros (take n l)) (list_all zeros (first_chunks n k (drop n l))) (zeros (drop (suc k * n) l)))
-
-rounds-none : (n : ℕ) (l : List ℕ) → length l < n → length (first_chunks n (length l / n) l) ≡ 0
-rounds-none n l h = rw div-eq_of_lt
-
-rounds-some : (n : ℕ) (l x r : List ℕ) → l ≡ x ++ r → length x ≡ n → 0 < n
-    → first_chunks n (length l / n) l ≡ x ∷ first_chunks n (length r / n) r
-rounds-some n l x r e h p =
-    let k : length l / n ≡ suc (length r / n) = rw (e, length-append, h, add-div_left (length r) p, add-one) in
-    rw (k, e, take_at x r n h, drop_at x r n h)
-
--- what the rounds of eight of a slice yield
-pub rounds-yielded : {s : _} → chunks_exact_size {T = ℕ} s ≡ 8
-    → YieldsList chunks_exact_steps (λ y. y.now) s (first_chunks 8 (length (chunks_exact_rest s) / 8) (chunks_exact_rest s))
-rounds-yielded {s} h =
-    YieldsList-from_shown_while chunks_exact_steps (λ y. y.now)
-    (λ s. first_chunks 8 (length (chunks_exact_rest s) / 8) (chunks_exact_rest s)) (λ s. chunks_exact_size s ≡ 8)
-    (λ s t p r. rounds-none 8 (chunks_exact_rest s) (rw p at r.1.0))
-    (λ s x t p r. (r.0 ∙ p, rounds-some 8 (chunks_exact_rest s) x.now (chunks_exact_rest t) r.1.0 (r.1.1 ∙ p) (lit< tt))) s h
-
--- a slice is zero where its rounds are and what is left after them is
-pub zeros-parts : (l rest : List ℕ) (r : Bool) → r ≡ list_all zeros (first_chunks 8 (length l / 8) l) → rest ≡ drop (length l - length l % 8) l
-    → r && zeros rest ≡ zeros l
-zeros-parts l rest r e f =
-    let g : length l - length l % 8 ≡ length l / 8 * 8 = omega arith in
-    rw (e, f, g) (sym (zeros-rounds 8 (length l / 8) l))
+-- a part is zero where its first n numbers are, and the part after them
+pub zeros-split : (s : List ℕ) (at n to : ℕ) → at + n ≤ to → zeros (slice at to s) ≡ zeros (take n (drop at s)) && zeros (slice (at + n) to s)
+zeros-split s at n to h =
+    let l : List ℕ = take (to - at) (drop at s) in
+    let m : n + (to - (at + n)) ≡ to - at = omega (arith, h) in
+    let first : take n l ≡ take n (drop at s) = take-take n (to - at) (drop at s) (omega (arith, h)) in
+    let rest : drop n l ≡ slice (at + n) to s =
+    ap (λ (k : ℕ). drop n (take k (drop at s))) (sym m) ∙ drop-take n (to - (at + n)) (drop at s)
+    ∙ ap (take (to - (at + n))) (drop-drop n at s) ∙ between_is s (at + n) to in
+    ap zeros (sym (between_is s at to) ∙ sym (take-append-drop n l)) ∙ zeros-append (take n l) (drop n l)
+    ∙ ap₂ (λ (x y : List ℕ). zeros x && zeros y) first rest
 
 -- ---- the part that `clear` fills
 

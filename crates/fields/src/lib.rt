@@ -50,12 +50,17 @@ fn no_bit(bytes: &[u8]) -> bool
 }
 
 // Whether the bytes from `from` up to `to` are all zero: eight a round, then the rest. A test of one byte after another, as
-// `iter().all(|b| *b == 0)`, takes eight times as long.
+// `iter().all(|b| *b == 0)`, takes eight times as long, and one over `chunks_exact(8)` up to half as long again.
 pub fn is_zero(s: &[u8], from: usize, to: usize) -> bool
     requires { (from ≤ to) × (to ≤ length s.now) }
     ensures { result ≡ zeros (slice from to s.now) }
 {
-    let mut rounds = s[from..to].chunks_exact(8);
-    let rest = rounds.remainder();
-    rounds.all(|round| no_bit(round)) && no_bit(rest)
+    let rounds = (to - from) / 8;
+    for i in 0..rounds {
+        let start = from + 8 * i;
+        if !no_bit(&s[start..start + 8]) {
+            return false;
+        }
+    }
+    no_bit(&s[from + 8 * rounds..to])
 }

@@ -60,10 +60,15 @@ taken a s part tick u t r s' part' e rq tq sq pq = (
   pq ∙ ap (put_messages part r.number) (turned-sends t u tq) ∙ rw (e, rq),
 )
 
+-- a call's bytes are tried, and the record r is read then
+pub record-read : (s : List ℕ) (r : Record) → Taking {A = Unit {0}} (sound s) tt BadRecord (Ok tt) → r ≡ decode s
+    → Taking (sound s) (decode s) BadRecord (Ok r)
+record-read s r t e = let sound = (ok-taken _ _ _ _ t).0 in rw (sound, e)
+
 module _ (s : List ℕ) (tick : ℕ) where
   -- the answers: k is the number of the refusal e
   pub record-refused : (part : List ℕ) (u : Turn) (e : Refusal) (in-time known long : Bool)
-      → Taking (sound s) (decode s) BadRecord (Err e) → (k : ℕ) → k ≡ number_of e
+      → Taking {A = Unit {0}} (sound s) tt BadRecord (Err e) → (k : ℕ) → k ≡ number_of e
       → Left (answer (sound s) in-time known long) s part tick u k s part
   unfolding answer
   record-refused part u e in-time known long q k kq =

@@ -200,13 +200,13 @@ fn takes_message(r: Record, kind: u64, sender: u64, subject: u64, list: u64) -> 
 
 // ---- what a call takes, or why it is refused
 
-// The record in a call's bytes.
+// Refuses a call's bytes where they are no record. It gives no record: one in a Result is written and read back, which takes a third more of a call.
 #[tactic(auto, using(crate::proofs::Facts::in_sound))]
-fn take_record(s: &[u8]) -> Result<Record, Refusal>
-    ensures { result ≡ cond (sound s.now) (Ok (decode s.now)) (Err BadRecord) }
+fn try_record(s: &[u8]) -> Result<(), Refusal>
+    ensures { result ≡ cond (sound s.now) (Ok tt) (Err BadRecord) }
 {
     if is_sound(s) {
-        Ok(read_record(s))
+        Ok(())
     } else {
         Err(Refusal::BadRecord)
     }
@@ -383,7 +383,8 @@ fn deliver(
         × (bytes.new ≡ deliver_leaves bytes.old tick kind sender subject list messages.old)
         × (messages.new ≡ deliver_sends bytes.old tick kind sender subject list messages.old) }
 {
-    let r = take_record(bytes)?;
+    try_record(bytes)?;
+    let r = read_record(bytes);
     let tick = take_tick(r, tick)?;
     let m = take_message(r, kind, sender, subject, list)?;
     if messages.len() < PART_SIZE {
@@ -400,7 +401,8 @@ fn do_timers(bytes: &mut [u8], tick: u64, messages: &mut [u8]) -> Result<(), Ref
         × (bytes.new ≡ timers_leaves bytes.old tick messages.old)
         × (messages.new ≡ timers_sends bytes.old tick messages.old) }
 {
-    let r = take_record(bytes)?;
+    try_record(bytes)?;
+    let r = read_record(bytes);
     let tick = take_tick(r, tick)?;
     if messages.len() < PART_SIZE {
         return Err(Refusal::ShortPart);

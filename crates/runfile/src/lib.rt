@@ -69,11 +69,21 @@ fn first_line(l: &[u8]) -> Result<Sofar, Refusal>
     let [b'P', ..] = l else {
         return Err(Refusal::BadForm);
     };
-    let (n, i) = text::read_field(l, 1).ok_or(Refusal::BadForm)?;
-    let (h, j) = text::read_field(l, i).ok_or(Refusal::BadForm)?;
-    let (w, k) = text::read_field(l, j).ok_or(Refusal::BadForm)?;
-    let (d, m) = text::read_field(l, k).ok_or(Refusal::BadForm)?;
-    let (end, e) = text::read_field(l, m).ok_or(Refusal::BadForm)?;
+    let Some((n, i)) = text::read_field(l, 1) else {
+        return Err(Refusal::BadForm);
+    };
+    let Some((h, j)) = text::read_field(l, i) else {
+        return Err(Refusal::BadForm);
+    };
+    let Some((w, k)) = text::read_field(l, j) else {
+        return Err(Refusal::BadForm);
+    };
+    let Some((d, m)) = text::read_field(l, k) else {
+        return Err(Refusal::BadForm);
+    };
+    let Some((end, e)) = text::read_field(l, m) else {
+        return Err(Refusal::BadForm);
+    };
     if !text::ends(l, e) {
         return Err(Refusal::BadForm);
     }
@@ -183,7 +193,9 @@ fn ring_refusal(l: &[u8], n: u64) -> Result<(), Refusal>
     let mut once = true;
     let mut i: usize = 1;
     for _ in 0..n {
-        let (x, j) = text::read_field(l, i).ok_or(Refusal::BadForm)?;
+        let Some((x, j)) = text::read_field(l, i) else {
+            return Err(Refusal::BadForm);
+        };
         if n <= x {
             return Err(Refusal::OutOfRange);
         }
@@ -226,8 +238,12 @@ fn ring_line(st: Sofar, l: &[u8]) -> Result<Sofar, Refusal>
 fn two_numbers(l: &[u8]) -> Option<(u64, u64)>
     ensures { result ≡ two_of l.now }
 {
-    let (a, i) = text::read_field(l, 1)?;
-    let (b, j) = text::read_field(l, i)?;
+    let Some((a, i)) = text::read_field(l, 1) else {
+        return None;
+    };
+    let Some((b, j)) = text::read_field(l, i) else {
+        return None;
+    };
     if text::ends(l, j) { Some((a, b)) } else { None }
 }
 
@@ -240,11 +256,15 @@ fn later_line(st: Sofar, l: &[u8]) -> Result<Sofar, Refusal>
     match l {
         [b'Q', ..] => ring_line(st, l),
         [b'C', ..] => {
-            let (tick, node) = two_numbers(l).ok_or(Refusal::BadForm)?;
+            let Some((tick, node)) = two_numbers(l) else {
+                return Err(Refusal::BadForm);
+            };
             take_crash(st, tick, node)
         }
         [b'L', ..] => {
-            let (number, delay) = two_numbers(l).ok_or(Refusal::BadForm)?;
+            let Some((number, delay)) = two_numbers(l) else {
+                return Err(Refusal::BadForm);
+            };
             take_delay(st, number, delay)
         }
         _ => Err(Refusal::BadForm),
@@ -290,8 +310,12 @@ pub fn row_at(s: &[u8], at: usize) -> Option<(u64, u64, usize)>
     if s.len() <= at {
         return None;
     }
-    let (first, i) = text::read_field(s, at + 1)?;
-    let (second, j) = text::read_field(s, i)?;
+    let Some((first, i)) = text::read_field(s, at + 1) else {
+        return None;
+    };
+    let Some((second, j)) = text::read_field(s, i) else {
+        return None;
+    };
     Some((first, second, j + 1))
 }
 

@@ -3,11 +3,15 @@
 // row after row, parted by commas. The input may have any length, as a line may go on in the next buffer.
 #![tactic(auto)]
 
-ghost use Rattle.std.specs.Prelude.{◌<◌};
+ghost use Rattle.std.specs.Prelude.{◌≡◌, ◌+◌, ◌<◌, ◌≤◌, length};
 
 use ring::Table;
+use std::io;
 use std::io::{ErrorKind, Read};
-use std::{fmt, io};
+use text::Writer;
+
+// The room of a line: an answer's number, 384 targets of at most three digits, each after a comma, and a line feed.
+const LINE_ROOM: usize = 20 + 4 * 384 + 1;
 
 // What is read of a line so far: N, and LIST once there was a comma.
 #[derive(Clone, Copy, Default)]
@@ -44,26 +48,53 @@ fn longer(line: Line, b: u8) -> Line {
     }
 }
 
-// A table as it is written: the answer's number and the targets, parted by commas.
-#[derive(Drop)]
-struct Written {
-    table: Table,
+// Puts a comma and a target, which has at most three digits. `Writer::field`, which is for numbers of any length, takes half as long again.
+fn put_target(target: u8, out: &mut Writer)
+    requires room { out.old.at + 4 ≤ length out.old.out.now }
+    ensures same { out.new.out.ghost_name ≡ out.old.out.ghost_name }
+    ensures size { length out.new.out.now ≡ length out.old.out.now }
+    ensures within { out.new.at ≤ out.old.at + 4 }
+{
+    out.byte(b',');
+    if 100 <= target {
+        out.byte(b'0' + target / 100);
+    }
+    if 10 <= target {
+        out.byte(b'0' + target / 10 % 10);
+    }
+    out.byte(b'0' + target % 10);
 }
 
-impl fmt::Display for Written {
-    fn fmt<W: fmt::Write>(&self, f: &mut fmt::Formatter<W>) -> fmt::Result {
-        let number = match self.table.answer {
-            Ok(()) => 0,
-            Err(refusal) => refusal.number(),
-        };
-        write!(f, "{number}")?;
-        for row in &self.table.rows {
-            for target in row {
-                write!(f, ",{target}")?;
-            }
-        }
-        Ok(())
+// Puts the targets of a row.
+fn put_row(row: &[u8; 6], out: &mut Writer)
+    requires room { out.old.at + 24 ≤ length out.old.out.now }
+    ensures same { out.new.out.ghost_name ≡ out.old.out.ghost_name }
+    ensures size { length out.new.out.now ≡ length out.old.out.now }
+    ensures within { out.new.at ≤ out.old.at + 24 }
+{
+    for target in row {
+        put_target(*target, out);
     }
+}
+
+// Puts the line of a table: the answer's number, the targets row after row, and a line feed. Answers its length.
+fn put_table(table: &Table, line: &mut [u8; LINE_ROOM]) -> usize
+    ensures { result ≤ 1557 }
+{
+    let mut out = Writer::new(line);
+    out.number(limits::answer(table.answer));
+    for row in &table.rows {
+        put_row(row, &mut out);
+    }
+    out.byte(b'\n');
+    out.at
+}
+
+// Writes the line of a table at once, so that it stays whole where others write beside it.
+fn write_table(rt: &impl Print, table: &Table) -> io::Result<()> {
+    let mut line = [0u8; LINE_ROOM];
+    let end = put_table(table, &mut line);
+    rt.write_all(&line[..end])
 }
 
 // Writes the table of each line that ends in the part, and answers what is read of the last one.
@@ -72,7 +103,7 @@ fn read_part(rt: &impl Print, part: &[u8], begun: Line) -> io::Result<Line> {
     for b in part {
         if *b == b'\n' {
             let table = ring::forwarding_table(line.n, line.list.unwrap_or(0));
-            println!(rt; "{}", Written { table })?;
+            write_table(rt, &table)?;
             line = Line::default();
         } else {
             line = longer(line, *b);

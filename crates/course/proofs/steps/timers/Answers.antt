@@ -3,8 +3,10 @@ use Rattle.event.proofs.Readiness.{held-sized, ready-plain}
 use Rattle.course.specs.Look.{FirstTimer}
 use Rattle.course.proofs.Parting.{apart-held, apart-plan, apart-acting}
 use Rattle.course.proofs.Looking.{apart-dead, apart-timers}
-use Rattle.course.proofs.Choosing.{timer-found, found-a-watch, found-a-beat, timer-acts, timer-steps, chosen-later}
+use Rattle.course.proofs.Choosing.{timer-found, found-a-watch, found-a-beat, timer-acts, timer-told, chosen-later}
+use mathlib.Core.Path.{sym, ◌∙◌}
 use native.Mathlib.Omega.{arith}
+use Rattle.course.proofs.steps.timers.Goals.{then-a-t, else-a-t}
 use Rattle.course.proofs.steps.timers.Goals as goal
 
 pub timer_node-requires : goal.timer_node-requires
@@ -46,30 +48,42 @@ overflow_add-t c =
     let p = c.requires in
     omega (arith, p.quiet.tick, (ready-plain p.whole p.underway.ready).end≤)
 
-pub do_watch-requires : goal.do_watch-requires
+pub do_watch-step-requires : goal.do_watch-step-requires
 unfolding FirstTimer
-do_watch-requires c =
+do_watch-step-requires c =
     let p = c.requires in
     let f = timer-found c.in-Some.ensures c.node_at-a.ensures in
     timer-acts p.underway p.quiet f (found-a-watch p.underway p.quiet f c.if-a-t.true) p.room
 
-pub returns-then-a-t : goal.returns-then-a-t
+pub do_heartbeat-step-requires : goal.do_heartbeat-step-requires
 unfolding FirstTimer
-returns-then-a-t c =
-    λ whole k u.
-    let f = timer-found c.in-Some.ensures c.node_at-a.ensures in
-    timer-steps k u f (found-a-watch k u f c.if-a-t.true) _ _ _ _ c.do_watch.ensures
-
-pub do_heartbeat-requires : goal.do_heartbeat-requires
-unfolding FirstTimer
-do_heartbeat-requires c =
+do_heartbeat-step-requires c =
     let p = c.requires in
     let f = timer-found c.in-Some.ensures c.node_at-a.ensures in
     timer-acts p.underway p.quiet f (found-a-beat p.underway p.quiet f c.if-a-t.false) p.room
 
-pub returns : goal.returns
+pub returns-then-is_err : goal.returns-then-is_err
 unfolding FirstTimer
-returns c =
+returns-then-is_err c =
     λ whole k u.
     let f = timer-found c.in-Some.ensures c.node_at-a.ensures in
-    timer-steps k u f (found-a-beat k u f c.if-a-t.false) _ _ _ _ c.do_heartbeat.ensures
+    let refused = sym c.is_err.ensures.value ∙ c.if-is_err.true in
+    elim c.if-a-t.branch [
+      | then-a-t w ↦ rw (w.b-is, w.q-is, w.c-is, w.step-is)
+          ((timer-told k u f (found-a-watch k u f w.if-a-t.true) _ _ _ _ w.do_watch-step.ensures).0 (rw w.step-is at refused))
+      | else-a-t w ↦ rw (w.b-is, w.q-is, w.c-is, w.step-is)
+          ((timer-told k u f (found-a-beat k u f w.if-a-t.false) _ _ _ _ w.do_heartbeat-step.ensures).0 (rw w.step-is at refused))
+    ]
+
+pub returns-else-is_err : goal.returns-else-is_err
+unfolding FirstTimer
+returns-else-is_err c =
+    λ whole k u.
+    let f = timer-found c.in-Some.ensures c.node_at-a.ensures in
+    let done = sym c.is_err.ensures.value ∙ c.if-is_err.false in
+    elim c.if-a-t.branch [
+      | then-a-t w ↦ rw (w.b-is, w.q-is, w.c-is, w.step-is)
+          ((timer-told k u f (found-a-watch k u f w.if-a-t.true) _ _ _ _ w.do_watch-step.ensures).1 (rw w.step-is at done))
+      | else-a-t w ↦ rw (w.b-is, w.q-is, w.c-is, w.step-is)
+          ((timer-told k u f (found-a-beat k u f w.if-a-t.false) _ _ _ _ w.do_heartbeat-step.ensures).1 (rw w.step-is at done))
+    ]
