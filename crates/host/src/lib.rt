@@ -200,7 +200,8 @@ fn takes_message(r: Record, kind: u64, sender: u64, subject: u64, list: u64) -> 
 
 // ---- what a call takes, or why it is refused
 
-// Refuses a call's bytes where they are no record. It gives no record: one in a Result is written and read back, which takes a third more of a call.
+// Refuses a call's bytes where they are no record. It gives no record: one in a Result is written and read back, and the quickest calls take a
+// third more.
 #[tactic(auto, using(crate::proofs::Facts::in_sound))]
 fn try_record(s: &[u8]) -> Result<(), Refusal>
     ensures { result ≡ cond (sound s.now) (Ok tt) (Err BadRecord) }

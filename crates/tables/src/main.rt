@@ -48,7 +48,8 @@ fn longer(line: Line, b: u8) -> Line {
     }
 }
 
-// Puts a comma and a target, which has at most three digits. `Writer::field`, which is for numbers of any length, takes half as long again.
+// Puts a comma and a target, which has at most three digits. With `Writer::field`, which is for numbers of any length, the program has a
+// quarter more instructions.
 fn put_target(target: u8, out: &mut Writer)
     requires room { out.old.at + 4 ≤ length out.old.out.now }
     ensures same { out.new.out.ghost_name ≡ out.old.out.ghost_name }
