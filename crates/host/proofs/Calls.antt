@@ -60,11 +60,6 @@ taken a s part tick u t r s' part' e rq tq sq pq = (
   pq ∙ ap (put_messages part r.number) (turned-sends t u tq) ∙ rw (e, rq),
 )
 
--- a call's bytes are tried, and the record r is read then
-pub record-read : (s : List ℕ) (r : Record) → Taking {A = Unit {0}} (sound s) tt BadRecord (Ok tt) → r ≡ decode s
-    → Taking (sound s) (decode s) BadRecord (Ok r)
-record-read s r t e = let sound = (ok-taken _ _ _ _ t).0 in rw (sound, e)
-
 module _ (s : List ℕ) (tick : ℕ) where
   -- the answers: k is the number of the refusal e
   pub record-refused : (part : List ℕ) (u : Turn) (e : Refusal) (in-time known long : Bool)
@@ -76,10 +71,10 @@ module _ (s : List ℕ) (tick : ℕ) where
       let is : k ≡ number_of BadRecord = rw (kq, bad.1) in
       refused _ k s part tick u (rw (is, bad.0)) (rw is)
 
-  -- the record r that a call took
-  module _ (r : Record) (rq : Taking (sound s) (decode s) BadRecord (Ok r)) where
+  -- the record r that a call read, once its bytes were tried
+  module _ (r : Record) (tried : Taking {A = Unit {0}} (sound s) tt BadRecord (Ok tt)) (read : r ≡ decode s) where
     record-taken : (sound s ≡ true) × (r ≡ decode s)
-    record-taken = ok-taken _ _ _ _ rq
+    record-taken = ((ok-taken _ _ _ _ tried).0, read)
 
     range : InRange r
     range = rw record-taken.1 (sound-facts s record-taken.0).fields

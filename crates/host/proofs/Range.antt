@@ -27,7 +27,8 @@ unfolding open_leaves open_answer
 opened-in-range s number nodes h w e = go (eqb (length s) record_size) (openable number nodes h w) refl e
   where
     go : (a b : Bool) → openable number nodes h w ≡ b → cond a (cond b accepted (number_of OutOfRange)) (number_of BadRecord) ≡ accepted
-        → sound (cond (eqb (cond a (cond b accepted (number_of OutOfRange)) (number_of BadRecord)) accepted) (encode (opened_record number nodes h w)) s) ≡ true
+        → sound (cond (eqb (cond a (cond b accepted (number_of OutOfRange)) (number_of BadRecord)) accepted)
+        (encode (opened_record number nodes h w)) s) ≡ true
     go true true o e = encode-sound (opened_record number nodes h w) (opening-in-range number nodes h w (openable-facts number nodes h w o))
     go true false o e = absurd (omega arith)
     go false b o e = absurd (omega arith)
